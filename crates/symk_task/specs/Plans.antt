@@ -1,0 +1,66 @@
+-- Runs, plans, and lists of plans.
+use Rattle.std.specs.Prelude.{◌≡◌, ◌≢◌, ℕ, ◌-◌, ◌^◌, ◌<◌, ◌≤◌, List, [], ◌∷◌, length, slice_index, slice_get, All, Any, sum, map, count_by, ◌==◌, IfSome}
+use Rattle.std.specs.List.Sorted.{IsNonDecreasing}
+use Rattle.symk_task.specs.declared.parts.Mode.{Mode}
+use Rattle.symk_task.specs.declared.parts.Mode.TheVariants.{TopK, Loopless, Unordered}
+use Rattle.symk_task.specs.declared.parts.TaskParts.{TaskParts}
+use Rattle.symk_task.specs.Variables.{IsBase, IsState, place}
+use Rattle.symk_task.specs.Steps.{Holds, Step, cost_at}
+
+-- the operators lead from one state to the other
+unfoldable pub Runs : TaskParts → List ℕ → List ℕ → List ℕ → Type 0
+Runs task s [] t = s ≡ t
+Runs task s (a ∷ p) t = (next : List ℕ) × Step task s a next × Runs task next p t
+
+-- the states that the operators pass, the first and the last included
+unfoldable pub Trace : TaskParts → List ℕ → List ℕ → List (List ℕ) → Type 0
+Trace task s [] passed = passed ≡ s ∷ []
+Trace task s (a ∷ p) passed = (next : List ℕ) × (rest : List (List ℕ)) × Step task s a next × (passed ≡ s ∷ rest) × Trace task next p rest
+
+abbrev pub plan_cost : TaskParts → List ℕ → ℕ
+plan_cost task p = sum (map (cost_at task) p)
+
+-- the values of the initial state
+pub record IsInitial (task : TaskParts) (s : List ℕ) : Type 0 where
+  pub state : IsState task s
+  pub values : (var : ℕ) → IsBase task var → slice_index s (place task var) ≡ slice_index task.initial var
+
+abbrev pub IsPlan : TaskParts → List ℕ → Type 0
+IsPlan task p = (s t : List ℕ) × IsInitial task s × Runs task s p t × All (Holds task t) task.goal
+
+-- no two members are equal
+abbrev pub AllDifferent : List (List ℕ) → Type 0
+AllDifferent [] = Unit {0}
+AllDifferent (x ∷ xs) = All (λ y. x ≢ y) xs × AllDifferent xs
+
+-- the plans of a mode
+abbrev pub In : TaskParts → Mode → List ℕ → Type 0
+In task TopK p = IsPlan task p
+In task Unordered p = IsPlan task p
+In task Loopless p = IsPlan task p × (s : List ℕ) × (passed : List (List ℕ)) × IsInitial task s × Trace task s p passed × AllDifferent passed
+
+-- which plans count as one
+abbrev pub Same : Mode → List ℕ → List ℕ → Type 0
+Same TopK p q = p ≡ q
+Same Loopless p q = p ≡ q
+Same Unordered p q = (a : ℕ) → count_by (λ b. a == b) p ≡ count_by (λ b. a == b) q
+
+-- p counts as one with a member
+abbrev pub IsListed : Mode → List (List ℕ) → List ℕ → Type 0
+IsListed mode plans p = Any (Same mode p) plans
+
+-- The cheapest plans of a mode, each once, by cost.
+pub record Right (task : TaskParts) (mode : Mode) (plans : List (List ℕ)) : Type 0 where
+  pub each : All (In task mode) plans
+  pub different : (i j : ℕ) → i < j → j < length plans → IfSome (slice_get plans i) (λ p. IfSome (slice_get plans j) (λ q. ¬ Same mode p q))
+  pub costs : IsNonDecreasing (map (plan_cost task) plans)
+  pub cheapest : IfSome (slice_get plans (length plans - 1)) (λ dearest. (p : List ℕ) → In task mode p → plan_cost task p < plan_cost task dearest → IsListed mode plans p)
+
+abbrev pub AllListed : TaskParts → Mode → List (List ℕ) → Type 0
+AllListed task mode plans = (p : List ℕ) → In task mode p → IsListed mode plans p
+
+abbrev pub AllInRange : TaskParts → Mode → List (List ℕ) → Type 0
+AllInRange task mode plans = (p : List ℕ) → In task mode p → plan_cost task p < 2 ^ 64 → IsListed mode plans p
+
+abbrev pub Dearer : TaskParts → Mode → Type 0
+Dearer task mode = (p : List ℕ) × In task mode p × (2 ^ 64 ≤ plan_cost task p)

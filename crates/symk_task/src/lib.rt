@@ -1,0 +1,15 @@
+//! Planning tasks: the types that a task file states, and their meaning.
+//!
+//! A `Task` always fits: its numbers are in the ranges that the format allows. The definitions in `specs/` say what a task
+//! means: states, raised variables, steps, runs, plans and right lists of plans. Everything above cites them.
+//! It stands on nothing but std.
+#![tactic(auto)]
+
+mod keys;
+mod list;
+mod parts;
+mod task;
+
+pub use list::{List, Memory, Name, Plan, State};
+pub use parts::{Effect, Fact, Mode, Operator, Rule, TaskParts, Variable};
+pub use task::Task;

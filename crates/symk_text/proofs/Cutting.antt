@@ -125,3 +125,9 @@ without_last bytes items from empty so_far =
 
 pub no_feed_more : (bytes : List ℕ) (from at : ℕ) → NoFeed bytes from at → (get_or bytes at 0 ≡ 10 → ⊥) → NoFeed bytes from (at + 1)
 no_feed_more bytes from at none here k low high feed = elim (cases_eq k at) [ inl e ↦ here (subst (λ (n : ℕ). get_or bytes n 0 ≡ 10) e feed) | inr ne ↦ none k low (omega arith) feed ]
+
+-- what is between two places without an LF is a line
+pub piece_is_line : (bytes : List ℕ) (from at : ℕ) → from ≤ at → at ≤ length bytes → NoFeed bytes from at → IsLine (without_return (take (at - from) (drop from bytes)))
+piece_is_line bytes from at le within none =
+    let piece : List ℕ = take (at - from) (drop from bytes) in
+    is_line (without_return piece) (without_return_has_none piece (no_feed_in bytes from at le within none))

@@ -7,7 +7,7 @@ use crate::Memory;
 use std::alloc::Global;
 use std::marker::Model;
 
-/// A line, lent from the text, without its end.
+/// A line, lent from the text, without its end. It has no LF.
 #[derive(Drop)]
 pub struct Line<'a> {
     bytes: &'a [u8],
@@ -17,11 +17,13 @@ impl<'a> Model for Line<'a> {
     ghost Value = { List ℕ };
 
     ghost view = { λ a. a.bytes.now };
+
+    ghost invariant = { λ a. IsLine a.bytes.now };
 }
 
 impl<'a> Line<'a> {
-    /// A line of these bytes.
-    pub fn of(bytes: &'a [u8]) -> Line<'a>
+    fn of(bytes: &'a [u8]) -> Line<'a>
+        requires { IsLine bytes.now }
         ensures { result ≡ bytes.now }
     {
         Line { bytes }
@@ -29,7 +31,8 @@ impl<'a> Line<'a> {
 
     /// The bytes of the line.
     pub fn as_slice(&self) -> &'a [u8]
-        ensures { result.now ≡ self.now }
+        ensures value { result.now ≡ self.now }
+        ensures line { IsLine result.now }
     {
         self.bytes
     }

@@ -1,6 +1,6 @@
 use Rattle.std.proofs.Common.{◌≡◌, arith, length}
 use Rattle.symk_text.specs.Lines.{lines}
-use Rattle.symk_text.proofs.Cutting.{NoFeed, no_feed_more, one_line_more, with_last, without_last, lines_are_lines}
+use Rattle.symk_text.proofs.Cutting.{NoFeed, no_feed_more, one_line_more, with_last, without_last, lines_are_lines, piece_is_line}
 use Rattle.symk_text.proofs.lines.lines_of.Goals as goal
 use Rattle.symk_text.proofs.lines.lines_of.Goals.{then-bytes-at-eq10+in_ok-push, else-bytes-at-eq10, then-not-is_empty+in_ok-push-2, else-not-is_empty}
 
@@ -35,3 +35,9 @@ returns c = whole c
 
 pub invariant_of-result : goal.invariant_of-result
 invariant_of-result c = rw (whole c) (lines_are_lines c.args.bytes.now)
+
+pub of-requires : goal.of-requires
+of-requires c = rw c.without_return.ensures (piece_is_line c.args.bytes.now c.loop-at.from c.loop-at.at c.loop-at.invariant.within (omega arith) c.loop-at.invariant.none)
+
+pub of-requires-then-not-is_empty : goal.of-requires-then-not-is_empty
+of-requires-then-not-is_empty c = rw c.without_return-then-not-is_empty.ensures (piece_is_line c.args.bytes.now c.loop-at.from (length c.args.bytes.now) (omega arith) (omega arith) (λ k low high. c.loop-at.invariant.none k low (omega arith)))

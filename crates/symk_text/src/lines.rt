@@ -1,12 +1,13 @@
 //! The lines of a text.
 
-ghost use Rattle.std.specs.Prelude.{◌≡◌, ℕ, List, IfOk};
+ghost use Rattle.std.specs.Prelude.{◌≡◌, ℕ, List, IfOk, All};
+ghost use Rattle.symk_text.specs.Lines.{IsLine, lines, without_return};
 
 use crate::Memory;
 use std::alloc::Global;
 use std::marker::Model;
 
-/// A line, lent from the text, without its end.
+/// A line, lent from the text, without its end. It has no LF.
 #[derive(Drop)]
 pub struct Line<'a> {
     bytes: &'a [u8],
@@ -16,11 +17,13 @@ impl<'a> Model for Line<'a> {
     ghost Value = { List ℕ };
 
     ghost view = { λ a. a.bytes.now };
+
+    ghost invariant = { λ a. IsLine a.bytes.now };
 }
 
 impl<'a> Line<'a> {
-    /// A line of these bytes.
-    pub fn of(bytes: &'a [u8]) -> Line<'a>
+    fn of(bytes: &'a [u8]) -> Line<'a>
+        requires { IsLine bytes.now }
         ensures { result ≡ bytes.now }
     {
         Line { bytes }
@@ -28,13 +31,14 @@ impl<'a> Line<'a> {
 
     /// The bytes of the line.
     pub fn as_slice(&self) -> &'a [u8]
-        ensures { result.now ≡ self.now }
+        ensures value { result.now ≡ self.now }
+        ensures line { IsLine result.now }
     {
         self.bytes
     }
 }
 
-/// The lines of a text, in order.
+/// The lines of a text, in order. None of them has an LF.
 #[derive(Drop)]
 pub struct Lines<'a> {
     items: Vec<Line<'a>>,
@@ -44,12 +48,15 @@ impl<'a> Model for Lines<'a> {
     ghost Value = { List (List ℕ) };
 
     ghost view = { λ a. a.items.items };
+
+    ghost invariant = { λ a. All IsLine a.items.items };
 }
 
 impl<'a> Lines<'a> {
     /// The lines, from the first on.
     pub fn as_slice(&self) -> &[Line<'a>]
-        ensures { result.now ≡ self.now }
+        ensures value { result.now ≡ self.now }
+        ensures each { All IsLine result.now }
     {
         &self.items
     }
@@ -57,24 +64,29 @@ impl<'a> Lines<'a> {
 
 /// Cuts a text into its lines: at each LF byte, a last piece without one being a line if it isn't empty, and one CR at
 /// the end of a line is dropped.
-pub fn lines_of<'a>(alloc: Global, bytes: &'a [u8]) -> Result<Lines<'a>, Memory> {
+pub fn lines_of<'a>(alloc: Global, bytes: &'a [u8]) -> Result<Lines<'a>, Memory>
+    ensures { IfOk result (λ found. found ≡ lines bytes.now) }
+{
     let mut items = Vec::new(alloc);
     let mut from = 0;
     for at in 0..bytes.len() {
         if bytes[at] == b'\n' {
-            items.push(Line::of(without_return(&bytes[from.min(at)..at])))?;
+            items.push(Line::of(without_return(&bytes[from..at])))?;
             from = at + 1;
         }
     }
-    if from < bytes.len() {
-        items.push(Line::of(without_return(&bytes[from..])))?;
+    let last = &bytes[from..];
+    if !last.is_empty() {
+        items.push(Line::of(without_return(last)))?;
     }
     Ok(Lines { items })
 }
 
-fn without_return(line: &[u8]) -> &[u8] {
-    match line {
+fn without_return(piece: &[u8]) -> &[u8]
+    ensures { result.now ≡ without_return piece.now }
+{
+    match piece {
         [front @ .., b'\r'] => front,
-        _ => line,
+        _ => piece,
     }
 }

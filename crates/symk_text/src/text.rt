@@ -1,6 +1,6 @@
 //! Texts that grow.
 
-ghost use Rattle.std.specs.Prelude.{◌≡◌, ◌++◌, ℕ, List, [], OnOk, OnErr};
+ghost use Rattle.std.specs.Prelude.{◌≡◌, ◌++◌, ℕ, List, [], OnOk, OnErr, decimal};
 
 use crate::Memory;
 use itoa::Buffer;
@@ -44,7 +44,7 @@ impl Text {
     }
 }
 
-/// Appends bytes.
+/// Appends bytes. On want of memory the text is as before.
 pub fn push_bytes(text: &mut Text, bytes: &[u8]) -> Result<(), Memory>
     ensures ok { OnOk result (text.new ≡ text.old ++ bytes.now) }
     ensures err { OnErr result (text.new ≡ text.old) }
@@ -52,8 +52,11 @@ pub fn push_bytes(text: &mut Text, bytes: &[u8]) -> Result<(), Memory>
     text.bytes.extend_from_slice(bytes)
 }
 
-/// Appends a number in decimal digits, without leading zeros.
-pub fn push_number(text: &mut Text, number: u64) -> Result<(), Memory> {
+/// Appends a number in decimal digits, without leading zeros. On want of memory the text is as before.
+pub fn push_number(text: &mut Text, number: u64) -> Result<(), Memory>
+    ensures ok { OnOk result (text.new ≡ text.old ++ decimal number) }
+    ensures err { OnErr result (text.new ≡ text.old) }
+{
     let mut buffer = Buffer::new();
     push_bytes(text, buffer.format(number).as_bytes())
 }

@@ -1,5 +1,5 @@
 -- Finding a file by its name.
-use Rattle.std.proofs.Common.{◌≡◌, ◌∙◌, ap, sym, ℕ, ◌<◌, List, ◌∷◌, Bool, true, cond, length, drop, get_or, slice_get, string_bytes, Option, Some, refl, ◌+◌}
+use Rattle.std.proofs.Common.{◌≡◌, ◌∙◌, ap, sym, ℕ, ◌<◌, List, ◌∷◌, true, cond, length, drop, get_or, slice_get, string_bytes, Some, refl, ◌+◌}
 use Rattle.std.specs.Str.{bytes_eq}
 use Rattle.std.proofs.lemmas.List.{at_drop_more}
 use Rattle.std.proofs.lemmas.Option.{slice_get_read}

@@ -1,5 +1,5 @@
 -- How what is told goes on.
-use Rattle.std.proofs.Common.{◌≡◌, ◌∙◌, ap, sym, ℕ, ◌+◌, ◌<◌, List, ◌++◌, length, take, drop, arith, append_assoc, subst, Option, Some, None, IfSome, refl, Ok}
+use Rattle.std.proofs.Common.{◌≡◌, ◌∙◌, ap, sym, ℕ, ◌+◌, ◌<◌, ◌++◌, length, take, drop, arith, append_assoc, subst, Option, Some, None, IfSome, refl, Ok}
 use Rattle.std.proofs.Math.Seq.{take-add}
 use Rattle.std.proofs.lemmas.List.{length-append, take-append-drop, drop-drop, take_at}
 use Rattle.symk_io.specs.View.{Bytes, Told, Tells, Grew, Writes}

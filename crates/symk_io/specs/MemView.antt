@@ -1,8 +1,7 @@
 -- What files and a sink in memory tell: all.
-use Rattle.std.specs.Prelude.{◌≡◌, ℕ, List, []}
-use Rattle.std.specs.declared.option.Option.{Option}
-use Rattle.std.specs.declared.option.Option.TheVariants.{Some, None}
-use Rattle.symk_io.specs.View.{Bytes, FilesView, SinkView, Told}
+use Rattle.std.specs.Prelude.{◌≡◌, List, []}
+use Rattle.std.specs.declared.option.Option.TheVariants.{Some}
+use Rattle.symk_io.specs.View.{FilesView, SinkView}
 use Rattle.symk_io.specs.Memory.{text_in, shelf_left, names_of}
 use Rattle.symk_io.specs.declared.shelf.MemFile.{MemFile}
 use Rattle.symk_io.specs.declared.memory.MemFiles.{MemFiles}

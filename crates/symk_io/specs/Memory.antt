@@ -1,9 +1,9 @@
 -- Texts kept in memory.
-use Rattle.std.specs.Prelude.{◌≡◌, ℕ, List, [], ◌∷◌, cond, drop, replicate, string_bytes, map, slice_get}
+use Rattle.std.specs.Prelude.{ℕ, List, [], ◌∷◌, cond, drop, replicate, string_bytes, map, slice_get}
 use Rattle.std.specs.Str.{bytes_eq}
 use Rattle.std.specs.declared.option.Option.{Option}
 use Rattle.std.specs.declared.option.Option.TheVariants.{Some, None}
-use Rattle.symk_io.specs.View.{Bytes, FilesView, SinkView}
+use Rattle.symk_io.specs.View.{Bytes}
 use Rattle.symk_io.specs.declared.shelf.MemText.{MemText}
 use Rattle.symk_io.specs.declared.shelf.MemText.TheVariants as text
 use Rattle.symk_io.specs.declared.shelf.MemFile.{MemFile}

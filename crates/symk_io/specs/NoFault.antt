@@ -1,6 +1,6 @@
 -- What files and a sink that never fail tell: all, each name having a text.
-use Rattle.std.specs.Prelude.{◌≡◌, ℕ, List, [], Option, Some, unwrap_or}
-use Rattle.symk_io.specs.View.{Bytes, FilesView, SinkView, Told}
+use Rattle.std.specs.Prelude.{◌≡◌, List, [], Option, Some, unwrap_or}
+use Rattle.symk_io.specs.View.{Bytes, FilesView, SinkView}
 use Rattle.symk_io.specs.Memory.{text_in, shelf_left, names_of}
 use Rattle.symk_io.specs.declared.shelf.MemFile.{MemFile}
 use Rattle.symk_io.specs.declared.no_fault.NoFaultFiles.{NoFaultFiles}

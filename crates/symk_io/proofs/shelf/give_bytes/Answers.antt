@@ -1,4 +1,4 @@
-use Rattle.std.proofs.Common.{rules, arith, ◌≡◌, ◌∙◌, ap, sym, ◌++◌, take, drop, length}
+use Rattle.std.proofs.Common.{arith}
 use Rattle.std.proofs.lemmas.Grind.{common_steps}
 use Rattle.symk_io.proofs.Growth.{given_front}
 use Rattle.symk_io.proofs.shelf.give_bytes.Goals as goal

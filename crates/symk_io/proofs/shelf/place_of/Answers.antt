@@ -1,4 +1,4 @@
-use Rattle.std.proofs.Common.{rules, sym}
+use Rattle.std.proofs.Common.{rules}
 use Rattle.symk_io.proofs.Finding.{found}
 use Rattle.symk_io.proofs.shelf.place_of.Goals as goal
 

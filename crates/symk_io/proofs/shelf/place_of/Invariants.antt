@@ -1,4 +1,4 @@
-use Rattle.std.proofs.Common.{◌≡◌, ℕ, drop, length}
+use Rattle.std.proofs.Common.{◌≡◌, drop}
 use Rattle.symk_io.specs.Memory.{text_in}
 use Rattle.symk_io.proofs.shelf.place_of.Given as goal
 

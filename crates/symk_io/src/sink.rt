@@ -46,7 +46,10 @@ pub fn put<K: Sink>(sink: &mut K, piece: &[u8]) -> Result<(), IoFault>
 {
     let mut at = 0;
     'turns: while at < piece.len() {
-        at += sink.write(&piece[at..])?;
+        match sink.write(&piece[at..]) {
+            Ok(n) => at += n,
+            Err(fault) => return Err(fault),
+        }
     }
     sink.flush()
 }

@@ -1,0 +1,218 @@
+//! The words of the command line, read by `clap`.
+//!
+//! `read_words` gives what the words ask for as texts: a number or a mode is still a text here, and may be no such thing.
+//! It promises that these are the texts that `clap`, by its own definitions, gives for the command `plan`, `check` or `demo`,
+//! and that the words are refused only where there are none. `lawful_words` says for each lawful form which texts those are.
+//! The first word is the program's name and isn't looked at. There is no help and no version.
+//! It stands on `clap` alone, and by itself, since each crate that calls `clap` takes long to prove.
+#![tactic(auto)]
+
+ghost use Rattle.std.specs.Prelude.{◌≡◌, IfOk, IsErrOf, Some, None, false, map, option_map, string_bytes};
+ghost use Rattle.clap.specs.Walk.{rule_of, rows_of};
+ghost use Rattle.clap.specs.Matches.{found_of};
+ghost use Rattle.clap.specs.Simple.{subcommand_rows_of};
+ghost use Rattle.symk_words.specs.Texts.{plan_texts, check_texts, demo_texts, texts_of, texts_asked, view_of, plan, check, demo};
+ghost use Rattle.symk_words.specs.Lawful.{Plain, PlainIfSome, plan_words, check_words, demo_words};
+ghost use Rattle.clap.specs.Walk.{Text};
+ghost use Rattle.std.specs.declared.option.Option.{Option};
+ghost use Rattle.clap.specs.Simple.{app_of};
+ghost use Rattle.clap.specs.declared.builder.command.Command.TheViews.{out-Command};
+ghost use Rattle.symk_words.specs.App.{symk_app, plan_app, check_app, demo_app, place as place_rule, wanted as wanted_rule, wished as wished_rule};
+
+use clap::error::ErrorKind;
+use clap::{Arg, ArgMatches, Command};
+use std::alloc::{AllocError, Global};
+
+// A text in its place, which has to be there.
+fn place<'a>(alloc: Global, name: &'a str) -> Arg<'a>
+    ensures rule { rule_of result ≡ place_rule name.now }
+    ensures local { result.global ≡ false }
+{
+    Arg::new(alloc, name).required(true)
+}
+
+// An option with a value, which has to be there.
+fn wanted<'a>(alloc: Global, name: &'a str) -> Arg<'a>
+    ensures rule { rule_of result ≡ wanted_rule name.now }
+    ensures local { result.global ≡ false }
+{
+    Arg::new(alloc, name).long(name).required(true)
+}
+
+// An option with a value, which may be left out.
+fn wished<'a>(alloc: Global, name: &'a str) -> Arg<'a>
+    ensures rule { rule_of result ≡ wished_rule name.now }
+    ensures local { result.global ≡ false }
+{
+    Arg::new(alloc, name).long(name)
+}
+
+fn plan_command<'a>(alloc: Global) -> Result<Command<'a>, AllocError>
+    ensures app { IfOk result (λ c. app_of c ≡ plan_app) }
+    ensures local { IfOk result (λ c. (out-Command c).has_globals ≡ false) }
+{
+    let command = Command::new(alloc, "plan");
+    let command = command.arg(place(alloc, "file"))?;
+    let command = command.arg(wanted(alloc, "k"))?;
+    let command = command.arg(wished(alloc, "mode"))?;
+    command.arg(wished(alloc, "search"))
+}
+
+fn check_command<'a>(alloc: Global) -> Result<Command<'a>, AllocError>
+    ensures app { IfOk result (λ c. app_of c ≡ check_app) }
+    ensures local { IfOk result (λ c. (out-Command c).has_globals ≡ false) }
+{
+    let command = Command::new(alloc, "check");
+    let command = command.arg(place(alloc, "file"))?;
+    let command = command.arg(place(alloc, "plans"))?;
+    command.arg(wished(alloc, "mode"))
+}
+
+fn demo_command<'a>(alloc: Global) -> Result<Command<'a>, AllocError>
+    ensures app { IfOk result (λ c. app_of c ≡ demo_app) }
+    ensures local { IfOk result (λ c. (out-Command c).has_globals ≡ false) }
+{
+    Command::new(alloc, "demo").arg(place(alloc, "n"))
+}
+
+// The command of the program.
+fn symk_command<'a>(alloc: Global) -> Result<Command<'a>, AllocError>
+    ensures { IfOk result (λ c. app_of c ≡ symk_app) }
+{
+    let command = Command::new(alloc, "symk")
+        .subcommand_required(true)
+        .disable_help_flag(true)
+        .disable_help_subcommand(true);
+    let command = command.subcommand(plan_command(alloc)?)?;
+    let command = command.subcommand(check_command(alloc)?)?;
+    command.subcommand(demo_command(alloc)?)
+}
+
+/// What the words ask for. Each text is a part of a word, as it stands there: it may be empty, and no number or name.
+#[derive(Clone, Copy, Debug, PartialEq, Eq)]
+pub enum Asked<'a> {
+    /// `plan FILE --k K [--mode M] [--search S]`.
+    Plan {
+        /// The name of the task file.
+        file: &'a str,
+        /// How many plans are to be listed.
+        k: &'a str,
+        /// The mode, if one is named.
+        mode: Option<&'a str>,
+        /// The direction of the search, if one is named.
+        search: Option<&'a str>,
+    },
+    /// `check FILE PLANS [--mode M]`.
+    Check {
+        /// The name of the task file.
+        file: &'a str,
+        /// The name of the file with the plans.
+        plans: &'a str,
+        /// The mode, if one is named.
+        mode: Option<&'a str>,
+    },
+    /// `demo N`.
+    Demo {
+        /// How many switches there are to be.
+        n: &'a str,
+    },
+}
+
+/// Why the words give nothing.
+#[derive(Clone, Copy, Debug, PartialEq, Eq)]
+pub enum WordsFault {
+    /// The words are none of the forms of the command.
+    Usage,
+    /// Want of memory.
+    Memory,
+}
+
+// The texts of a `plan`.
+#[tactic(auto, using(crate::proofs::Getters::read_first))]
+fn plan_of<'a>(matches: &ArgMatches<'a>) -> Option<Asked<'a>>
+    ensures { option_map view_of result ≡ plan_texts (rows_of (found_of matches.now)) }
+{
+    let file = matches.get_str("file")?;
+    let k = matches.get_str("k")?;
+    Some(Asked::Plan {
+        file,
+        k,
+        mode: matches.get_str("mode"),
+        search: matches.get_str("search"),
+    })
+}
+
+// The texts of a `check`.
+#[tactic(auto, using(crate::proofs::Getters::read_first))]
+fn check_of<'a>(matches: &ArgMatches<'a>) -> Option<Asked<'a>>
+    ensures { option_map view_of result ≡ check_texts (rows_of (found_of matches.now)) }
+{
+    let file = matches.get_str("file")?;
+    let plans = matches.get_str("plans")?;
+    Some(Asked::Check {
+        file,
+        plans,
+        mode: matches.get_str("mode"),
+    })
+}
+
+// The texts of a `demo`.
+#[tactic(auto, using(crate::proofs::Getters::read_first))]
+fn demo_of<'a>(matches: &ArgMatches<'a>) -> Option<Asked<'a>>
+    ensures { option_map view_of result ≡ demo_texts (rows_of (found_of matches.now)) }
+{
+    let n = matches.get_str("n")?;
+    Some(Asked::Demo { n })
+}
+
+// The texts of whichever subcommand was given.
+fn asked_of<'a>(matches: &ArgMatches<'a>) -> Option<Asked<'a>>
+    ensures { option_map view_of result ≡ texts_of (subcommand_rows_of matches.now) }
+{
+    let (name, inner) = matches.subcommand()?;
+    match name {
+        "plan" => plan_of(inner),
+        "check" => check_of(inner),
+        "demo" => demo_of(inner),
+        _ => None,
+    }
+}
+
+/// Reads the words, of which the first is the program's name: one subcommand with its texts in their places and its options,
+/// each with one value and at most once, in any order and also as `--k=3`.
+///
+/// It is `Usage` only where `clap`'s definitions give no texts for the words.
+pub fn read_words<'a>(alloc: Global, words: &'a [String]) -> Result<Asked<'a>, WordsFault>
+    ensures ok { IfOk result (λ a. texts_asked (map (λ w. string_bytes w) words.now) ≡ Some (view_of a)) }
+    ensures usage { IsErrOf result WordsFault.Usage → texts_asked (map (λ w. string_bytes w) words.now) ≡ None }
+{
+    let Ok(command) = symk_command(alloc) else {
+        return Err(WordsFault::Memory);
+    };
+    match command.try_get_matches_from(words) {
+        Ok(matches) => match asked_of(&matches) {
+            Some(texts) => Ok(texts),
+            None => Err(WordsFault::Usage),
+        },
+        Err(error) => {
+            if error.kind() == ErrorKind::OutOfMemory {
+                Err(WordsFault::Memory)
+            } else {
+                Err(WordsFault::Usage)
+            }
+        }
+    }
+}
+
+/// Lawful words give their texts: a law, with nothing to run.
+///
+/// They have the program's name, the subcommand, the texts in their places, and the options in the order of the usage text.
+/// No text of theirs is empty or begins with `-`.
+pub fn lawful_words()
+    ensures plan { (prog F K : Text) (mode search : Option Text) → Plain F → Plain K → PlainIfSome mode → PlainIfSome search → texts_asked (plan_words prog F K mode search) ≡ Some (plan F K mode search) }
+    ensures check { (prog F P : Text) (mode : Option Text) → Plain F → Plain P → PlainIfSome mode → texts_asked (check_words prog F P mode) ≡ Some (check F P mode) }
+    ensures demo { (prog N : Text) → Plain N → texts_asked (demo_words prog N) ≡ Some (demo N) }
+{}
+
+#[cfg(test)]
+mod tests;

@@ -1,0 +1,91 @@
+// Words that are taken and words that are not.
+use crate::{Asked, WordsFault, read_words};
+use std::alloc::{AllocError, Global};
+
+// The program's name and the words of a line, cut at each space.
+fn words(alloc: Global, line: &str) -> Result<Vec<String>, AllocError> {
+    let mut words = Vec::new(alloc);
+    words.push(String::from_str(alloc, "symk")?)?;
+    for word in line.split(' ').filter(|word| !word.is_empty()) {
+        words.push(String::from_str(alloc, word)?)?;
+    }
+    Ok(words)
+}
+
+#[test]
+fn takes_each_form(rt: HostRuntime) {
+    let plan = |mode, search| Asked::Plan {
+        file: "A",
+        k: "3",
+        mode,
+        search,
+    };
+    for (line, want) in [
+        ("plan A --k 3", plan(None, None)),
+        ("plan A --k=3", plan(None, None)),
+        ("plan --k 3 A", plan(None, None)),
+        ("plan A --k 3 --mode loopless", plan(Some("loopless"), None)),
+        ("plan A --k 3 --search no", plan(None, Some("no"))),
+        (
+            "plan --search auto --mode m --k 3 A",
+            plan(Some("m"), Some("auto")),
+        ),
+    ] {
+        let words = words(rt.alloc(), line).expect(&rt, "memory");
+        assert!(rt; read_words(rt.alloc(), &words) == Ok(want), "{line}");
+    }
+    let check = |mode| Asked::Check {
+        file: "A",
+        plans: "B",
+        mode,
+    };
+    for (line, want) in [
+        ("check A B", check(None)),
+        ("check A B --mode topk", check(Some("topk"))),
+        ("check --mode=topk A B", check(Some("topk"))),
+        ("demo 12", Asked::Demo { n: "12" }),
+    ] {
+        let words = words(rt.alloc(), line).expect(&rt, "memory");
+        assert!(rt; read_words(rt.alloc(), &words) == Ok(want), "{line}");
+    }
+}
+
+#[test]
+fn refuses_all_else(rt: HostRuntime) {
+    for line in [
+        "",
+        "plan",
+        "plan A",
+        "plan A --k",
+        "plan A --k 3 --k 3",
+        "plan A A --k 3",
+        "plan A --k 3 --mode",
+        "plan A --k 3 --depth 2",
+        "check",
+        "check A",
+        "check A A A",
+        "check A A --k 3",
+        "check A A --search auto",
+        "demo",
+        "demo 1 2",
+        "demo 1 --k 3",
+        "foo",
+        "help",
+        "help plan",
+        "--help",
+        "-h",
+        "plan --help",
+        "plan A --k 3 -h",
+        "--version",
+        "-V",
+        "--k 3 plan A",
+        "plan A --k -3",
+    ] {
+        let words = words(rt.alloc(), line).expect(&rt, "memory");
+        assert!(rt;
+            read_words(rt.alloc(), &words) == Err(WordsFault::Usage),
+            "{line}"
+        );
+    }
+    assert!(rt; read_words(rt.alloc(), &[]) == Err(WordsFault::Usage));
+}

@@ -6,6 +6,7 @@ use Rattle.symk_task.specs.declared.parts.Effect.{Effect}
 use Rattle.symk_task.specs.declared.parts.Operator.{Operator}
 use Rattle.symk_task.specs.declared.parts.Rule.{Rule}
 use Rattle.symk_task.specs.declared.parts.TaskParts.{TaskParts}
+use Rattle.symk_task.specs.declared.bits.TheConstants.{STATE_BITS}
 use Rattle.symk_task.specs.Variables.{range, width, is_base, IsBase, HasLayer, other_value}
 
 -- a name is one line, so it has no LF
@@ -18,6 +19,10 @@ InRange variables fact = IsSomeAnd (slice_get variables fact.var) (λ v. fact.va
 
 abbrev pub AreFacts : List Variable → List Fact → Type 0
 AreFacts variables facts = (length facts ≤ 65536) × All (InRange variables) facts
+
+-- there is a value for each variable, in its range
+abbrev pub AreValues : List Variable → List ℕ → Type 0
+AreValues variables values = (length values ≡ length variables) × ((var : ℕ) → IfSome (slice_get variables var) (λ v. slice_index values var < range v))
 
 -- how many bits of a state a variable takes
 abbrev pub bits_of : Variable → ℕ
@@ -62,11 +67,10 @@ pub record Fits (task : TaskParts) : Type 0 where
   pub metric : task.metric < 2
   pub variables : length task.variables ≤ 65536
   pub each_variable : All FitsVariable task.variables
-  pub bits : sum_by bits_of task.variables ≤ 4096
+  pub bits : sum_by bits_of task.variables ≤ STATE_BITS
   pub mutexes : length task.mutexes ≤ 1000000
   pub each_mutex : All (AreFacts task.variables) task.mutexes
-  pub initial : length task.initial ≡ length task.variables
-  pub each_value : (var : ℕ) → IfSome (slice_get task.variables var) (λ v. slice_index task.initial var < range v)
+  pub initial : AreValues task.variables task.initial
   pub goal : AreFacts task.variables task.goal
   pub operators : length task.operators ≤ 1000000
   pub each_operator : All (FitsOperator task.variables) task.operators

@@ -21,6 +21,10 @@ Trace task s (a ∷ p) passed = (next : List ℕ) × (rest : List (List ℕ)) ×
 abbrev pub cost_of : TaskParts → List ℕ → ℕ
 cost_of task p = sum (map (cost_at task) p)
 
+-- each operator costs 1
+abbrev pub IsUnit : TaskParts → Type 0
+IsUnit task = (a : ℕ) → a < length task.operators → cost_at task a ≡ 1
+
 -- the values of the initial state
 pub record IsInitial (task : TaskParts) (s : List ℕ) : Type 0 where
   pub state : IsState task s

@@ -5,11 +5,19 @@
 //! It stands on nothing but std.
 #![tactic(auto)]
 
+mod bits;
+mod fits;
 mod keys;
 mod list;
+mod modes;
 mod parts;
 mod task;
 
+pub use bits::{STATE_BITS, width};
 pub use list::{List, Memory, Name, Plan, State};
+pub use modes::same;
 pub use parts::{Effect, Fact, Mode, Operator, Rule, TaskParts, Variable};
 pub use task::Task;
+
+#[cfg(test)]
+mod tests;

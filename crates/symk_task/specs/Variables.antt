@@ -1,5 +1,5 @@
 -- Variables, their places in a state, and states.
-use Rattle.std.specs.Prelude.{◌≡◌, ℕ, zero, suc, ◌+◌, ◌*◌, ◌-◌, nat_le, if◌then◌else◌, ◌<◌, Bool, List, Option, option_and_then, length, take, slice_get, slice_index, count_by, Some, None, is_none, IsSomeAnd, IfSome}
+use Rattle.std.specs.Prelude.{◌≡◌, ℕ, zero, suc, ◌+◌, ◌*◌, ◌-◌, nat_le, if◌then◌else◌, ◌<◌, Bool, List, [], ◌∷◌, Option, option_and_then, length, take, slice_get, slice_index, count_by, Some, None, is_none, IsSomeAnd, IfSome}
 use Rattle.symk_task.specs.declared.parts.Variable.{Variable}
 use Rattle.symk_task.specs.declared.parts.TaskParts.{TaskParts}
 
@@ -44,3 +44,9 @@ pub record IsState (task : TaskParts) (s : List ℕ) : Type 0 where
 -- the value that is not the default: derived variables have the values 0 and 1
 abbrev pub other_value : TaskParts → ℕ → ℕ
 other_value task var = 1 - slice_index task.initial var
+
+-- the values of the base variables, where there is a value for each variable
+abbrev pub base_values : List Variable → List ℕ → List ℕ
+base_values [] values = []
+base_values (v ∷ variables) [] = []
+base_values (v ∷ variables) (x ∷ values) = if is_base v then x ∷ base_values variables values else base_values variables values

@@ -11,7 +11,8 @@ pub const STATE_BITS: u32 = 4096;
 
 /// The least number of bits that tell so many values apart: 0 for one value, 16 for 65,536.
 pub fn width(values: u64) -> u32
-    ensures { result ≡ width values }
+    ensures value { result ≡ width values }
+    ensures most { result ≤ 64 }
 {
     for bits in 0..64 {
         if values <= 1 << bits {

@@ -2,7 +2,7 @@
 
 ghost use Rattle.std.specs.Prelude.{◌≡◌, ◌≤◌, ◌<◌, ◌↔◌, ℕ, IsTrue, length, All, IfSome, slice_get, slice_index};
 ghost use Rattle.symk_task.specs.Variables.{range, layer_of, other_value};
-ghost use Rattle.symk_task.specs.Fits.{IsName, InRange, AreFacts, AreValues, FitsVariable, FitsEffect, FitsOperator, MayStand, FitsRule, Fits};
+ghost use Rattle.symk_task.specs.Fits.{IsName, InRange, AreFacts, AreValues, FitsRange, FitsVariable, FitsVariables, FitsMutexes, FitsEffect, FitsOperator, FitsOperators, MayStand, FitsRule, FitsRules, Fits};
 
 use crate::bits::bits_fit;
 use crate::list::{List, Name};
@@ -13,6 +13,13 @@ fn is_name(name: &Name) -> bool
     ensures { IsTrue result ↔ IsName name.now }
 {
     !name.as_slice().contains(&b'\n')
+}
+
+/// Whether each name is one line.
+fn are_names(names: &List<Name>) -> bool
+    ensures { IsTrue result ↔ All IsName names.now }
+{
+    names.as_slice().iter().all(|name| is_name(name))
 }
 
 /// Whether the fact is one of a variable that is there.
@@ -36,16 +43,39 @@ fn are_facts(variables: &[Variable], facts: &List<Fact>) -> bool
             .all(|fact| in_range(variables, *fact))
 }
 
+/// Whether a variable of the layer, or a base variable, may have so many values.
+fn fits_range(layer: Option<u32>, count: usize) -> bool
+    ensures { IsTrue result ↔ FitsRange layer count }
+{
+    match layer {
+        Some(layer) => layer < 65_536 && count == 2,
+        None => 1 <= count && count <= 65_536,
+    }
+}
+
 /// Whether a task file can state the variable.
 fn fits_variable(variable: &Variable) -> bool
     ensures { IsTrue result ↔ FitsVariable variable.now }
 {
     is_name(&variable.name)
-        && variable.values.as_slice().iter().all(is_name)
-        && match variable.layer {
-            Some(layer) => layer < 65_536 && variable.values.len() == 2,
-            None => (1..=65_536).contains(&variable.values.len()),
-        }
+        && are_names(&variable.values)
+        && fits_range(variable.layer, variable.values.len())
+}
+
+/// Whether a task file can state the variables.
+fn fits_variables(variables: &[Variable]) -> bool
+    ensures { IsTrue result ↔ FitsVariables variables.now }
+{
+    variables.len() <= 65_536
+        && variables.iter().all(|variable| fits_variable(variable))
+        && bits_fit(variables)
+}
+
+/// Whether a task file can state the mutex groups.
+fn fits_mutexes(variables: &[Variable], groups: &[List<Fact>]) -> bool
+    ensures { IsTrue result ↔ FitsMutexes variables.now groups.now }
+{
+    groups.len() <= 1_000_000 && groups.iter().all(|group| are_facts(variables, group))
 }
 
 /// Whether each variable has an initial value in its range, and there are no others.
@@ -85,6 +115,16 @@ fn fits_operator(variables: &[Variable], operator: &Operator) -> bool
             .all(|effect| fits_effect(variables, effect))
 }
 
+/// Whether a task file can state the operators.
+fn fits_operators(variables: &[Variable], operators: &[Operator]) -> bool
+    ensures { IsTrue result ↔ FitsOperators variables.now operators.now }
+{
+    operators.len() <= 1_000_000
+        && operators
+            .iter()
+            .all(|operator| fits_operator(variables, operator))
+}
+
 impl TaskParts {
     /// Whether a task file can state these parts: counts and numbers are in the ranges of the format, the values of a
     /// state take at most [`STATE_BITS`](crate::STATE_BITS) bits, rules go by layers, and no name holds a line's end.
@@ -93,24 +133,19 @@ impl TaskParts {
     {
         let variables = self.variables.as_slice();
         self.metric < 2
-            && variables.len() <= 65_536
-            && variables.iter().all(fits_variable)
-            && bits_fit(variables)
-            && self.mutexes.len() <= 1_000_000
-            && self
-                .mutexes
-                .as_slice()
-                .iter()
-                .all(|group| are_facts(variables, group))
+            && fits_variables(variables)
+            && fits_mutexes(variables, self.mutexes.as_slice())
             && are_values(variables, self.initial.as_slice())
             && are_facts(variables, &self.goal)
-            && self.operators.len() <= 1_000_000
-            && self
-                .operators
-                .as_slice()
-                .iter()
-                .all(|operator| fits_operator(variables, operator))
-            && self.rules.len() <= 1_000_000
+            && fits_operators(variables, self.operators.as_slice())
+            && self.fits_rules()
+    }
+
+    /// Whether a task file can state the rules.
+    fn fits_rules(&self) -> bool
+        ensures { IsTrue result ↔ FitsRules self.now }
+    {
+        self.rules.len() <= 1_000_000
             && self
                 .rules
                 .as_slice()

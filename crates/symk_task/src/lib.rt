@@ -5,6 +5,7 @@
 //! It stands on nothing but std.
 #![tactic(auto)]
 
+mod base;
 mod bits;
 mod fits;
 mod keys;
@@ -13,6 +14,7 @@ mod modes;
 mod parts;
 mod task;
 
+pub use base::base_values;
 pub use bits::{STATE_BITS, width};
 pub use list::{List, Memory, Name, Plan, State};
 pub use modes::same;

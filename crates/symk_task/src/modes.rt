@@ -10,6 +10,7 @@ use std::alloc::Global;
 
 /// Whether two plans count as one by the mode: where their lists are equal, or, by `Unordered`, where each operator
 /// stands equally often in both.
+#[tactic(auto, using(crate::proofs::Rising::sorted_same))]
 pub fn same(alloc: Global, mode: Mode, p: &Plan, q: &Plan) -> Result<bool, Memory>
     ensures { IfOk result (λ same. IsTrue same ↔ Same mode p.now q.now) }
 {

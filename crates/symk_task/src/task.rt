@@ -25,6 +25,7 @@ ghost use Rattle.symk_task.specs.Fits.{Fits};
 ghost use Rattle.symk_task.specs.Steps.{cost_at};
 ghost use Rattle.symk_task.specs.Plans.{IsInitial, IsUnit, cost_of};
 
+use crate::base::base_values;
 use crate::list::{Memory, Plan, State};
 use std::alloc::Global;
 
@@ -46,18 +47,12 @@ impl Task {
     }
 
     /// The initial state.
+    #[tactic(auto, using(crate::proofs::Starting::start_law))]
     pub fn start(&self, alloc: Global) -> Result<State, Memory>
         ensures { IfOk result (IsInitial self.now) }
     {
-        let variables = self.parts.variables.as_slice();
-        let initial = self.parts.initial.as_slice();
-        let mut values = Vec::new(alloc);
-        for i in 0..variables.len() {
-            if variables[i].layer.is_none() {
-                values.push(initial[i])?;
-            }
-        }
-        Ok(State::of(values))
+        let parts = self.parts();
+        base_values(alloc, parts.variables.as_slice(), parts.initial.as_slice())
     }
 
     /// The number of operators: at most 1,000,000.

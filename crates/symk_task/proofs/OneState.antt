@@ -39,4 +39,3 @@ one_state task s x y a state p q =
     same_at : (o : Option Operator) (var : ℕ) → IsBase task var → IsSomeAnd o (Says x) → IsSomeAnd o (Says y) → get_or x (place task var) 0 ≡ get_or y (place task var) 0
     same_at None var base h k = absurd h
     same_at (Some operator) var base h k = value_one (Fires task s) operator.effects var (get_or s (place task var) 0) (get_or x (place task var) 0) (get_or y (place task var) 0) (h var base) (k var base)
-

@@ -1,5 +1,5 @@
 -- The width of n is the least b with n at most 2 ^ b.
-use Rattle.std.proofs.Common.{◌≡◌, ℕ, zero, suc, ◌+◌, ◌*◌, ◌^◌, ◌%◌, ◌<◌, ◌≤◌, ◌⊎◌, inl, inr, Bool, true, false, cond, leb, refl, sym, ap, subst, ◌∙◌, arith}
+use Rattle.std.proofs.Common.{◌≡◌, ℕ, zero, suc, ◌+◌, ◌*◌, ◌^◌, ◌%◌, ◌<◌, ◌≤◌, inl, inr, Bool, true, false, cond, leb, refl, sym, subst, ◌∙◌, arith}
 use Rattle.std.proofs.Math.Nat.{pow-succ', mod-eq_of_lt, le_antisymm}
 use Rattle.std.proofs.Math.Pow.{pow-lt, pow_pos}
 use Rattle.std.proofs.lemmas.Bool.{leb-true, leb-false, cases_lt}

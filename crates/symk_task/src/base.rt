@@ -8,11 +8,7 @@ use crate::parts::Variable;
 use std::alloc::Global;
 
 /// The state of the base variables among the variables, each with its value.
-pub fn base_values(
-    alloc: Global,
-    variables: &[Variable],
-    values: &[u32],
-) -> Result<State, Memory>
+pub fn base_values(alloc: Global, variables: &[Variable], values: &[u32]) -> Result<State, Memory>
     requires { length values.now ≡ length variables.now }
     ensures { IfOk result (λ state. state ≡ base_values variables.now values.now) }
 {

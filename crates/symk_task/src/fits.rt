@@ -19,7 +19,12 @@ fn is_name(name: &Name) -> bool
 fn are_names(names: &List<Name>) -> bool
     ensures { IsTrue result ↔ All IsName names.now }
 {
-    names.as_slice().iter().all(|name| is_name(name))
+    for name in names.as_slice() {
+        if !is_name(name) {
+            return false;
+        }
+    }
+    true
 }
 
 /// Whether the fact is one of a variable that is there.
@@ -62,13 +67,18 @@ fn fits_variable(variable: &Variable) -> bool
         && fits_range(variable.layer, variable.values.len())
 }
 
-/// Whether a task file can state the variables.
+/// Whether a task file can state each of the variables.
+fn each_fits(variables: &[Variable]) -> bool
+    ensures { IsTrue result ↔ All FitsVariable variables.now }
+{
+    variables.iter().all(|variable| fits_variable(variable))
+}
+
+/// Whether a task file can state the variables together.
 fn fits_variables(variables: &[Variable]) -> bool
     ensures { IsTrue result ↔ FitsVariables variables.now }
 {
-    variables.len() <= 65_536
-        && variables.iter().all(|variable| fits_variable(variable))
-        && bits_fit(variables)
+    variables.len() <= 65_536 && each_fits(variables) && bits_fit(variables)
 }
 
 /// Whether a task file can state the mutex groups.

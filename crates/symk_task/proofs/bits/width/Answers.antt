@@ -1,4 +1,4 @@
-use Rattle.std.proofs.Common.{◌≤◌, ◌<◌, ◌^◌, ap, subst, below_more, arith}
+use Rattle.std.proofs.Common.{below_more, arith}
 use Rattle.symk_task.proofs.Widths.{width_is, far_width, shifted}
 use Rattle.symk_task.proofs.bits.width.Goals as goal
 

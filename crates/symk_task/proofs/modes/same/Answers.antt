@@ -1,5 +1,5 @@
-use Rattle.std.proofs.Common.{◌≡◌, ◌↔◌, ◌∙◌, ℕ, Bool, true, List, sym, subst}
-use Rattle.std.specs.Bool.{IsTrue, Decides}
+use Rattle.std.proofs.Common.{◌↔◌, sym, subst}
+use Rattle.std.specs.Bool.{IsTrue}
 use Rattle.std.proofs.lemmas.Bool.Decides.{Decides-eqb}
 use Rattle.std.proofs.lemmas.Slice.Eq.{slice_eq-Decides}
 use Rattle.symk_task.specs.declared.parts.Mode.{Mode}

@@ -1,16 +1,17 @@
 -- What a task file can state.
-use Rattle.std.specs.Prelude.{◌≡◌, ℕ, ◌<◌, ◌≤◌, ◌⊎◌, List, length, slice_get, slice_index, All, Contains, None, IfSome, IsSomeAnd, sum_by, if◌then◌else◌}
+use Rattle.std.specs.Prelude.{◌≡◌, ℕ, ◌<◌, ◌≤◌, ◌⊎◌, List, Option, length, slice_get, slice_index, All, Contains, None, IfSome, IsSomeAnd, sum_by, if◌then◌else◌}
 use Rattle.symk_task.specs.declared.parts.Fact.{Fact}
 use Rattle.symk_task.specs.declared.parts.Variable.{Variable}
 use Rattle.symk_task.specs.declared.parts.Effect.{Effect}
 use Rattle.symk_task.specs.declared.parts.Operator.{Operator}
 use Rattle.symk_task.specs.declared.parts.Rule.{Rule}
 use Rattle.symk_task.specs.declared.parts.TaskParts.{TaskParts}
+use Rattle.symk_task.specs.declared.bits.TheConstants.{STATE_BITS}
 use Rattle.symk_task.specs.Variables.{range, width, is_base, IsBase, HasLayer, other_value}
 
--- a name is one line, so it has no LF
-abbrev pub IsName : List ℕ → Type 0
-IsName name = ¬ Contains name 10
+-- A name is one line, so it has no LF.
+pub record IsName (name : List ℕ) : Type 0 where
+  pub line : ¬ Contains name 10
 
 -- the fact is one of a variable that is there
 abbrev pub InRange : List Variable → Fact → Type 0
@@ -19,18 +20,32 @@ InRange variables fact = IsSomeAnd (slice_get variables fact.var) (λ v. fact.va
 abbrev pub AreFacts : List Variable → List Fact → Type 0
 AreFacts variables facts = (length facts ≤ 65536) × All (InRange variables) facts
 
+-- there is a value for each variable, in its range
+abbrev pub AreValues : List Variable → List ℕ → Type 0
+AreValues variables values = (length values ≡ length variables) × ((var : ℕ) → IfSome (slice_get variables var) (λ v. slice_index values var < range v))
+
 -- how many bits of a state a variable takes
 abbrev pub bits_of : Variable → ℕ
 bits_of v = if is_base v then width (range v) else 0
 
 -- a base variable has 1 to 65,536 values, a derived one two and a layer below 65,536
+pub record FitsRange (layer : Option ℕ) (count : ℕ) : Type 0 where
+  pub some : 1 ≤ count
+  pub most : count ≤ 65536
+  pub derived : IfSome layer (λ _. count ≡ 2)
+  pub layer_most : IfSome layer (λ layer. layer < 65536)
+
+-- the variable's names are lines, and it has as many values as it may
 pub record FitsVariable (v : Variable) : Type 0 where
   pub name : IsName v.name
   pub values : All IsName v.values
-  pub some : 1 ≤ range v
-  pub most : range v ≤ 65536
-  pub derived : IfSome v.layer (λ _. range v ≡ 2)
-  pub layer : IfSome v.layer (λ layer. layer < 65536)
+  pub range : FitsRange v.layer (range v)
+
+abbrev pub FitsVariables : List Variable → Type 0
+FitsVariables variables = (length variables ≤ 65536) × All FitsVariable variables × (sum_by bits_of variables ≤ STATE_BITS)
+
+abbrev pub FitsMutexes : List Variable → List (List Fact) → Type 0
+FitsMutexes variables groups = (length groups ≤ 1000000) × All (AreFacts variables) groups
 
 -- the effect is one on a base variable of the task, and its values and conditions are in range
 pub record FitsEffect (variables : List Variable) (effect : Effect) : Type 0 where
@@ -43,6 +58,9 @@ pub record FitsOperator (variables : List Variable) (operator : Operator) : Type
   pub prevail : AreFacts variables operator.prevail
   pub effects : length operator.effects ≤ 65536
   pub each : All (FitsEffect variables) operator.effects
+
+abbrev pub FitsOperators : List Variable → List Operator → Type 0
+FitsOperators variables operators = (length operators ≤ 1000000) × All (FitsOperator variables) operators
 
 -- What a counting rule for a layer may have among its conditions: base facts, facts of lower layers, and of its own layer those at the other value.
 abbrev pub MayStand : TaskParts → ℕ → Fact → Type 0
@@ -57,12 +75,15 @@ pub record FitsRule (task : TaskParts) (rule : Rule) : Type 0 where
   pub new : rule.new < 2
   pub kept : rule.new ≡ other_value task rule.var → All (MayStand task layer) rule.conds
 
+abbrev pub FitsRules : TaskParts → Type 0
+FitsRules task = (length task.rules ≤ 1000000) × All (FitsRule task) task.rules
+
 -- What a task file can state.
 pub record Fits (task : TaskParts) : Type 0 where
   pub metric : task.metric < 2
   pub variables : length task.variables ≤ 65536
   pub each_variable : All FitsVariable task.variables
-  pub bits : sum_by bits_of task.variables ≤ 4096
+  pub bits : sum_by bits_of task.variables ≤ STATE_BITS
   pub mutexes : length task.mutexes ≤ 1000000
   pub each_mutex : All (AreFacts task.variables) task.mutexes
   pub initial : length task.initial ≡ length task.variables

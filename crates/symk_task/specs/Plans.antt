@@ -17,14 +17,20 @@ unfoldable pub Trace : TaskParts → List ℕ → List ℕ → List (List ℕ) �
 Trace task s [] passed = passed ≡ s ∷ []
 Trace task s (a ∷ p) passed = (next : List ℕ) × (rest : List (List ℕ)) × Step task s a next × (passed ≡ s ∷ rest) × Trace task next p rest
 
-abbrev pub plan_cost : TaskParts → List ℕ → ℕ
-plan_cost task p = sum (map (cost_at task) p)
+-- what the operators cost together
+abbrev pub cost_of : TaskParts → List ℕ → ℕ
+cost_of task p = sum (map (cost_at task) p)
+
+-- each operator costs 1
+abbrev pub IsUnit : TaskParts → Type 0
+IsUnit task = (a : ℕ) → a < length task.operators → cost_at task a ≡ 1
 
 -- the values of the initial state
 pub record IsInitial (task : TaskParts) (s : List ℕ) : Type 0 where
   pub state : IsState task s
   pub values : (var : ℕ) → IsBase task var → slice_index s (place task var) ≡ slice_index task.initial var
 
+-- the operators lead from the initial state to one where the goal holds
 abbrev pub IsPlan : TaskParts → List ℕ → Type 0
 IsPlan task p = (s t : List ℕ) × IsInitial task s × Runs task s p t × All (Holds task t) task.goal
 
@@ -34,10 +40,10 @@ AllDifferent [] = Unit {0}
 AllDifferent (x ∷ xs) = All (λ y. x ≢ y) xs × AllDifferent xs
 
 -- the plans of a mode
-abbrev pub In : TaskParts → Mode → List ℕ → Type 0
-In task TopK p = IsPlan task p
-In task Unordered p = IsPlan task p
-In task Loopless p = IsPlan task p × (s : List ℕ) × (passed : List (List ℕ)) × IsInitial task s × Trace task s p passed × AllDifferent passed
+abbrev pub IsPlanOf : TaskParts → Mode → List ℕ → Type 0
+IsPlanOf task TopK p = IsPlan task p
+IsPlanOf task Unordered p = IsPlan task p
+IsPlanOf task Loopless p = IsPlan task p × (s : List ℕ) × (passed : List (List ℕ)) × IsInitial task s × Trace task s p passed × AllDifferent passed
 
 -- which plans count as one
 abbrev pub Same : Mode → List ℕ → List ℕ → Type 0
@@ -50,17 +56,20 @@ abbrev pub IsListed : Mode → List (List ℕ) → List ℕ → Type 0
 IsListed mode plans p = Any (Same mode p) plans
 
 -- The cheapest plans of a mode, each once, by cost.
-pub record Right (task : TaskParts) (mode : Mode) (plans : List (List ℕ)) : Type 0 where
-  pub each : All (In task mode) plans
+pub record IsRight (task : TaskParts) (mode : Mode) (plans : List (List ℕ)) : Type 0 where
+  pub each : All (IsPlanOf task mode) plans
   pub different : (i j : ℕ) → i < j → j < length plans → IfSome (slice_get plans i) (λ p. IfSome (slice_get plans j) (λ q. ¬ Same mode p q))
-  pub costs : IsNonDecreasing (map (plan_cost task) plans)
-  pub cheapest : IfSome (slice_get plans (length plans - 1)) (λ dearest. (p : List ℕ) → In task mode p → plan_cost task p < plan_cost task dearest → IsListed mode plans p)
+  pub costs : IsNonDecreasing (map (cost_of task) plans)
+  pub cheapest : IfSome (slice_get plans (length plans - 1)) (λ dearest. (p : List ℕ) → IsPlanOf task mode p → cost_of task p < cost_of task dearest → IsListed mode plans p)
 
+-- each plan of the mode counts as one with a member
 abbrev pub AllListed : TaskParts → Mode → List (List ℕ) → Type 0
-AllListed task mode plans = (p : List ℕ) → In task mode p → IsListed mode plans p
+AllListed task mode plans = (p : List ℕ) → IsPlanOf task mode p → IsListed mode plans p
 
+-- each plan of the mode whose cost 64 bits hold counts as one with a member
 abbrev pub AllInRange : TaskParts → Mode → List (List ℕ) → Type 0
-AllInRange task mode plans = (p : List ℕ) → In task mode p → plan_cost task p < 2 ^ 64 → IsListed mode plans p
+AllInRange task mode plans = (p : List ℕ) → IsPlanOf task mode p → cost_of task p < 2 ^ 64 → IsListed mode plans p
 
-abbrev pub Dearer : TaskParts → Mode → Type 0
-Dearer task mode = (p : List ℕ) × In task mode p × (2 ^ 64 ≤ plan_cost task p)
+-- a plan of the mode costs more than 64 bits hold
+abbrev pub HasDearer : TaskParts → Mode → Type 0
+HasDearer task mode = (p : List ℕ) × IsPlanOf task mode p × (2 ^ 64 ≤ cost_of task p)

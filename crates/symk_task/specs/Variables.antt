@@ -1,5 +1,5 @@
 -- Variables, their places in a state, and states.
-use Rattle.std.specs.Prelude.{◌≡◌, ℕ, zero, suc, ◌+◌, ◌*◌, ◌-◌, nat_le, if◌then◌else◌, ◌<◌, Bool, List, length, take, slice_get, slice_index, count_by, Some, None, is_none, IsSomeAnd, IfSome}
+use Rattle.std.specs.Prelude.{◌≡◌, ℕ, zero, suc, ◌+◌, ◌*◌, ◌-◌, nat_le, if◌then◌else◌, ◌<◌, Bool, List, [], ◌∷◌, Option, option_and_then, length, take, slice_get, slice_index, count_by, Some, None, is_none, IsSomeAnd, IfSome}
 use Rattle.symk_task.specs.declared.parts.Variable.{Variable}
 use Rattle.symk_task.specs.declared.parts.TaskParts.{TaskParts}
 
@@ -19,6 +19,10 @@ doublings (suc most) power n = if nat_le n power then 0 else doublings most (2 *
 -- how many bits tell n values apart: the least b with n at most 2^b
 unfoldable pub width : ℕ → ℕ
 width n = doublings n 1 n
+
+-- the layer of a derived variable
+abbrev pub layer_of : TaskParts → ℕ → Option ℕ
+layer_of task var = option_and_then (λ v. v.layer) (slice_get task.variables var)
 
 -- var is the number of a base variable
 abbrev pub IsBase : TaskParts → ℕ → Type 0
@@ -40,3 +44,9 @@ pub record IsState (task : TaskParts) (s : List ℕ) : Type 0 where
 -- the value that is not the default: derived variables have the values 0 and 1
 abbrev pub other_value : TaskParts → ℕ → ℕ
 other_value task var = 1 - slice_index task.initial var
+
+-- the values of the base variables, where there is a value for each variable
+abbrev pub base_values : List Variable → List ℕ → List ℕ
+base_values [] values = []
+base_values (v ∷ variables) [] = []
+base_values (v ∷ variables) (x ∷ values) = if is_base v then x ∷ base_values variables values else base_values variables values

@@ -5,11 +5,21 @@
 //! It stands on nothing but std.
 #![tactic(auto)]
 
+mod base;
+mod bits;
+mod fits;
 mod keys;
 mod list;
+mod modes;
 mod parts;
 mod task;
 
+pub use base::base_values;
+pub use bits::{STATE_BITS, width};
 pub use list::{List, Memory, Name, Plan, State};
+pub use modes::same;
 pub use parts::{Effect, Fact, Mode, Operator, Rule, TaskParts, Variable};
 pub use task::Task;
+
+#[cfg(test)]
+mod tests;

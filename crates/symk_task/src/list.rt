@@ -1,6 +1,6 @@
 //! Small types over `Vec`, which contracts see as lists.
 
-ghost use Rattle.std.specs.Prelude.{◌≡◌, ◌<◌, ℕ, List, [], ◌∷◌, ◌++◌, length, IfOk, OnOk, OnErr, slice_get, slice_set, Some};
+ghost use Rattle.std.specs.Prelude.{◌≡◌, ◌==◌, ◌<◌, ℕ, List, [], ◌∷◌, ◌++◌, length, IfOk, OnOk, OnErr, slice_get, slice_set, Some};
 
 use std::alloc::{AllocError, Global};
 use std::marker::Model;
@@ -9,7 +9,7 @@ use std::marker::Model;
 pub type Memory = AllocError;
 
 /// A list.
-#[derive(Drop)]
+#[derive(Debug, Drop)]
 pub struct List<T> {
     items: Vec<T>,
 }
@@ -21,24 +21,42 @@ impl<T> Model for List<T> {
 }
 
 impl<T> List<T> {
+    /// The list of these items.
     pub fn of(items: Vec<T>) -> List<T>
         ensures { result ≡ items.items }
     {
         List { items }
     }
 
+    /// The items.
     pub fn into_vec(self) -> Vec<T>
         ensures { result.items ≡ self }
     {
         self.items
     }
 
+    /// The items, lent.
     pub fn as_slice(&self) -> &[T]
         ensures { result.now ≡ self.now }
     {
         &self.items
     }
 
+    /// The number of items.
+    pub fn len(&self) -> usize
+        ensures { result ≡ length self.now }
+    {
+        self.items.len()
+    }
+
+    /// Whether there are no items.
+    pub fn is_empty(&self) -> bool
+        ensures { result ≡ (length self.now == 0) }
+    {
+        self.items.is_empty()
+    }
+
+    /// Adds the item at the end. Want of memory leaves the list as it was.
     pub fn push(&mut self, item: T) -> Result<(), Memory>
     where
         T: Drop,
@@ -51,7 +69,7 @@ impl<T> List<T> {
 }
 
 /// The bytes of a name.
-#[derive(Drop)]
+#[derive(Debug, Drop)]
 pub struct Name {
     bytes: Vec<u8>,
 }
@@ -63,12 +81,14 @@ impl Model for Name {
 }
 
 impl Name {
+    /// The name of these bytes.
     pub fn of(bytes: Vec<u8>) -> Name
         ensures { result ≡ bytes.items }
     {
         Name { bytes }
     }
 
+    /// The bytes, lent.
     pub fn as_slice(&self) -> &[u8]
         ensures { result.now ≡ self.now }
     {
@@ -85,8 +105,8 @@ impl Name {
     }
 }
 
-/// A value for each base variable.
-#[derive(Drop)]
+/// A value for each base variable, in the order of the task file.
+#[derive(Debug, Drop)]
 pub struct State {
     values: Vec<u32>,
 }
@@ -98,18 +118,21 @@ impl Model for State {
 }
 
 impl State {
+    /// The state of these values.
     pub fn of(values: Vec<u32>) -> State
         ensures { result ≡ values.items }
     {
         State { values }
     }
 
+    /// The values, lent.
     pub fn as_slice(&self) -> &[u32]
         ensures { result.now ≡ self.now }
     {
         &self.values
     }
 
+    /// Puts the value at a place.
     pub fn set(&mut self, at: usize, value: u32)
         requires { at < length self.old }
         ensures { self.new ≡ slice_set self.old at value }
@@ -128,7 +151,7 @@ impl State {
 }
 
 /// A list of operator numbers.
-#[derive(Drop)]
+#[derive(Debug, Drop)]
 pub struct Plan {
     operators: Vec<u32>,
 }
@@ -140,18 +163,21 @@ impl Model for Plan {
 }
 
 impl Plan {
+    /// The plan of these operators.
     pub fn of(operators: Vec<u32>) -> Plan
         ensures { result ≡ operators.items }
     {
         Plan { operators }
     }
 
+    /// The operator numbers, lent.
     pub fn as_slice(&self) -> &[u32]
         ensures { result.now ≡ self.now }
     {
         &self.operators
     }
 
+    /// Adds the operator at the end. Want of memory leaves the plan as it was.
     pub fn push(&mut self, operator: u32) -> Result<(), Memory>
         ensures ok { OnOk result (self.new ≡ self.old ++ operator ∷ []) }
         ensures err { OnErr result (self.new ≡ self.old) }

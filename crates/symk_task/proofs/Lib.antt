@@ -1,0 +1,5 @@
+pub mod Widths
+pub mod Places
+pub mod OneState
+pub mod Starting
+pub mod Rising

@@ -1,2 +1,3 @@
 mod Growth
 mod Finding
+mod Kept

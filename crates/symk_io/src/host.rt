@@ -1,6 +1,7 @@
 // The trusted edge: the files and the output of the system, of which nothing is told.
-ghost use Rattle.std.specs.Prelude.{None};
-ghost use Rattle.symk_io.specs.Causes.{Counted};
+ghost use Rattle.std.specs.Prelude.{◌≡◌, ◌<◌, ◌≤◌, length, option_and_then, IfOk, IsSome, None, OnErr, OnOk, Ok};
+ghost use Rattle.std.specs.Io.KnownBytes.{Keeps, ReadConsumes, WriteAppends};
+ghost use Rattle.symk_io.specs.Causes.{Counted, HasCause};
 
 use crate::{Files, IoFault, Sink};
 use std::io::{Error, ErrorKind, Read, Write};
@@ -29,7 +30,10 @@ pub struct HostFiles<R: System + Drop> {
 
 impl<R: System + Drop> HostFiles<R> {
     /// No file is open yet, and no failure counted.
-    pub fn new(system: R) -> HostFiles<R> {
+    pub fn new(system: R) -> HostFiles<R>
+        ensures open { result.file ≡ None }
+        ensures faults { result.faults ≡ 0 }
+    {
         HostFiles {
             system,
             file: None,
@@ -41,7 +45,11 @@ impl<R: System + Drop> HostFiles<R> {
 impl<R: System + Drop> Files for HostFiles<R> {
     ghost view = { λ h. record { told = None; faults = h.faults } };
 
-    fn open_file(&mut self, name: &str) -> Result<(), IoFault> {
+    fn open_file(&mut self, name: &str) -> Result<(), IoFault>
+        ensures cause { HasCause self.old.faults self.new.faults result }
+        ensures open { OnOk result (IsSome self.new.file) }
+        ensures err { OnErr result (self.new.file ≡ self.old.file) }
+    {
         match std::fs::open(&self.system, name) {
             Ok(file) => {
                 self.file = Some(file);
@@ -51,7 +59,13 @@ impl<R: System + Drop> Files for HostFiles<R> {
         }
     }
 
-    fn read(&mut self, buf: &mut [u8]) -> Result<usize, IoFault> {
+    fn read(&mut self, buf: &mut [u8]) -> Result<usize, IoFault>
+        ensures bound { IfOk result (λ n. n ≤ length buf.new) }
+        ensures cause { HasCause self.old.faults self.new.faults result }
+        // Nothing is left where no file is open; what the open one is known to have left loses what was given.
+        ensures closed { self.old.file ≡ None → result ≡ Ok 0 }
+        ensures given { ReadConsumes (option_and_then (λ f. R.File.remaining f) self.old.file) (option_and_then (λ f. R.File.remaining f) self.new.file) result buf.new }
+    {
         let Some(file) = &mut self.file else {
             return Ok(0);
         };
@@ -66,7 +80,7 @@ impl<R: System + Drop> Files for HostFiles<R> {
     }
 }
 
-/// A writer of the system, as standard output. No clause says which bytes reach it.
+/// A writer of the system, as standard output. It tells nothing of its bytes: no clause says which reach the system.
 ///
 /// Each failure of the writer is counted, but for want of memory; to take nothing of a piece is a failure.
 #[derive(Drop)]
@@ -77,7 +91,10 @@ pub struct HostSink<W: Write + Drop> {
 
 impl<W: Write + Drop> HostSink<W> {
     /// A sink over this writer; no failure is counted yet.
-    pub fn new(out: W) -> HostSink<W> {
+    pub fn new(out: W) -> HostSink<W>
+        ensures out { result.out ≡ out }
+        ensures faults { result.faults ≡ 0 }
+    {
         HostSink { out, faults: 0 }
     }
 }
@@ -85,7 +102,15 @@ impl<W: Write + Drop> HostSink<W> {
 impl<W: Write + Drop> Sink for HostSink<W> {
     ghost view = { λ h. record { taken = None; flushed = None; faults = h.faults } };
 
-    fn write(&mut self, piece: &[u8]) -> Result<usize, IoFault> {
+    #[tactic(auto, using(crate::proofs::Kept::kept_by_none))]
+    fn write(&mut self, piece: &[u8]) -> Result<usize, IoFault>
+        requires { 0 < length piece.now }
+        ensures some { IfOk result (λ n. 1 ≤ n) }
+        ensures bound { IfOk result (λ n. n ≤ length piece.now) }
+        ensures cause { HasCause self.old.faults self.new.faults result }
+        // What the writer is known to hold, if anything is, grows by what was taken.
+        ensures handed { WriteAppends (W.contents self.old.out) (W.contents self.new.out) result piece.now }
+    {
         match self.out.write(piece) {
             Ok(0) => {
                 self.faults = self.faults.saturating_add(1);
@@ -96,7 +121,10 @@ impl<W: Write + Drop> Sink for HostSink<W> {
         }
     }
 
-    fn flush(&mut self) -> Result<(), IoFault> {
+    fn flush(&mut self) -> Result<(), IoFault>
+        ensures cause { HasCause self.old.faults self.new.faults result }
+        ensures kept { Keeps (W.contents self.old.out) (W.contents self.new.out) }
+    {
         match self.out.flush() {
             Ok(()) => Ok(()),
             Err(error) => Err(fault_of(error, &mut self.faults)),

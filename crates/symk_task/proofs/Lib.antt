@@ -1,5 +1,8 @@
 pub mod Widths
+pub mod Rising
 pub mod Places
 pub mod OneState
 pub mod Starting
-pub mod Rising
+pub mod Running
+pub mod Layers
+pub mod Closing

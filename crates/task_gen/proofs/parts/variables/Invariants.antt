@@ -1,0 +1,6 @@
+use Rattle.std.proofs.Common.{◌≡◌}
+use Rattle.task_gen.specs.Switches.{up_to, switch}
+use Rattle.task_gen.proofs.parts.variables.Given as goal
+
+abbrev pub invariant-loop-i : goal.invariant-loop-i
+invariant-loop-i l = l.items.items ≡ up_to switch l.i

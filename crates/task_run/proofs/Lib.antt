@@ -1,0 +1,10 @@
+pub mod Effects
+pub mod Stepping
+pub mod Applying
+pub mod Growing
+pub mod Running
+pub mod Layers
+pub mod Placing
+pub mod Resuming
+pub mod Bucketing
+pub mod Rounds

@@ -1,0 +1,92 @@
+use Rattle.std.proofs.Common.{◌≡◌, ◌<◌, ◌≤◌, ◌∙◌, ℕ, List, [], length, get_or, refl, sym, subst, ap, arith}
+use Rattle.symk_task.specs.declared.parts.TaskParts.{TaskParts}
+use Rattle.symk_task.specs.declared.parts.Rule.{Rule}
+use Rattle.symk_task.specs.declared.parts.Variable.{Variable}
+use Rattle.symk_task.specs.Fits.{Fits}
+use Rattle.std.specs.Prelude.{replicate}
+use Rattle.task_run.specs.declared.counting.Counting.{Counting}
+use Rattle.task_run.specs.Values.{Valued}
+use Rattle.task_run.specs.Layer.{start_value}
+use Rattle.task_run.specs.Work.{Kept, AllPlaced}
+use Rattle.task_run.proofs.Rounds.{none_closed, begin_layer, end_layer, all_closed, same_rules}
+use Rattle.task_run.proofs.closing.closed_by.Goals as goal
+
+pub layers-init : goal.layers-init
+layers-init c =
+    let parts = c.parts-parts.result.now in
+    let fits = subst Fits (sym c.parts-parts.ensures.value) c.parts-parts.ensures.fits in
+    let variables : c.as_slice-variables.result.now ≡ parts.variables = c.as_slice-variables.ensures in
+    let defaults : c.as_slice.result.now ≡ parts.initial = c.as_slice.ensures in
+    let s : c.as_slice-2.result.now ≡ c.args.state.now = c.as_slice-2.ensures in
+    let values = c.in_ok-values.values.items in
+    let rules : c.as_slice-3.result.now ≡ parts.rules = c.as_slice-3.ensures in
+    none_closed parts c.args.state.now c.as_slice-counting.result.now values c.in_ok-work.work.stack.items c.in_ok-work.work.waiting.items c.in_ok-work.work.places.items fits
+    (c.in_ok-values.ensures.each ∙ ap (λ (z : List Variable). length z) variables)
+    (λ var lt.
+    let k = c.in_ok-values.ensures.values var (subst (λ (z : List Variable). var < length z) (sym variables) lt) in
+    k ∙ ap (λ (z : List Variable). start_value z c.as_slice.result.now c.as_slice-2.result.now var) variables ∙ ap (λ (z : List ℕ). start_value parts.variables z c.as_slice-2.result.now var) defaults ∙ ap (λ (z : List ℕ). start_value parts.variables parts.initial z var) s)
+    c.in_ok-work.ensures.stack (c.in_ok-work.ensures.waiting ∙ ap (λ (z : List Variable). replicate (length z) []) variables) (c.in_ok-work.ensures.places ∙ ap (λ (z : List Rule). replicate (length z) 0) rules)
+
+pub close_layer-requires-clause-kept : goal.close_layer-requires-clause-kept
+close_layer-requires-clause-kept c =
+    let parts = c.parts-parts.result.now in
+    let rules = c.as_slice-counting.result.now in
+    let at = c.layers.at in
+    let end = c.in_ok-at.at in
+    let zero_counting : Counting = record { layer = 0; rule = 0 } in
+    let layer = (get_or rules at zero_counting).layer in
+    let work = c.layers.work in
+    let new = c.stack_layer.new.self in
+    let fits = subst Fits (sym c.parts-parts.ensures.value) c.parts-parts.ensures.fits in
+    let are = same_rules c.args.task.now parts c.args.rules.now rules c.parts-parts.ensures.value c.as_slice-counting.ensures c.requires.rules in
+    let told = c.in_ok-at.ensures in
+    let inv = c.layers.invariant in
+    let ready = begin_layer parts c.args.state.now rules at end layer zero_counting c.layers.values.items work.stack.items new.stack.items work.waiting.items work.places.items fits are inv c.layers-test.true refl told.layer told.stacked told.only in
+    subst (λ (z : List (List ℕ)). Kept parts new.stack.items z) (sym told.waiting) ready.kept
+
+pub close_layer-requires-clause-placed : goal.close_layer-requires-clause-placed
+close_layer-requires-clause-placed c =
+    let parts = c.parts-parts.result.now in
+    let rules = c.as_slice-counting.result.now in
+    let at = c.layers.at in
+    let end = c.in_ok-at.at in
+    let zero_counting : Counting = record { layer = 0; rule = 0 } in
+    let layer = (get_or rules at zero_counting).layer in
+    let work = c.layers.work in
+    let new = c.stack_layer.new.self in
+    let fits = subst Fits (sym c.parts-parts.ensures.value) c.parts-parts.ensures.fits in
+    let are = same_rules c.args.task.now parts c.args.rules.now rules c.parts-parts.ensures.value c.as_slice-counting.ensures c.requires.rules in
+    let told = c.in_ok-at.ensures in
+    let inv = c.layers.invariant in
+    let ready = begin_layer parts c.args.state.now rules at end layer zero_counting c.layers.values.items work.stack.items new.stack.items work.waiting.items work.places.items fits are inv c.layers-test.true refl told.layer told.stacked told.only in
+    subst (λ (z : List (List ℕ)). AllPlaced parts layer c.layers.values.items new.stack.items z) (sym told.waiting) ready.placed
+
+pub layers-preserved : goal.layers-preserved
+layers-preserved c =
+    let parts = c.parts-parts.result.now in
+    let rules = c.as_slice-counting.result.now in
+    let at = c.layers.at in
+    let end = c.in_ok-at.at in
+    let zero_counting : Counting = record { layer = 0; rule = 0 } in
+    let layer = (get_or rules at zero_counting).layer in
+    let work = c.layers.work in
+    let new = c.stack_layer.new.self in
+    let fits = subst Fits (sym c.parts-parts.ensures.value) c.parts-parts.ensures.fits in
+    let are = same_rules c.args.task.now parts c.args.rules.now rules c.parts-parts.ensures.value c.as_slice-counting.ensures c.requires.rules in
+    let told = c.in_ok-at.ensures in
+    let inv = c.layers.invariant in
+    let ready = begin_layer parts c.args.state.now rules at end layer zero_counting c.layers.values.items work.stack.items new.stack.items work.waiting.items work.places.items fits are inv c.layers-test.true refl told.layer told.stacked told.only in
+    let next = c.close_layer.new in
+    let done = c.in_ok-close_layer.ensures in
+    end_layer parts c.args.state.now rules at end layer zero_counting c.layers.values.items work.stack.items next.values.items next.work.stack.items work.waiting.items next.work.waiting.items work.places.items next.work.places.items
+    fits are inv ready.below c.layers-test.true refl told.layer done.grows done.stuck done.kept done.fresh
+
+pub returns : goal.returns
+returns c =
+    let parts = c.parts-parts.result.now in
+    let rules = c.as_slice-counting.result.now in
+    let fits = subst Fits (sym c.parts-parts.ensures.value) c.parts-parts.ensures.fits in
+    let are = same_rules c.args.task.now parts c.args.rules.now rules c.parts-parts.ensures.value c.as_slice-counting.ensures c.requires.rules in
+    let work = c.layers.work in
+    let all = all_closed parts c.args.state.now rules c.layers.at c.layers.values.items work.stack.items work.waiting.items work.places.items fits are c.layers.invariant c.layers-test.false in
+    subst (λ (z : List ℕ). Valued c.args.task.now c.args.state.now z) (sym c.of-2.ensures) (subst (λ (z : TaskParts). Valued z c.args.state.now c.layers.values.items) c.parts-parts.ensures.value all)

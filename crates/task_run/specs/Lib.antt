@@ -1,0 +1,6 @@
+pub mod Values
+pub mod Layer
+pub mod Counted
+pub mod Work
+pub mod Looks
+pub mod Verdicts

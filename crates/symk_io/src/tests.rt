@@ -168,6 +168,8 @@ fn the_system_is_counted(rt: HostRuntime) {
         (Err(ErrorKind::OutOfMemory), Err(IoFault::Memory), 0),
     ] {
         let mut sink = HostSink::new(Fixed { answer });
+        assert!(rt; sink.flush().is_ok() == answer.is_ok());
+        let mut sink = HostSink::new(Fixed { answer });
         assert!(rt; put(&mut sink, b"hello") == want && sink.faults() == faults);
     }
 }

@@ -97,22 +97,33 @@ fn full(alloc: Global) -> Result<TaskParts, Memory> {
     })
 }
 
-#[test]
-fn writes_each_section_line_by_line(rt: HostRuntime) -> Result<(), Fail> {
-    let alloc = rt.alloc();
-    for (parts, want) in [
-        (
-            switch(alloc)?,
-            "begin_version\n3\nend_version\nbegin_metric\n0\nend_metric\n1\nbegin_variable\nvar0\n-1\n2\noff\non\nend_variable\n0\nbegin_state\n0\nend_state\nbegin_goal\n1\n0 1\nend_goal\n1\nbegin_operator\nswitch-on\n0\n1\n0 0 0 1\n1\nend_operator\n0\n",
-        ),
-        (
-            full(alloc)?,
-            "begin_version\n3\nend_version\nbegin_metric\n0\nend_metric\n2\nbegin_variable\nx\n-1\n2\n\nx1\nend_variable\nbegin_variable\nd\n7\n2\nno\nyes\nend_variable\n1\nbegin_mutex_group\n2\n0 0\n0 1\nend_mutex_group\nbegin_state\n0\n0\nend_state\nbegin_goal\n1\n1 1\nend_goal\n1\nbegin_operator\nflip\r\r\n1\n1 0\n2\n2 0 0 1 0 0 -1 1\n0 0 1 0\n18446744073709551615\nend_operator\n1\nbegin_rule\n1\n0 1\n1 0 1\nend_rule\n",
-        ),
-    ] {
-        assert!(rt; parts.fits());
-        let task = Task::of(parts);
-        assert_eq!(rt; write_task(alloc, &task)?.as_slice(), want.as_bytes());
+/// What is written of a task, where the parts fit.
+fn written(alloc: Global, parts: TaskParts) -> Result<Option<Vec<u8>>, Memory> {
+    if parts.fits() {
+        Ok(Some(write_task(alloc, &Task::of(parts))?))
+    } else {
+        Ok(None)
     }
+}
+
+const SWITCH: &str =
+    "begin_version\n3\nend_version\nbegin_metric\n0\nend_metric\n1\nbegin_variable\nvar0\n-1\n2\noff\non\nend_variable\n0\nbegin_state\n0\nend_state\nbegin_goal\n1\n0 1\nend_goal\n1\nbegin_operator\nswitch-on\n0\n1\n0 0 0 1\n1\nend_operator\n0\n";
+
+const FULL: &str =
+    "begin_version\n3\nend_version\nbegin_metric\n0\nend_metric\n2\nbegin_variable\nx\n-1\n2\n\nx1\nend_variable\nbegin_variable\nd\n7\n2\nno\nyes\nend_variable\n1\nbegin_mutex_group\n2\n0 0\n0 1\nend_mutex_group\nbegin_state\n0\n0\nend_state\nbegin_goal\n1\n1 1\nend_goal\n1\nbegin_operator\nflip\r\r\n1\n1 0\n2\n2 0 0 1 0 0 -1 1\n0 0 1 0\n18446744073709551615\nend_operator\n1\nbegin_rule\n1\n0 1\n1 0 1\nend_rule\n";
+
+#[test]
+fn writes_the_lines_of_a_switch(rt: HostRuntime) -> Result<(), Fail> {
+    let alloc = rt.alloc();
+    let bytes = written(alloc, switch(alloc)?)?;
+    assert!(rt; bytes.is_some_and(|bytes| bytes.as_slice() == SWITCH.as_bytes()));
+    Ok(())
+}
+
+#[test]
+fn writes_the_lines_of_each_section(rt: HostRuntime) -> Result<(), Fail> {
+    let alloc = rt.alloc();
+    let bytes = written(alloc, full(alloc)?)?;
+    assert!(rt; bytes.is_some_and(|bytes| bytes.as_slice() == FULL.as_bytes()));
     Ok(())
 }

@@ -1,13 +1,13 @@
 -- An operator applies where its preconditions have their values.
-use Rattle.std.proofs.Common.{◌≡◌, ℕ, ◌<◌, ◌↔◌, Bool, IsTrue, List, length, get_or, Option, Some, None, IsSomeAnd, IfSome, slice_get, refl, sym, ap, subst, ◌∙◌, arith}
+use Rattle.std.proofs.Common.{◌≡◌, ℕ, ◌↔◌, Bool, IsTrue, List, length, get_or, Option, Some, None, IsSomeAnd, IfSome, slice_get, sym, subst, arith}
 use Rattle.std.specs.List.{All}
 use Rattle.symk_task.specs.declared.parts.Fact.{Fact}
 use Rattle.symk_task.specs.declared.parts.Effect.{Effect}
 use Rattle.symk_task.specs.declared.parts.Operator.{Operator}
 use Rattle.symk_task.specs.declared.parts.TaskParts.{TaskParts}
 use Rattle.symk_task.specs.Steps.{Holds, Allows, Applies}
-use Rattle.symk_task.specs.Fits.{Fits, FitsOperator, FitsEffect, InRange}
-use Rattle.task_run.specs.Values.{HasValue, Valued, IsOn, AreBelow, AllowsBy, AppliesBy}
+use Rattle.symk_task.specs.Fits.{Fits, FitsOperator, InRange}
+use Rattle.task_run.specs.Values.{HasValue, Valued, IsOn, AreBelow, AppliesBy}
 use Rattle.symk_task.proofs.Places.{within_some}
 use Rattle.task_run.proofs.Stepping.{effect_on}
 

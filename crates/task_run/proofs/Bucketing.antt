@@ -1,5 +1,5 @@
 -- The rules that count, by layer.
-use Rattle.std.proofs.Common.{◌≡◌, ℕ, zero, suc, ◌+◌, ◌<◌, ◌≤◌, ◌⊎◌, inl, inr, List, [], ◌∷◌, ◌++◌, length, get_or, Some, IsSomeAnd, Option, slice_get, Contains, Any, refl, sym, ap, subst, ◌∙◌, arith, length-append}
+use Rattle.std.proofs.Common.{◌≡◌, ℕ, ◌+◌, ◌<◌, ◌≤◌, ◌⊎◌, inl, inr, List, [], ◌∷◌, ◌++◌, length, get_or, Some, IsSomeAnd, Option, slice_get, Contains, Any, sym, ap, subst, ◌∙◌, arith, length-append}
 use Rattle.std.specs.List.{All}
 use Rattle.std.proofs.Math.ListN.{get_or-append}
 use Rattle.std.proofs.Math.Seq.{get_or-append_seam}
@@ -9,7 +9,7 @@ use Rattle.symk_task.specs.declared.parts.Rule.{Rule}
 use Rattle.symk_task.specs.declared.parts.TaskParts.{TaskParts}
 use Rattle.task_run.specs.declared.counting.Counting.{Counting}
 use Rattle.task_run.specs.Layer.{IsOwn}
-use Rattle.task_run.specs.Counted.{IsCounting, AreRulesOf, IsLayer}
+use Rattle.task_run.specs.Counted.{IsCounting}
 use Rattle.task_run.specs.Work.{Stands}
 use Rattle.symk_task.proofs.Layers.{one_layer}
 use Rattle.task_run.proofs.Placing.{stands_left, stands_right, stands_parts}

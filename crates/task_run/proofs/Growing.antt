@@ -2,7 +2,6 @@
 use Rattle.std.proofs.Common.{◌≡◌, ℕ, zero, suc, ◌+◌, ◌<◌, ◌≤◌, inl, inr, Bool, true, false, cond, ◌==◌, List, [], ◌∷◌, ◌++◌, take, length, get_or, Contains, refl, sym, ap, subst, ◌∙◌, arith}
 use Rattle.std.proofs.Math.ListN.{set}
 use Rattle.std.proofs.lemmas.Bool.{eq-eqb, ne_eqb, cases_eq}
-use Rattle.std.proofs.lemmas.List.{length-set}
 use Rattle.symk_task.specs.declared.parts.Rule.{Rule}
 use Rattle.symk_task.specs.declared.parts.Variable.{Variable}
 use Rattle.symk_task.specs.declared.parts.TaskParts.{TaskParts}
@@ -11,7 +10,7 @@ use Rattle.std.specs.List.{count_by}
 use Rattle.std.proofs.lemmas.Option.{slice_get_read}
 use Rattle.symk_task.specs.Fits.{Fits, FitsRule}
 use Rattle.symk_task.proofs.Places.{within_some}
-use Rattle.task_run.specs.Layer.{Raises, Grows, at_default, start_value}
+use Rattle.task_run.specs.Layer.{Grows, at_default, start_value}
 use Rattle.task_run.specs.Layer.Grows.{done, by}
 
 pub at_default_falls : (initial values : List ℕ) (var new : ℕ) → var < length values → var < length initial → get_or values var 0 ≡ get_or initial var 0 → (new ≡ get_or initial var 0 → ⊥) → at_default initial (set values var new) < at_default initial values

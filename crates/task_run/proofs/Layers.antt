@@ -1,18 +1,18 @@
 -- What the values of the layers closed so far say.
-use Rattle.std.proofs.Common.{◌≡◌, ℕ, zero, suc, ◌+◌, ◌-◌, ◌<◌, ◌≤◌, ◌⊎◌, ◌↔◌, inl, inr, Bool, true, false, cond, List, [], ◌∷◌, length, get_or, take, Option, Some, None, IsSomeAnd, IfSome, slice_get, Contains, refl, sym, ap, subst, ◌∙◌, arith}
+use Rattle.std.proofs.Common.{◌≡◌, ℕ, zero, suc, ◌+◌, ◌-◌, ◌<◌, ◌≤◌, ◌⊎◌, ◌↔◌, inl, inr, true, false, cond, List, [], ◌∷◌, length, get_or, take, Option, Some, None, IsSomeAnd, IfSome, slice_get, Contains, refl, sym, ap, subst, ◌∙◌, arith}
 use Rattle.std.proofs.Math.ListN.{set}
 use Rattle.std.specs.List.{All, AllByRecursion, count_by}
 use Rattle.std.specs.Option.{is_none}
-use Rattle.std.proofs.lemmas.Bool.{cases_eq, cases_lt}
-use Rattle.std.proofs.lemmas.List.{length-set, get_or-set_same, get_or-set_other, get_or_default}
+use Rattle.std.proofs.lemmas.Bool.{cases_eq}
+use Rattle.std.proofs.lemmas.List.{length-set, get_or-set_same, get_or-set_other}
 use Rattle.std.proofs.lemmas.List.Elements.{recursion_from_All, All-from_recursion, All-contains, Contains-get_or}
 use Rattle.std.proofs.lemmas.Option.{get_or_from_slice_get, slice_get_within}
 use Rattle.symk_task.specs.declared.parts.Fact.{Fact}
 use Rattle.symk_task.specs.declared.parts.Rule.{Rule}
 use Rattle.symk_task.specs.declared.parts.Variable.{Variable}
 use Rattle.symk_task.specs.declared.parts.TaskParts.{TaskParts}
-use Rattle.symk_task.specs.Variables.{IsBase, HasLayer, IsState, is_base, place, range, other_value}
-use Rattle.symk_task.specs.Derived.{Counts, HasRule, Met, Derives, Raised, RaisedBelow}
+use Rattle.symk_task.specs.Variables.{IsBase, HasLayer, is_base, place, other_value}
+use Rattle.symk_task.specs.Derived.{HasRule, Met, Derives, Raised, RaisedBelow}
 use Rattle.symk_task.specs.Derived.Met.{base, same, raised, default}
 use Rattle.symk_task.specs.Steps.{Holds}
 use Rattle.symk_task.specs.Fits.{Fits, FitsRule, InRange, MayStand}

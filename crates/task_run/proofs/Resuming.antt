@@ -1,5 +1,5 @@
 -- The conditions of a rule before the place where the last look at it stopped keep their values.
-use Rattle.std.proofs.Common.{◌≡◌, ℕ, zero, suc, ◌+◌, ◌-◌, ◌<◌, ◌≤◌, ◌⊎◌, inl, inr, List, [], length, get_or, Some, slice_get, Contains, refl, sym, ap, subst, ◌∙◌, arith}
+use Rattle.std.proofs.Common.{◌≡◌, ℕ, ◌+◌, ◌-◌, ◌<◌, inl, inr, List, [], length, get_or, Some, slice_get, sym, ap, subst, ◌∙◌, arith}
 use Rattle.std.proofs.Math.ListN.{set}
 use Rattle.std.specs.List.{All}
 use Rattle.std.proofs.lemmas.Bool.{cases_eq, cases_lt}
@@ -8,12 +8,12 @@ use Rattle.std.proofs.lemmas.Option.{get_or_from_slice_get, slice_get_within}
 use Rattle.symk_task.specs.declared.parts.Fact.{Fact}
 use Rattle.symk_task.specs.declared.parts.Rule.{Rule}
 use Rattle.symk_task.specs.declared.parts.TaskParts.{TaskParts}
-use Rattle.symk_task.specs.Variables.{HasLayer, other_value}
+use Rattle.symk_task.specs.Variables.{HasLayer}
 use Rattle.symk_task.specs.Fits.{Fits, FitsRule, MayStand}
 use Rattle.task_run.specs.Values.{HasValue}
 use Rattle.task_run.specs.Layer.{IsOwn, IsOpen, Raises}
 use Rattle.task_run.specs.Work.{HasBefore, IsFresh, Passed}
-use Rattle.task_run.specs.Looks.{HaveBetween, FirstUnmet, Lacks}
+use Rattle.task_run.specs.Looks.{HaveBetween, Lacks}
 use Rattle.symk_task.proofs.Layers.{base_derived, one_layer, two_values}
 use Rattle.task_run.proofs.Layers.{counts, may}
 

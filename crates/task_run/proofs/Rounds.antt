@@ -1,21 +1,19 @@
 -- The layers are closed one after the other.
-use Rattle.std.proofs.Common.{◌≡◌, ℕ, zero, suc, ◌+◌, ◌-◌, ◌<◌, ◌≤◌, ◌⊎◌, inl, inr, List, [], ◌∷◌, length, get_or, Option, Some, None, IsSomeAnd, IfSome, slice_get, Contains, Any, refl, sym, ap, subst, ◌∙◌, arith}
+use Rattle.std.proofs.Common.{◌≡◌, ℕ, zero, suc, ◌+◌, ◌-◌, ◌<◌, ◌≤◌, ◌⊎◌, inl, inr, List, [], length, get_or, Option, Some, None, IsSomeAnd, IfSome, slice_get, Contains, Any, refl, sym, ap, subst, ◌∙◌, arith}
 use Rattle.std.specs.Prelude.{replicate}
-use Rattle.std.specs.List.{All, count_by}
+use Rattle.std.specs.List.{All}
 use Rattle.std.proofs.lemmas.Bool.{cases_eq, cases_lt}
 use Rattle.std.proofs.lemmas.List.{get_or_default}
-use Rattle.std.proofs.lemmas.List.Elements.{All-contains}
 use Rattle.std.proofs.lemmas.Option.{get_or_from_slice_get, slice_get_within, slice_get_read}
 use Rattle.symk_task.specs.declared.parts.Rule.{Rule}
-use Rattle.symk_task.specs.declared.parts.Variable.{Variable}
 use Rattle.symk_task.specs.declared.parts.TaskParts.{TaskParts}
-use Rattle.symk_task.specs.Variables.{HasLayer, IsState}
+use Rattle.symk_task.specs.Variables.{HasLayer}
 use Rattle.symk_task.specs.Fits.{Fits, FitsRule}
 use Rattle.task_run.specs.declared.counting.Counting.{Counting}
 use Rattle.task_run.specs.Values.{Valued}
 use Rattle.task_run.specs.Layer.{IsOwn, Grows, IsStuck, start_value}
 use Rattle.task_run.specs.Counted.{IsCounting, AreRulesOf, IsLayer}
-use Rattle.task_run.specs.Work.{Stands, AllPlaced, Placed, Kept, IsFresh, waiting_at}
+use Rattle.task_run.specs.Work.{Stands, AllPlaced, Placed, Kept, IsFresh}
 use Rattle.task_run.specs.Work.Placed.{stacked, idle}
 use Rattle.symk_task.proofs.Layers.{one_layer}
 use Rattle.task_run.proofs.Layers.{Below, skip, layer_done, started, valued}

@@ -1,7 +1,6 @@
 -- The rules that count, by layer.
-use Rattle.std.specs.Prelude.{◌≡◌, ℕ, ◌<◌, ◌≤◌, ◌↔◌, List, length, Some, slice_get, slice_index_or, All, Contains, IsSomeAnd, IfSome}
+use Rattle.std.specs.Prelude.{◌≡◌, ℕ, ◌<◌, ◌≤◌, List, length, slice_get, slice_index_or, All, Contains, IsSomeAnd}
 use Rattle.std.specs.List.Sorted.{IsNonDecreasingBy}
-use Rattle.symk_task.specs.declared.parts.Rule.{Rule}
 use Rattle.symk_task.specs.declared.parts.TaskParts.{TaskParts}
 use Rattle.task_run.specs.declared.counting.Counting.{Counting}
 use Rattle.task_run.specs.Layer.{IsOwn}

@@ -1,5 +1,5 @@
 -- How the values of the derived variables of a layer are found.
-use Rattle.std.specs.Prelude.{◌≡◌, ◌≢◌, ℕ, ◌<◌, Bool, false, List, [], ◌∷◌, length, take, slice_index, slice_set, slice_get, All, Contains, ◌==◌, ◌+◌, if◌then◌else◌, count_by}
+use Rattle.std.specs.Prelude.{◌≡◌, ◌≢◌, ℕ, false, List, [], ◌∷◌, take, slice_index, slice_set, slice_get, All, Contains, ◌==◌, ◌+◌, if◌then◌else◌, count_by}
 use Rattle.std.specs.Option.{option_map_or}
 use Rattle.symk_task.specs.declared.parts.Variable.{Variable}
 use Rattle.symk_task.specs.declared.parts.Rule.{Rule}

@@ -4,7 +4,7 @@ use Rattle.symk_task.specs.declared.parts.Fact.{Fact}
 use Rattle.symk_task.specs.declared.parts.Rule.{Rule}
 use Rattle.symk_task.specs.declared.parts.TaskParts.{TaskParts}
 use Rattle.task_run.specs.Values.{HasValue}
-use Rattle.task_run.specs.Layer.{IsOpen, Raises}
+use Rattle.task_run.specs.Layer.{IsOpen}
 use Rattle.task_run.specs.declared.looks.Look.{Look}
 use Rattle.task_run.specs.declared.looks.Look.TheVariants.{Done, Ready, WaitsFor}
 

@@ -1,11 +1,14 @@
 //! Worked rows.
 
+ghost use Rattle.std.specs.Prelude.{◌<◌, length};
+ghost use Rattle.symk_task.specs.Variables.{IsState};
+
 use crate::{Verdict, applies, closed, goal_holds, run_plan, step, successor};
 use std::alloc::Global;
 use std::process::Abort;
 use std::test::Fail;
 use symk_task::{
-    Effect, Fact, List, Memory, Name, Operator, Plan, Rule, Task, TaskParts, Variable,
+    Effect, Fact, List, Memory, Name, Operator, Plan, Rule, State, Task, TaskParts, Variable,
 };
 
 fn name(alloc: Global) -> Name {
@@ -94,16 +97,26 @@ struct Rows<'a> {
     rules: &'a [RuleRow<'a>],
 }
 
-fn task(rt: &impl Abort, alloc: Global, rows: &Rows) -> Result<Task, Memory> {
-    let parts = TaskParts {
+fn parts(alloc: Global, rows: &Rows) -> Result<TaskParts, Memory> {
+    let mut parts = TaskParts {
         metric: 0,
-        variables: variables(alloc, rows.layers)?,
+        variables: List::of(Vec::new(alloc)),
         mutexes: List::of(Vec::new(alloc)),
-        initial: List::of(Vec::from_slice(alloc, rows.initial)?),
-        goal: facts(alloc, rows.goal)?,
-        operators: operators(alloc, rows.effects)?,
-        rules: rules(alloc, rows.rules)?,
+        initial: List::of(Vec::new(alloc)),
+        goal: List::of(Vec::new(alloc)),
+        operators: List::of(Vec::new(alloc)),
+        rules: List::of(Vec::new(alloc)),
     };
+    parts.variables = variables(alloc, rows.layers)?;
+    parts.initial = List::of(Vec::from_slice(alloc, rows.initial)?);
+    parts.goal = facts(alloc, rows.goal)?;
+    parts.operators = operators(alloc, rows.effects)?;
+    parts.rules = rules(alloc, rows.rules)?;
+    Ok(parts)
+}
+
+fn task(rt: &impl Abort, alloc: Global, rows: &Rows) -> Result<Task, Memory> {
+    let parts = parts(alloc, rows)?;
     assert!(rt; parts.fits());
     Ok(Task::of(parts))
 }
@@ -167,6 +180,35 @@ const OFF_THEN_ON: Rows = Rows {
     rules: &[],
 };
 
+fn check_closed(
+    rt: &impl Abort,
+    alloc: Global,
+    task: &Task,
+    state: &State,
+    values: &[u32],
+) -> Result<(), Fail>
+    requires { IsState task.now state.now }
+{
+    let found = closed(alloc, task, state)?;
+    assert_eq!(rt; found.as_slice(), values);
+    Ok(())
+}
+
+/// All values after the operator.
+fn check_next(
+    rt: &impl Abort,
+    alloc: Global,
+    task: &Task,
+    state: &State,
+    values: &[u32],
+) -> Result<(), Fail>
+    requires task { 0 < length task.now.operators }
+    requires state { IsState task.now state.now }
+{
+    let next = step(alloc, task, 0, state)?.expect(rt, "the operator applies");
+    check_closed(rt, alloc, task, &next, values)
+}
+
 /// All values in the initial state and after the operator.
 fn check_values(
     rt: &impl Abort,
@@ -176,38 +218,52 @@ fn check_values(
     after: &[u32],
 ) -> Result<(), Fail> {
     let task = task(rt, alloc, rows)?;
+    assert_eq!(rt; task.operators(), 1);
     let start = task.start(alloc)?;
-    let values = closed(alloc, &task, &start)?;
-    assert_eq!(rt; values.as_slice(), before);
-    let next = step(alloc, &task, 0, &start)?.expect(rt, "the operator applies");
-    let values = closed(alloc, &task, &next)?;
-    assert_eq!(rt; values.as_slice(), after);
-    Ok(())
+    check_closed(rt, alloc, &task, &start, before)?;
+    check_next(rt, alloc, &task, &start, after)
 }
 
 #[test]
-fn values_follow_the_state(rt: HostRuntime) -> Result<(), Fail> {
-    let alloc = rt.alloc();
-    check_values(&rt, alloc, &CHAIN, &[0, 0, 0, 1], &[1, 1, 1, 0])?;
-    check_values(&rt, alloc, &TO_DEFAULT, &[0, 0], &[1, 1])?;
-    check_values(&rt, alloc, &EXCHANGE, &[1, 0], &[0, 1])?;
-    check_values(&rt, alloc, &ON_THEN_OFF, &[0], &[0])?;
-    check_values(&rt, alloc, &OFF_THEN_ON, &[0], &[1])
+fn derived_values_follow_the_rules(rt: HostRuntime) -> Result<(), Fail> {
+    check_values(&rt, rt.alloc(), &CHAIN, &[0, 0, 0, 1], &[1, 1, 1, 0])?;
+    check_values(&rt, rt.alloc(), &TO_DEFAULT, &[0, 0], &[1, 1])
+}
+
+#[test]
+fn effects_see_the_old_state(rt: HostRuntime) -> Result<(), Fail> {
+    check_values(&rt, rt.alloc(), &EXCHANGE, &[1, 0], &[0, 1])?;
+    check_values(&rt, rt.alloc(), &ON_THEN_OFF, &[0], &[0])?;
+    check_values(&rt, rt.alloc(), &OFF_THEN_ON, &[0], &[1])
+}
+
+fn check_answers(
+    rt: &impl Abort,
+    alloc: Global,
+    task: &Task,
+    state: &State,
+    may_step: bool,
+    at_goal: bool,
+) -> Result<(), Fail>
+    requires task { 0 < length task.now.operators }
+    requires state { IsState task.now state.now }
+{
+    assert_eq!(rt; applies(alloc, task, 0, state)?, may_step);
+    assert_eq!(rt; goal_holds(alloc, task, state)?, at_goal);
+    Ok(())
 }
 
 #[test]
 fn one_state_is_asked(rt: HostRuntime) -> Result<(), Fail> {
-    let alloc = rt.alloc();
-    let task = task(&rt, alloc, &SWITCH)?;
-    let off = task.start(alloc)?;
-    let answer = applies(alloc, &task, 0, &off)?;
+    let task = task(&rt, rt.alloc(), &SWITCH)?;
+    assert_eq!(rt; task.operators(), 1);
+    let off = task.start(rt.alloc())?;
+    check_answers(&rt, rt.alloc(), &task, &off, true, false)?;
+    let answer = applies(rt.alloc(), &task, 0, &off)?;
     assert!(rt; answer);
-    assert!(rt; !goal_holds(alloc, &task, &off)?);
-    let on = successor(alloc, &task, 0, &off)?;
+    let on = successor(rt.alloc(), &task, 0, &off)?;
     assert_eq!(rt; on.as_slice(), [1].as_slice());
-    assert!(rt; !applies(alloc, &task, 0, &on)?);
-    assert!(rt; goal_holds(alloc, &task, &on)?);
-    Ok(())
+    check_answers(&rt, rt.alloc(), &task, &on, false, true)
 }
 
 fn check_run(

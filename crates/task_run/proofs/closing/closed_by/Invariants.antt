@@ -1,4 +1,4 @@
-use Rattle.std.proofs.Common.{ℕ, ◌-◌, length}
+use Rattle.std.proofs.Common.{◌-◌, length}
 use Rattle.task_run.proofs.Rounds.{IsClosedTo}
 use Rattle.task_run.proofs.closing.closed_by.Given as goal
 

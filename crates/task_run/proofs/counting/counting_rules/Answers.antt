@@ -1,9 +1,7 @@
-use Rattle.std.proofs.Common.{◌≡◌, ◌+◌, ◌<◌, ◌++◌, ◌∙◌, ℕ, List, [], ◌∷◌, All, Contains, length, ap, sym, subst, arith}
+use Rattle.std.proofs.Common.{◌≡◌, ◌<◌, ◌++◌, List, [], ◌∷◌, length, subst}
 use Rattle.symk_task.specs.declared.parts.Rule.{Rule}
-use Rattle.task_run.specs.declared.counting.Counting.{Counting}
-use Rattle.task_run.specs.Counted.{IsCounting}
 use Rattle.task_run.proofs.Placing.{rule_at}
-use Rattle.task_run.proofs.Bucketing.{counting_one, each_one, each_same, counting_within}
+use Rattle.task_run.proofs.Bucketing.{counting_one, each_one, each_same}
 use Rattle.task_run.proofs.counting.counting_rules.Goals as goal
 use Rattle.task_run.proofs.counting.counting_rules.Goals.{in-Some+in_ok-push, in_default}
 

@@ -1,4 +1,4 @@
-use Rattle.std.proofs.Common.{◌≡◌, ℕ, ◌<◌, All, Contains}
+use Rattle.std.proofs.Common.{◌<◌, All, Contains}
 use Rattle.task_run.specs.declared.counting.Counting.{Counting}
 use Rattle.task_run.specs.Counted.{IsCounting}
 use Rattle.task_run.proofs.counting.counting_rules.Given as goal

@@ -1,13 +1,12 @@
-use Rattle.std.proofs.Common.{◌≡◌, ◌<◌, ◌∙◌, ◌++◌, ℕ, List, [], ◌∷◌, length, get_or, slice_get, IfSome, refl, sym, subst, ap, arith}
+use Rattle.std.proofs.Common.{◌≡◌, ◌<◌, ◌∙◌, ◌++◌, ℕ, List, [], length, slice_get, IfSome, refl, sym, subst, arith}
 use Rattle.std.proofs.Math.ListN.{set}
 use Rattle.std.proofs.lemmas.List.{length-set}
-use Rattle.symk_task.specs.declared.parts.Rule.{Rule}
-use Rattle.task_run.specs.Layer.{Raises, Grows, at_default}
+use Rattle.task_run.specs.Layer.{Raises}
 use Rattle.task_run.specs.Layer.Grows.{done, by}
 use Rattle.task_run.proofs.Growing.{at_default_falls}
-use Rattle.task_run.specs.Work.{Kept, AllPlaced, AllBut, Passed, waiting_at}
-use Rattle.task_run.proofs.Placing.{raised_on, kept_wake, rule_at, raises_at, Rule_at}
-use Rattle.task_run.proofs.Resuming.{passed_fresh, passed_raise, fresh_passed}
+use Rattle.task_run.specs.Work.{AllPlaced, AllBut, Passed, waiting_at}
+use Rattle.task_run.proofs.Placing.{raised_on, kept_wake, rule_at, raises_at}
+use Rattle.task_run.proofs.Resuming.{passed_fresh, passed_raise}
 use Rattle.task_run.proofs.layer.close_layer.Goals as goal
 
 pub raised-init : goal.raised-init

@@ -1,4 +1,4 @@
-use Rattle.std.proofs.Common.{◌≡◌, ℕ, length}
+use Rattle.std.proofs.Common.{◌≡◌, length}
 use Rattle.task_run.specs.Layer.{Grows, at_default}
 use Rattle.task_run.specs.Work.{AllPlaced, Kept, Passed}
 use Rattle.task_run.proofs.layer.close_layer.Given as goal

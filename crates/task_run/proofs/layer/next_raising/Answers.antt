@@ -1,10 +1,9 @@
-use Rattle.std.proofs.Common.{◌≡◌, ◌<◌, ◌∙◌, ◌++◌, ℕ, List, [], ◌∷◌, length, get_or, IfSome, sym, subst, ap, arith}
+use Rattle.std.proofs.Common.{◌≡◌, ◌<◌, ◌∙◌, ℕ, List, [], length, get_or, IfSome, sym, subst, arith}
 use Rattle.std.proofs.lemmas.Grind.{get_or_default_zero}
-use Rattle.std.proofs.Math.ListN.{set}
 use Rattle.symk_task.specs.declared.parts.Rule.{Rule}
-use Rattle.task_run.specs.Work.{Kept, AllPlaced, AllBut, Passed, waiting_at}
-use Rattle.task_run.specs.Looks.{Finds, Lacks, HaveBetween}
-use Rattle.task_run.specs.Layer.{Raises, IsOpen}
+use Rattle.task_run.specs.Work.{AllPlaced}
+use Rattle.task_run.specs.Looks.{Lacks, HaveBetween}
+use Rattle.task_run.specs.Layer.{Raises}
 use Rattle.task_run.proofs.Placing.{popped, back_idle, lacks_waits, lacks_within, all_stuck, kept_pop, kept_wait, rule_at, none_left}
 use Rattle.task_run.proofs.Resuming.{passed_wait, ready_raises}
 use Rattle.task_run.proofs.layer.next_raising.Goals as goal

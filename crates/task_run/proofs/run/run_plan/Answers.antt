@@ -1,6 +1,5 @@
-use Rattle.std.proofs.Common.{◌≡◌, ◌<◌, ◌≤◌, ◌+◌, ◌∙◌, List, ℕ, length, get_or, take, sym, subst, ap, arith}
-use Rattle.symk_task.specs.Plans.{Runs, IsInitial, cost_of}
-use Rattle.symk_task.specs.Variables.{IsState}
+use Rattle.std.proofs.Common.{◌<◌, ◌≤◌, ◌∙◌, List, ℕ, length, get_or, sym, subst}
+use Rattle.symk_task.specs.Plans.{Runs}
 use Rattle.symk_task.specs.Steps.{Step, Applies, After}
 use Rattle.std.proofs.lemmas.Bool.{false≢true}
 use Rattle.std.proofs.lemmas.List.{take_all}

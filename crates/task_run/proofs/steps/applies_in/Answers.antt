@@ -1,4 +1,4 @@
-use Rattle.std.proofs.Common.{◌≡◌, ◌<◌, ◌∙◌, List, ℕ, length, get_or, sym, subst, ap}
+use Rattle.std.proofs.Common.{◌∙◌, List, ℕ, sym, subst, ap}
 use Rattle.symk_task.specs.declared.parts.TaskParts.{TaskParts}
 use Rattle.task_run.specs.Values.{Valued}
 use Rattle.task_run.proofs.Stepping.{operator_at}

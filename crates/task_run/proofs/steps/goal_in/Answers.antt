@@ -1,7 +1,5 @@
-use Rattle.std.proofs.Common.{◌≡◌, ◌∙◌, List, get_or, sym, ap, subst}
-use Rattle.symk_task.specs.declared.parts.Fact.{Fact}
+use Rattle.std.proofs.Common.{◌≡◌, ◌∙◌, ap}
 use Rattle.symk_task.specs.declared.parts.TaskParts.{TaskParts}
-use Rattle.task_run.specs.Values.{HasValue, Valued}
 use Rattle.task_run.proofs.Applying.{goal_law}
 use Rattle.task_run.proofs.steps.goal_in.Goals as goal
 

@@ -1,4 +1,4 @@
-use Rattle.std.proofs.Common.{◌≡◌, List, ℕ, []}
+use Rattle.std.proofs.Common.{◌≡◌, []}
 use Rattle.std.specs.Prelude.{replicate}
 use Rattle.task_run.proofs.work.none_waiting.Given as goal
 

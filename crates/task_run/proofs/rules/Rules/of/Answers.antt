@@ -1,4 +1,4 @@
-use Rattle.std.proofs.Common.{◌≡◌, All, Contains, rules, subst}
+use Rattle.std.proofs.Common.{rules, subst}
 use Rattle.std.proofs.lemmas.List.Sorted.{IsNonDecreasingBy-from_sort_by_key, All-permutation, Contains-permutation}
 use Rattle.symk_task.specs.declared.parts.TaskParts.{TaskParts}
 use Rattle.task_run.specs.declared.counting.Counting.{Counting}

@@ -1,8 +1,5 @@
-use Rattle.std.proofs.Common.{◌≡◌, ◌+◌, ◌++◌, ℕ, List, [], ◌∷◌, get_or, subst, sym, arith}
-use Rattle.std.specs.List.{Any}
-use Rattle.std.proofs.Common.{◌⊎◌, ◌≤◌, ◌<◌}
+use Rattle.std.proofs.Common.{◌≡◌, ◌++◌, [], ◌∷◌, get_or, arith}
 use Rattle.task_run.specs.declared.counting.Counting.{Counting}
-use Rattle.task_run.specs.Work.{Stands}
 use Rattle.task_run.proofs.Bucketing.{same_more, stacked_more, only_more}
 use Rattle.task_run.proofs.work.Work.stack_layer.Goals as goal
 

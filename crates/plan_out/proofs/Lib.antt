@@ -1,0 +1,4 @@
+pub mod Growth
+pub mod Units
+pub mod Numbers
+pub mod Checking

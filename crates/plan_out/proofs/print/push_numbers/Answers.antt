@@ -1,0 +1,11 @@
+use Rattle.std.proofs.Common.{◌≡◌, ◌++◌, get_or, sym, ap, ◌∙◌}
+use Rattle.plan_out.specs.Texts.{spaced}
+use Rattle.plan_out.proofs.Growth.{one_more}
+use Rattle.plan_out.proofs.print.push_numbers.Goals as goal
+
+pub loop-i-preserved : goal.loop-i-preserved
+loop-i-preserved c =
+    let operators = c.args.operators.now in
+    let i = c.loop-i.i in
+    c.in_ok-push_spaced.ensures ∙ ap (λ t. t ++ spaced (get_or operators i 0)) c.loop-i.invariant
+    ∙ sym (one_more spaced c.args.text.now operators i 0 c.loop-i-test.true)

@@ -1,0 +1,14 @@
+pub mod Whole
+pub mod WordsLeft
+pub mod Lines
+pub mod NumbersLeft
+pub mod Sections
+pub mod Spelling
+pub mod Blanks
+pub mod EffectLines
+pub mod RuleSection
+pub mod Tests
+pub mod OperatorSection
+pub mod FactSections
+pub mod VariableSection
+pub mod Widths

@@ -1,0 +1,14 @@
+//! How much a task file can state.
+
+/// The most variables.
+pub const MOST_VARIABLES: u64 = 65536;
+/// The most values of a variable.
+pub const MOST_VALUES: u64 = 65536;
+/// The greatest layer.
+pub const LAST_LAYER: u64 = 65535;
+/// The most bits of a state: the sum of the widths of the base variables.
+pub const MOST_BITS: u64 = 4096;
+/// The most facts, conditions or effects of one list.
+pub const MOST_FACTS: u64 = 65536;
+/// The most mutex groups, operators or rules.
+pub const MOST_ITEMS: u64 = 1_000_000;

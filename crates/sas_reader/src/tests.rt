@@ -1,0 +1,172 @@
+//! Worked files.
+
+use crate::{ReadFault, Shape, read_task};
+use std::alloc::Global;
+use std::test::Fail;
+
+/// One variable and one operator.
+fn file_a() -> &'static [u8] {
+    b"begin_version\n3\nend_version\nbegin_metric\n0\nend_metric\n1\nbegin_variable\nvar0\n-1\n2\noff\non\nend_variable\n0\nbegin_state\n0\nend_state\nbegin_goal\n1\n0 1\nend_goal\n1\nbegin_operator\nswitch-on\n0\n1\n0 0 0 1\n1\nend_operator\n0\n"
+}
+
+/// A derived variable that rules lead to.
+fn file_j() -> &'static [u8] {
+    b"begin_version\n3\nend_version\nbegin_metric\n0\nend_metric\n4\nbegin_variable\nx\n-1\n2\nx0\nx1\nend_variable\nbegin_variable\nd1\n0\n2\nno\nyes\nend_variable\nbegin_variable\nd2\n0\n2\nno\nyes\nend_variable\nbegin_variable\nd3\n1\n2\nno\nyes\nend_variable\n0\nbegin_state\n0\n0\n0\n0\nend_state\nbegin_goal\n1\n2 1\nend_goal\n1\nbegin_operator\ngo\n0\n1\n0 0 0 1\n1\nend_operator\n3\nbegin_rule\n1\n1 1\n2 0 1\nend_rule\nbegin_rule\n1\n0 1\n1 0 1\nend_rule\nbegin_rule\n1\n2 0\n3 0 1\nend_rule\n"
+}
+
+/// The shape of each line of the first file.
+fn shapes() -> [Shape; 31] {
+    [
+        Shape::BeginVersion,
+        Shape::Three,
+        Shape::EndVersion,
+        Shape::BeginMetric,
+        Shape::Metric,
+        Shape::EndMetric,
+        Shape::Count,
+        Shape::BeginVariable,
+        Shape::Name,
+        Shape::Layer,
+        Shape::Range,
+        Shape::Name,
+        Shape::Name,
+        Shape::EndVariable,
+        Shape::Count,
+        Shape::BeginState,
+        Shape::Value,
+        Shape::EndState,
+        Shape::BeginGoal,
+        Shape::Count,
+        Shape::Fact,
+        Shape::EndGoal,
+        Shape::Count,
+        Shape::BeginOperator,
+        Shape::Name,
+        Shape::Count,
+        Shape::Count,
+        Shape::Effect,
+        Shape::Cost,
+        Shape::EndOperator,
+        Shape::Count,
+    ]
+}
+
+/// Where the text offends, and the word for what is wanted there.
+fn offence_of(alloc: Global, text: &[u8]) -> Result<Option<(u64, &'static str)>, Fail> {
+    match read_task(alloc, text) {
+        Ok(_) => Ok(None),
+        Err(ReadFault::Offence { line, wanted }) => Ok(Some((line, wanted.text()))),
+        Err(fault) => Err(fault.into()),
+    }
+}
+
+/// The text with the line of this number, counted from 1, made into others.
+fn with_line(alloc: Global, text: &[u8], number: u64, line: &[u8]) -> Result<Vec<u8>, Fail> {
+    let mut made = Vec::new(alloc);
+    let mut at: u64 = 1;
+    for byte in text {
+        if at != number {
+            made.push(*byte)?;
+        } else if *byte == b'\n' {
+            made.extend_from_slice(line)?;
+            made.push(*byte)?;
+        }
+        if *byte == b'\n' {
+            at = at.saturating_add(1);
+        }
+    }
+    Ok(made)
+}
+
+#[test]
+fn reads_whole_files(rt: HostRuntime) -> Result<(), Fail> {
+    let alloc = rt.alloc();
+    let task = read_task(alloc, file_a())?;
+    let parts = task.parts();
+    assert_eq!(rt; parts.metric, 0);
+    assert_eq!(rt; parts.variables.as_slice().len(), 1);
+    assert_eq!(rt; parts.operators.as_slice().len(), 1);
+    assert_eq!(rt; parts.initial.as_slice(), [0].as_slice());
+    assert_eq!(rt; offence_of(alloc, file_j())?, None);
+    Ok(())
+}
+
+#[test]
+fn cut_texts_offend_at_the_next_line(rt: HostRuntime) -> Result<(), Fail> {
+    let alloc = rt.alloc();
+    let mut lines: u64 = 0;
+    let mut from = 0;
+    let text = file_a();
+    for shape in shapes() {
+        lines = lines.saturating_add(1);
+        assert!(rt; from <= text.len());
+        assert_eq!(rt;
+            offence_of(alloc, &text[..from])?,
+            Some((lines, shape.text()))
+        );
+        while from < text.len() && text[from] != b'\n' {
+            from += 1;
+        }
+        from = from.saturating_add(1);
+    }
+    Ok(())
+}
+
+#[test]
+fn names_the_first_line_that_offends(rt: HostRuntime) -> Result<(), Fail> {
+    let alloc = rt.alloc();
+    let a = file_a();
+    let cases: [(u64, &[u8], Option<(u64, &str)>); 13] = [
+        (23, b"1000000", Some((31, "begin_operator"))),
+        (23, b"1000001", Some((23, "count"))),
+        (7, b"65537", Some((7, "count"))),
+        (7, b"18446744073709551616", Some((7, "count"))),
+        (11, b"0", Some((11, "range"))),
+        (11, b"65537", Some((11, "range"))),
+        (31, b"1", Some((31, "count"))),
+        (29, b"7", None),
+        (31, b"0\n \t\n", None),
+        (31, b"0\nx", Some((32, "blank line"))),
+        (28, b" 0\t0 -1  1 ", None),
+        (28, b"0 0 0 1 1", Some((28, "effect"))),
+        (21, b"-1 1", Some((21, "fact"))),
+    ];
+    for (number, line, wanted) in cases {
+        let text = with_line(alloc, a, number, line)?;
+        assert_eq!(rt; offence_of(alloc, &text)?, wanted);
+    }
+    assert_eq!(rt; offence_of(alloc, b"")?, Some((1, "begin_version")));
+    let j = with_line(alloc, file_j(), 58, b"1 0")?;
+    assert_eq!(rt; offence_of(alloc, &j)?, Some((59, "head")));
+    let j = with_line(alloc, &j, 59, b"2 1 0")?;
+    assert_eq!(rt; offence_of(alloc, &j)?, None);
+    Ok(())
+}
+
+#[test]
+fn a_name_keeps_all_but_one_return(rt: HostRuntime) -> Result<(), Fail> {
+    let alloc = rt.alloc();
+    let text = with_line(alloc, file_a(), 9, b"v\r\r")?;
+    let task = read_task(alloc, &text)?;
+    for variable in task.parts().variables.as_slice() {
+        assert_eq!(rt; variable.name.as_slice(), b"v\r".as_slice());
+    }
+    Ok(())
+}
+
+#[test]
+fn too_many_bits_offend_at_the_range(rt: HostRuntime) -> Result<(), Fail> {
+    let alloc = rt.alloc();
+    let mut text = Vec::new(alloc);
+    text.extend_from_slice(b"begin_version\n3\nend_version\nbegin_metric\n0\nend_metric\n4097\n")?;
+    for _ in 0..4096 {
+        text.extend_from_slice(b"begin_variable\nv\n-1\n2\na\nb\nend_variable\n")?;
+    }
+    text.extend_from_slice(b"begin_variable\nv\n-1\n")?;
+    let mut narrow = text.clone()?;
+    text.extend_from_slice(b"2\n")?;
+    narrow.extend_from_slice(b"1\n")?;
+    assert_eq!(rt; offence_of(alloc, &text)?, Some((28683, "range")));
+    assert_eq!(rt; offence_of(alloc, &narrow)?, Some((28684, "name")));
+    Ok(())
+}

@@ -1,0 +1,11 @@
+use Rattle.std.proofs.Common.{◌≡◌, length}
+use Rattle.symk_cli.proofs.planning.list_plans.Given as goal
+
+-- the search is the task's, and the sink's count has not moved
+abbrev pub invariant-plans : goal.invariant-plans
+invariant-plans g l =
+    let view = g.K.Sink.view in
+    record {
+      operators : l.search.prefixes.operators ≡ length l.task.operators;
+      quiet : (view l.sink).faults ≡ (view l.fn.sink).faults;
+    }

@@ -1,0 +1,24 @@
+-- How a run may end, and why.
+use Rattle.std.specs.Prelude.{◌≡◌, ℕ, ◌⊎◌, ◌≤◌}
+use Rattle.symk_io.specs.View.{Bytes, Tells, Grew, GrewByPart, SinkView}
+use Rattle.symk_io.specs.Causes.{Rose}
+use Rattle.symk_cli.specs.declared.status.Status.{Status}
+use Rattle.symk_cli.specs.declared.status.Status.TheVariants.{Unreadable, WriteFault, Memory}
+
+-- The whole text went out under its status, or a part of it and then the status says why.
+abbrev pub Ends : Status → Bytes → SinkView → SinkView → Status → Type 0
+Ends status text old new result =
+    ((result ≡ status) × Tells (Grew text) old.taken new.taken × (new.faults ≡ old.faults))
+    ⊎ ((result ≡ WriteFault) × Tells (GrewByPart text) old.taken new.taken × Rose old.faults new.faults)
+    ⊎ ((result ≡ Memory) × Tells (GrewByPart text) old.taken new.taken × (new.faults ≡ old.faults))
+
+-- that text's status came, or one that says why it didn't go out whole
+abbrev pub EndsAs : Status → Status → Type 0
+EndsAs status result = (result ≡ status) ⊎ (result ≡ WriteFault) ⊎ (result ≡ Memory)
+
+-- The causes of a status: unreadable and write fault only where the count of faults rose, and any other status but want of
+-- memory only where no count did. The counts are those of the files and the sink, each at entry and at exit.
+pub record HasCauses (status : Status) (files files' sink sink' : ℕ) : Type 0 where
+  pub unreadable : status ≡ Unreadable → Rose files files'
+  pub write : status ≡ WriteFault → Rose sink sink'
+  pub quiet : ((status ≡ Unreadable) → ⊥) → ((status ≡ WriteFault) → ⊥) → ((status ≡ Memory) → ⊥) → (files' ≡ files) × (sink' ≡ sink)

@@ -1,0 +1,81 @@
+//! The verdict on a list of plans.
+
+ghost use Rattle.std.specs.Prelude.{◌≡◌, All, length};
+ghost use Rattle.symk_cli.specs.Ends.{HasCauses};
+ghost use Rattle.symk_cli.specs.Lengths.{IsVerdict};
+
+use crate::ending::end_with;
+use crate::status::Status;
+use plan_out::{Blocks, Checked, Why, check_list};
+use std::alloc::Global;
+use symk_io::Sink;
+use symk_task::{Memory, Mode, Task};
+use symk_text::{Text, push_bytes, push_number};
+
+/// Puts the verdict on the list: that it is good, or the first block that fails, and why.
+pub fn judge<K: Sink>(
+    alloc: Global,
+    task: &Task,
+    mode: Mode,
+    blocks: &Blocks,
+    sink: &mut K,
+) -> Status
+    requires { All (λ block. length block.names ≡ length block.ops) blocks.now.list }
+    ensures verdict { IsVerdict result }
+    ensures causes { HasCauses result 0 0 (K.view sink.old).faults (K.view sink.new).faults }
+{
+    match check_list(alloc, task, mode, blocks) {
+        Ok(Checked::Good { n }) => end_with(sink, good_text(alloc, n), Status::Good),
+        Ok(Checked::Bad { plan, why }) => {
+            end_with(sink, bad_text(alloc, plan, why), Status::BadList)
+        }
+        Err(_) => Status::Memory,
+    }
+}
+
+// `good N`
+fn good_text(alloc: Global, n: u64) -> Result<Text, Memory> {
+    let mut text = Text::new(alloc);
+    push_bytes(&mut text, b"good ")?;
+    push_number(&mut text, n)?;
+    push_bytes(&mut text, b"\n")?;
+    Ok(text)
+}
+
+// `bad plan I: WHY`
+fn bad_text(alloc: Global, plan: u64, why: Why) -> Result<Text, Memory> {
+    let mut text = Text::new(alloc);
+    push_bytes(&mut text, b"bad plan ")?;
+    push_number(&mut text, plan)?;
+    push_bytes(&mut text, b": ")?;
+    push_why(&mut text, plan, why)?;
+    push_bytes(&mut text, b"\n")?;
+    Ok(text)
+}
+
+fn push_why(text: &mut Text, plan: u64, why: Why) -> Result<(), Memory> {
+    match why {
+        Why::NoSuchOperator { step } => push_step(text, b"no such operator at step ", step),
+        Why::WrongName { step } => push_step(text, b"other name at step ", step),
+        Why::StopsAt { step } => push_step(text, b"does not apply at step ", step),
+        Why::MissesGoal => push_bytes(text, b"misses the goal"),
+        Why::WrongCost { cost } => {
+            push_bytes(text, b"costs ")?;
+            push_cost(text, cost)
+        }
+        Why::Repeats { earlier } => push_step(text, b"repeats plan ", earlier),
+        Why::Cheaper => push_step(text, b"cheaper than plan ", plan.saturating_sub(1)),
+        Why::Loops { step } => push_step(text, b"loops at step ", step),
+    }
+}
+
+fn push_step(text: &mut Text, words: &[u8], number: u64) -> Result<(), Memory> {
+    push_bytes(text, words)?;
+    push_number(text, number)
+}
+
+// A cost may be past 64 bits.
+fn push_cost(text: &mut Text, cost: u128) -> Result<(), Memory> {
+    let mut buffer = itoa::Buffer::new();
+    push_bytes(text, buffer.format(cost).as_bytes())
+}

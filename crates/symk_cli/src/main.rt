@@ -1,0 +1,49 @@
+//! The planner: words, files and a sink in, plans or a verdict and a status out.
+//!
+//! `run` is the whole program over any files and any sink. `main` makes those of the system, calls it and ends with its
+//! status. It stands on every crate of the workspace. Until sets of states take its place, the plans come from a plain
+//! search over explicit states.
+#![tactic(auto)]
+
+mod checking;
+mod ending;
+mod planning;
+mod reading;
+mod request;
+mod search;
+mod showing;
+mod status;
+mod top;
+
+pub use status::Status;
+use std::env;
+use std::process::ExitCode;
+use symk_io::{HostFiles, HostSink};
+pub use top::run;
+
+/// The greatest number of bytes of a file or a plan text.
+pub const LIMIT: u64 = 268_435_456;
+
+fn main(rt: HostRuntime) -> ExitCode {
+    ExitCode::from(u8::try_from(answer(rt).code()).unwrap_or(u8::MAX))
+}
+
+// The status of a run over the system's words, files and output.
+fn answer(rt: HostRuntime) -> Status {
+    let Ok(words) = env::args(&rt) else {
+        return Status::Memory;
+    };
+    let Ok(words) = words.collect(rt.alloc()) else {
+        return Status::Memory;
+    };
+    let Ok(system) = rt.clone() else {
+        return Status::Memory;
+    };
+    let mut files = HostFiles::new(system);
+    let mut sink = HostSink::new(rt.stdout());
+    let words: Vec<String> = words;
+    run(rt.alloc(), &words, &mut files, &mut sink)
+}
+
+#[cfg(test)]
+mod tests;

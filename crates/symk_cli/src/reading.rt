@@ -1,0 +1,132 @@
+//! The files that the words name, read whole, or the refusal of them that ends the run.
+
+ghost use Rattle.std.specs.Prelude.{◌≡◌, All, length, IfOk, IfErr, OnOk};
+ghost use Rattle.symk_io.specs.View.{Tells};
+ghost use Rattle.symk_io.specs.Told.{Opened};
+ghost use Rattle.symk_cli.specs.Ends.{HasCauses};
+ghost use Rattle.symk_cli.specs.Lengths.{IsShort, StopsText, StopsTask};
+
+use crate::LIMIT;
+use crate::ending::{end, end_with};
+use crate::status::Status;
+use plan_out::{Blocks, PlansFault, read_plans};
+use sas_reader::{ReadFault, Shape, read_task};
+use std::alloc::Global;
+use symk_io::{Files, ReadStop, Sink, read_all};
+use symk_task::{Memory, Task};
+use symk_text::{Text, push_bytes, push_number};
+
+/// Which of the files that the words name a text is of.
+#[derive(Clone, Copy, Debug, PartialEq, Eq)]
+pub enum Named {
+    File,
+    Plans,
+}
+
+impl Named {
+    fn unreadable(self) -> &'static [u8] {
+        match self {
+            Named::File => b"file unreadable\n",
+            Named::Plans => b"plans unreadable\n",
+        }
+    }
+
+    fn too_long(self) -> &'static [u8] {
+        match self {
+            Named::File => b"file too long\n",
+            Named::Plans => b"plans too long\n",
+        }
+    }
+}
+
+/// Reads the text of a name, or ends the run.
+pub fn text_of<F: Files, K: Sink>(
+    alloc: Global,
+    files: &mut F,
+    sink: &mut K,
+    named: Named,
+    name: &str,
+) -> Result<Vec<u8>, Status>
+    ensures short { OnOk result (IsShort (F.view files.old).told name.now) }
+    ensures opened { OnOk result (Tells (Opened name.now) (F.view files.old).told (F.view files.new).told) }
+    ensures quiet { OnOk result (((F.view files.new).faults ≡ (F.view files.old).faults) × ((K.view sink.new).faults ≡ (K.view sink.old).faults)) }
+    ensures stops { IfErr result (StopsText (F.view files.old).told name.now) }
+    ensures causes { IfErr result (λ status. HasCauses status (F.view files.old).faults (F.view files.new).faults (K.view sink.old).faults (K.view sink.new).faults) }
+{
+    match read_all(alloc, files, name, LIMIT) {
+        Ok(text) => Ok(text),
+        Err(ReadStop::Unreadable) => Err(end(sink, named.unreadable(), Status::Unreadable)),
+        Err(ReadStop::TooLong) => Err(end(sink, named.too_long(), Status::TooLong)),
+        Err(ReadStop::Memory) => Err(Status::Memory),
+    }
+}
+
+/// Reads the task of a name, or ends the run.
+pub fn task_of<F: Files, K: Sink>(
+    alloc: Global,
+    files: &mut F,
+    sink: &mut K,
+    name: &str,
+) -> Result<Task, Status>
+    ensures short { OnOk result (IsShort (F.view files.old).told name.now) }
+    ensures opened { OnOk result (Tells (Opened name.now) (F.view files.old).told (F.view files.new).told) }
+    ensures quiet { OnOk result (((F.view files.new).faults ≡ (F.view files.old).faults) × ((K.view sink.new).faults ≡ (K.view sink.old).faults)) }
+    ensures stops { IfErr result (StopsTask (F.view files.old).told name.now) }
+    ensures causes { IfErr result (λ status. HasCauses status (F.view files.old).faults (F.view files.new).faults (K.view sink.old).faults (K.view sink.new).faults) }
+{
+    let text = text_of(alloc, files, sink, Named::File, name)?;
+    match read_task(alloc, &text) {
+        Ok(task) => Ok(task),
+        Err(ReadFault::Offence { line, wanted }) => Err(end_with(
+            sink,
+            offence_text(alloc, line, wanted),
+            Status::Offending,
+        )),
+        Err(ReadFault::Memory) => Err(Status::Memory),
+    }
+}
+
+/// Reads the plans of a name, or ends the run.
+pub fn plans_of<F: Files, K: Sink>(
+    alloc: Global,
+    files: &mut F,
+    sink: &mut K,
+    name: &str,
+) -> Result<Blocks, Status>
+    ensures names { IfOk result (λ blocks. All (λ block. length block.names ≡ length block.ops) blocks.list) }
+    ensures short { OnOk result (IsShort (F.view files.old).told name.now) }
+    ensures quiet { OnOk result (((F.view files.new).faults ≡ (F.view files.old).faults) × ((K.view sink.new).faults ≡ (K.view sink.old).faults)) }
+    ensures stops { IfErr result (StopsTask (F.view files.old).told name.now) }
+    ensures causes { IfErr result (λ status. HasCauses status (F.view files.old).faults (F.view files.new).faults (K.view sink.old).faults (K.view sink.new).faults) }
+{
+    let text = text_of(alloc, files, sink, Named::Plans, name)?;
+    match read_plans(alloc, &text) {
+        Ok(blocks) => Ok(blocks),
+        Err(PlansFault::Offence { line }) => Err(end_with(
+            sink,
+            plans_offence_text(alloc, line),
+            Status::Offending,
+        )),
+        Err(PlansFault::Memory) => Err(Status::Memory),
+    }
+}
+
+// `line N: wanted SHAPE`
+fn offence_text(alloc: Global, line: u64, wanted: Shape) -> Result<Text, Memory> {
+    let mut text = Text::new(alloc);
+    push_bytes(&mut text, b"line ")?;
+    push_number(&mut text, line)?;
+    push_bytes(&mut text, b": wanted ")?;
+    push_bytes(&mut text, wanted.text().as_bytes())?;
+    push_bytes(&mut text, b"\n")?;
+    Ok(text)
+}
+
+// `plans line N`
+fn plans_offence_text(alloc: Global, line: u64) -> Result<Text, Memory> {
+    let mut text = Text::new(alloc);
+    push_bytes(&mut text, b"plans line ")?;
+    push_number(&mut text, line)?;
+    push_bytes(&mut text, b"\n")?;
+    Ok(text)
+}

@@ -1,0 +1,110 @@
+//! What the words ask for.
+
+ghost use Rattle.std.specs.Prelude.{◌≤◌, IfSome};
+ghost use Rattle.symk_words.specs.Texts.{view_of};
+ghost use Rattle.symk_cli.specs.Requests.{AsksFor};
+
+use symk_task::Mode;
+use symk_text::number;
+use symk_words::Asked;
+
+/// Which sides a search settles.
+#[derive(Clone, Copy, Debug, PartialEq, Eq)]
+pub enum Direction {
+    Auto,
+    Forward,
+    Backward,
+    Bidirectional,
+}
+
+/// A lawful request.
+#[derive(Clone, Copy, Debug, PartialEq, Eq)]
+pub enum Request<'a> {
+    Plan {
+        file: &'a str,
+        most: u64,
+        mode: Mode,
+        direction: Direction,
+    },
+    Check {
+        file: &'a str,
+        plans: &'a str,
+        mode: Mode,
+    },
+    Demo {
+        switches: u32,
+    },
+}
+
+/// The request that the texts spell, None where one of them isn't as the usage text says.
+pub fn request_of<'a>(asked: &Asked<'a>) -> Option<Request<'a>>
+    ensures { IfSome result (AsksFor (view_of asked.now)) }
+{
+    match *asked {
+        Asked::Plan {
+            file,
+            k,
+            mode,
+            search,
+        } => {
+            let most = number_within(k, 1, 1_000_000_000)?;
+            let mode = mode_of(mode)?;
+            let direction = direction_of(search)?;
+            if is_served(mode, direction) {
+                Some(Request::Plan {
+                    file,
+                    most,
+                    mode,
+                    direction,
+                })
+            } else {
+                None
+            }
+        }
+        Asked::Check { file, plans, mode } => Some(Request::Check {
+            file,
+            plans,
+            mode: mode_of(mode)?,
+        }),
+        Asked::Demo { n } => Some(Request::Demo {
+            switches: number_within(n, 1, 64)? as u32,
+        }),
+    }
+}
+
+// The number that is the whole word, within the bounds.
+fn number_within(word: &str, least: u64, most: u64) -> Option<u64>
+    ensures { IfSome result (λ n. (least ≤ n) × (n ≤ most)) }
+{
+    let (value, end) = number(word.as_bytes(), 0)?;
+    if end == word.len() && least <= value && value <= most {
+        Some(value)
+    } else {
+        None
+    }
+}
+
+fn mode_of(word: Option<&str>) -> Option<Mode> {
+    match word {
+        None | Some("topk") => Some(Mode::TopK),
+        Some("loopless") => Some(Mode::Loopless),
+        Some("unordered") => Some(Mode::Unordered),
+        Some(_) => None,
+    }
+}
+
+fn direction_of(word: Option<&str>) -> Option<Direction> {
+    match word {
+        None | Some("auto") => Some(Direction::Auto),
+        Some("forward") => Some(Direction::Forward),
+        Some("backward") => Some(Direction::Backward),
+        Some("bidirectional") => Some(Direction::Bidirectional),
+        Some(_) => None,
+    }
+}
+
+// Loopless plans are found backward alone.
+fn is_served(mode: Mode, direction: Direction) -> bool {
+    let forward = direction == Direction::Forward || direction == Direction::Bidirectional;
+    mode != Mode::Loopless || !forward
+}

@@ -1,0 +1,69 @@
+//! Runs over files and a sink in memory: the worked examples, and each call that fails once.
+
+mod checks;
+mod faults;
+mod files;
+mod plans;
+mod refusals;
+mod rows;
+mod words;
+
+use crate::{Status, run};
+use std::alloc::{AllocError, Global};
+use symk_io::{MemFile, MemFiles, MemSink, MemText};
+
+// What a run answers, and the bytes that it put.
+#[derive(Drop)]
+struct Outcome {
+    status: Status,
+    bytes: Vec<u8>,
+}
+
+// The files of a run, and which of its calls fail.
+#[derive(Clone, Copy)]
+struct World<'a> {
+    file: &'a [u8],
+    plans: &'a [u8],
+    failing_files: &'a [u64],
+    failing_sink: &'a [u64],
+    most: usize,
+}
+
+impl<'a> World<'a> {
+    fn of(file: &'a [u8], plans: &'a [u8]) -> World<'a> {
+        World {
+            file,
+            plans,
+            failing_files: &[],
+            failing_sink: &[],
+            most: usize::MAX,
+        }
+    }
+}
+
+fn file(alloc: Global, name: &str, text: &[u8]) -> Result<MemFile, AllocError> {
+    Ok(MemFile {
+        name: String::from_str(alloc, name)?,
+        text: MemText::Bytes(Vec::from_slice(alloc, text)?),
+    })
+}
+
+// Runs the words, which stand in one text with a space between two of them, over FILE and PLANS.
+fn answer(alloc: Global, world: &World, words: &str) -> Result<Outcome, AllocError> {
+    let mut given = Vec::new(alloc);
+    given.push(String::from_str(alloc, "symk")?)?;
+    for word in words.split_whitespace() {
+        given.push(String::from_str(alloc, word)?)?;
+    }
+    let mut shelf = Vec::new(alloc);
+    shelf.push(file(alloc, "FILE", world.file)?)?;
+    shelf.push(file(alloc, "PLANS", world.plans)?)?;
+    let mut files = MemFiles::new(shelf, Vec::from_slice(alloc, world.failing_files)?);
+    let failing = Vec::from_slice(alloc, world.failing_sink)?;
+    let mut sink = MemSink::new(alloc, failing, world.most);
+    let status = run(alloc, &given, &mut files, &mut sink);
+    Ok(Outcome {
+        status,
+        bytes: Vec::from_slice(alloc, sink.bytes())?,
+    })
+}

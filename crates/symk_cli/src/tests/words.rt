@@ -1,0 +1,78 @@
+//! Words that are taken, and words that are answered by the usage text.
+
+use super::files::*;
+use super::rows::{Row, holds};
+use super::{World, answer};
+use crate::Status;
+use crate::top::USAGE;
+use std::test::Fail;
+
+#[test]
+fn reads_words(rt: HostRuntime) -> Result<(), Fail> {
+    let rows = [
+        Row {
+            words: "plan FILE --k=3",
+            file: ONE_SWITCH,
+            plans: b"".as_slice(),
+            status: Status::Exhausted,
+            texts: &[
+                b"; plan 1\n; ops 0\n(switch-on)\n; cost = 1 (unit cost)\n; exhausted 1\n".as_slice(),
+            ],
+        },
+        Row {
+            words: "plan --k 3 FILE",
+            file: ONE_SWITCH,
+            plans: b"".as_slice(),
+            status: Status::Exhausted,
+            texts: &[
+                b"; plan 1\n; ops 0\n(switch-on)\n; cost = 1 (unit cost)\n; exhausted 1\n".as_slice(),
+            ],
+        },
+        Row {
+            words: "plan FILE --k 00000000000000000003 --mode topk --search auto",
+            file: ONE_SWITCH,
+            plans: b"".as_slice(),
+            status: Status::Exhausted,
+            texts: &[
+                b"; plan 1\n; ops 0\n(switch-on)\n; cost = 1 (unit cost)\n; exhausted 1\n".as_slice(),
+            ],
+        },
+    ];
+    holds(&rt, rt.alloc(), &rows)
+}
+
+#[test]
+fn refuses_words(rt: HostRuntime) -> Result<(), Fail> {
+    let refused = [
+        "",
+        "plan",
+        "plan FILE",
+        "plan FILE --k",
+        "plan FILE --k 0",
+        "plan FILE --k 1000000001",
+        "plan FILE --k +3",
+        "plan FILE --k 3x",
+        "plan FILE --k 000000000000000000003",
+        "plan FILE --k 18446744073709551616",
+        "plan FILE --k 3 --k 3",
+        "plan FILE --k 3 --mode best",
+        "plan FILE --k 3 --search up",
+        "plan FILE --k 3 --mode loopless --search forward",
+        "plan FILE --k 3 --mode loopless --search bidirectional",
+        "check FILE",
+        "check FILE PLANS --mode best",
+        "check FILE PLANS --search auto",
+        "demo",
+        "demo 0",
+        "demo 65",
+        "help",
+        "--help",
+        "plan OTHER --k 0",
+    ];
+    for words in refused {
+        let given = answer(rt.alloc(), &World::of(ONE_SWITCH, b""), words)?;
+        assert!(&rt; given.status == Status::Usage, "{words}");
+        assert!(&rt; given.bytes.as_slice() == USAGE, "{words}");
+    }
+    Ok(())
+}

@@ -7,7 +7,7 @@ pub mod Spelling
 pub mod Blanks
 pub mod EffectLines
 pub mod RuleSection
-pub mod Tests
+pub mod NameLines
 pub mod OperatorSection
 pub mod FactSections
 pub mod VariableSection

@@ -15,7 +15,7 @@ use Rattle.sas_reader.specs.Numbers.{numbers_of, only_number, two_numbers, three
 use Rattle.sas_reader.specs.Rows.{Row, word, name, numbers, number, shape_of, IsSpelled}
 use Rattle.sas_reader.specs.Reading.{exactly, a_name, if_passes, number_that, three}
 use Rattle.sas_reader.proofs.Spelling.{line_for, IsSmall, numbers_spelled}
-use Rattle.sas_reader.proofs.Tests.{line_is_name, name_is_line}
+use Rattle.sas_reader.proofs.NameLines.{line_is_name, name_is_line}
 
 abbrev pub RowIs : {X : Type 0} → Shape → (List ℕ → Option X) → (X → Row) → (X → Type 0) → Type 0
 RowIs = grammar.RowIs shape_of IsSpelled

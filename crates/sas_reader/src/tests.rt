@@ -14,40 +14,50 @@ fn file_j() -> &'static [u8] {
     b"begin_version\n3\nend_version\nbegin_metric\n0\nend_metric\n4\nbegin_variable\nx\n-1\n2\nx0\nx1\nend_variable\nbegin_variable\nd1\n0\n2\nno\nyes\nend_variable\nbegin_variable\nd2\n0\n2\nno\nyes\nend_variable\nbegin_variable\nd3\n1\n2\nno\nyes\nend_variable\n0\nbegin_state\n0\n0\n0\n0\nend_state\nbegin_goal\n1\n2 1\nend_goal\n1\nbegin_operator\ngo\n0\n1\n0 0 0 1\n1\nend_operator\n3\nbegin_rule\n1\n1 1\n2 0 1\nend_rule\nbegin_rule\n1\n0 1\n1 0 1\nend_rule\nbegin_rule\n1\n2 0\n3 0 1\nend_rule\n"
 }
 
-/// The shape of each line of the first file.
-fn shapes() -> [Shape; 31] {
+/// Where the next line begins.
+fn next_line(text: &[u8], from: usize) -> usize {
+    for at in from..text.len() {
+        if text[at] == b'\n' {
+            return at + 1;
+        }
+    }
+    text.len()
+}
+
+/// What is wanted at each line of the first file.
+fn wanted_words() -> [&'static str; 31] {
     [
-        Shape::BeginVersion,
-        Shape::Three,
-        Shape::EndVersion,
-        Shape::BeginMetric,
-        Shape::Metric,
-        Shape::EndMetric,
-        Shape::Count,
-        Shape::BeginVariable,
-        Shape::Name,
-        Shape::Layer,
-        Shape::Range,
-        Shape::Name,
-        Shape::Name,
-        Shape::EndVariable,
-        Shape::Count,
-        Shape::BeginState,
-        Shape::Value,
-        Shape::EndState,
-        Shape::BeginGoal,
-        Shape::Count,
-        Shape::Fact,
-        Shape::EndGoal,
-        Shape::Count,
-        Shape::BeginOperator,
-        Shape::Name,
-        Shape::Count,
-        Shape::Count,
-        Shape::Effect,
-        Shape::Cost,
-        Shape::EndOperator,
-        Shape::Count,
+        "begin_version",
+        "3",
+        "end_version",
+        "begin_metric",
+        "metric",
+        "end_metric",
+        "count",
+        "begin_variable",
+        "name",
+        "layer",
+        "range",
+        "name",
+        "name",
+        "end_variable",
+        "count",
+        "begin_state",
+        "value",
+        "end_state",
+        "begin_goal",
+        "count",
+        "fact",
+        "end_goal",
+        "count",
+        "begin_operator",
+        "name",
+        "count",
+        "count",
+        "effect",
+        "cost",
+        "end_operator",
+        "count",
     ]
 }
 
@@ -97,17 +107,11 @@ fn cut_texts_offend_at_the_next_line(rt: HostRuntime) -> Result<(), Fail> {
     let mut lines: u64 = 0;
     let mut from = 0;
     let text = file_a();
-    for shape in shapes() {
+    for word in wanted_words() {
         lines = lines.saturating_add(1);
         assert!(rt; from <= text.len());
-        assert_eq!(rt;
-            offence_of(alloc, &text[..from])?,
-            Some((lines, shape.text()))
-        );
-        while from < text.len() && text[from] != b'\n' {
-            from += 1;
-        }
-        from = from.saturating_add(1);
+        assert_eq!(rt; offence_of(alloc, &text[..from])?, Some((lines, word)));
+        from = next_line(text, from);
     }
     Ok(())
 }
@@ -141,6 +145,16 @@ fn names_the_first_line_that_offends(rt: HostRuntime) -> Result<(), Fail> {
     let j = with_line(alloc, &j, 59, b"2 1 0")?;
     assert_eq!(rt; offence_of(alloc, &j)?, None);
     Ok(())
+}
+
+#[test]
+fn words_of_the_other_shapes(rt: HostRuntime) {
+    assert_eq!(rt; Shape::BeginMutex.text(), "begin_mutex_group");
+    assert_eq!(rt; Shape::EndMutex.text(), "end_mutex_group");
+    assert_eq!(rt; Shape::BeginRule.text(), "begin_rule");
+    assert_eq!(rt; Shape::Head.text(), "head");
+    assert_eq!(rt; Shape::EndRule.text(), "end_rule");
+    assert_eq!(rt; Shape::Blank.text(), "blank line");
 }
 
 #[test]

@@ -1,5 +1,5 @@
 use Rattle.std.proofs.Common.{◌∙◌}
-use Rattle.sas_reader.proofs.Tests.{name_read}
+use Rattle.sas_reader.proofs.NameLines.{name_read}
 use Rattle.sas_reader.proofs.rows.name_of.Goals as goal
 
 pub returns-in_ok-from_slice-in-Some : goal.returns-in_ok-from_slice-in-Some

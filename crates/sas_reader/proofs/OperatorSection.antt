@@ -258,8 +258,8 @@ exact_operator variables g u =
     (λ _ x. counted_rows fact_rows x.0 ++ (counted_rows effect_rows x.1.0 ++ (number shape.Cost x.1.1 ∷ word shape.EndOperator (codes "end_operator") ∷ [])))
     (λ _ x. AreFacts variables x.0 × (((length x.1.0 ≤ most_effects variables) × All (FitsEffect variables) x.1.0) × Unit {0}))
     exact_name (λ _ _. exact_middle variables g))))
-    (λ o f. (record { name = f.0; prevail = f.1.0; effects = most_few (list_any is_base variables) (length o.effects) f.1.1.0.0; each = f.1.1.0.1 }, refl))
-    (λ o f. (f.name, (f.prevail, ((effects_few variables o.effects (list_any is_base variables) refl f.effects f.each, f.each), tt))))
+    (λ o f. (record { name = record { line = f.0 }; prevail = f.1.0; effects = most_few (list_any is_base variables) (length o.effects) f.1.1.0.0; each = f.1.1.0.1 }, refl))
+    (λ o f. (f.name.line, (f.prevail, ((effects_few variables o.effects (list_any is_base variables) refl f.effects f.each, f.each), tt))))
 
 pub exact_operators : (variables : List Variable) → Good variables → Exact (operators_at variables) (counted_rows operator_rows) (λ os. (length os ≤ 1000000) × All (FitsOperator variables) os)
 exact_operators variables g = exact_list (operator_at variables (most_effects variables)) operator_rows (FitsOperator variables) 1000000 (Unit {0}) (λ u _. exact_operator variables g u) (λ _. tt)

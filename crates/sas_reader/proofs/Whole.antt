@@ -48,10 +48,15 @@ may_have_so None used n some most two bits =
 variable_fits : (used : ℕ) (v : Variable) → used ≤ 4096 → VariableFits used v → FitsVariable v
 variable_fits used v small f =
     let w = variable_within used v small f in
-    record { name = f.0; values = all_fit IsLine v.values f.1.1.1; some = w.0; most = w.1; derived = derived_two v.layer used (range v) f.1.1.0; layer = f.1.0 }
+    let lines : All IsLine v.values = all_fit IsLine v.values f.1.1.1 in
+    record {
+      name = record { line = f.0 };
+      values = λ k d lt. record { line = lines k d lt };
+      range = record { some = w.0; most = w.1; derived = derived_two v.layer used (range v) f.1.1.0; layer_most = f.1.0 };
+    }
 
 fits_variable : (used : ℕ) (v : Variable) → FitsVariable v → used + bits_of v ≤ 4096 → VariableFits used v
-fits_variable used v f bits = (f.name, (f.layer, (may_have_so v.layer used (range v) f.some f.most f.derived bits, fit_all IsLine v.values f.values)))
+fits_variable used v f bits = (f.name.line, (f.range.layer_most, (may_have_so v.layer used (range v) f.range.some f.range.most f.range.derived bits, fit_all IsLine v.values (λ k d lt. (f.values k d lt).line))))
 
 variables_fit : (used : ℕ) (vs : List Variable) → used ≤ 4096 → FitFrom VariableFits used_after used vs → All FitsVariable vs × (used + sum_by bits_of vs ≤ 4096)
 variables_fit used [] small f = (All-nil FitsVariable, omega arith)
@@ -67,7 +72,7 @@ fit_variables used (v ∷ vs) each sum =
     (fits_variable used v (All-head FitsVariable v vs each) (omega (arith, s)), fit_variables (used_after used v) vs (All-tail FitsVariable v vs each) (omega (arith, s)))
 
 good_of : (vs : List Variable) → length vs ≤ 65536 → All FitsVariable vs → Good vs
-good_of vs few each = record { few = few; some = λ k d lt. (each k d lt).some; small = λ k d lt. (each k d lt).most; derived = λ k d lt. (each k d lt).derived }
+good_of vs few each = record { few = few; some = λ k d lt. (each k d lt).range.some; small = λ k d lt. (each k d lt).range.most; derived = λ k d lt. (each k d lt).range.derived }
 
 pub good : (vs : List Variable) → VariablesFit vs → Good vs
 good vs f = good_of vs f.0 (variables_fit 0 vs (omega arith) f.1).0

@@ -1,6 +1,6 @@
 //! Worked files.
 
-use crate::{ReadFault, Shape, read_task};
+use crate::{ReadFault, read_task};
 use std::alloc::Global;
 use std::test::Fail;
 
@@ -120,7 +120,7 @@ fn cut_texts_offend_at_the_next_line(rt: HostRuntime) -> Result<(), Fail> {
 fn names_the_first_line_that_offends(rt: HostRuntime) -> Result<(), Fail> {
     let alloc = rt.alloc();
     let a = file_a();
-    let cases: [(u64, &[u8], Option<(u64, &str)>); 13] = [
+    let cases: [(u64, &[u8], Option<(u64, &str)>); 15] = [
         (23, b"1000000", Some((31, "begin_operator"))),
         (23, b"1000001", Some((23, "count"))),
         (7, b"65537", Some((7, "count"))),
@@ -134,6 +134,12 @@ fn names_the_first_line_that_offends(rt: HostRuntime) -> Result<(), Fail> {
         (28, b" 0\t0 -1  1 ", None),
         (28, b"0 0 0 1 1", Some((28, "effect"))),
         (21, b"-1 1", Some((21, "fact"))),
+        (15, b"1", Some((16, "begin_mutex_group"))),
+        (
+            15,
+            b"1\nbegin_mutex_group\n0\nx",
+            Some((18, "end_mutex_group")),
+        ),
     ];
     for (number, line, wanted) in cases {
         let text = with_line(alloc, a, number, line)?;
@@ -148,13 +154,13 @@ fn names_the_first_line_that_offends(rt: HostRuntime) -> Result<(), Fail> {
 }
 
 #[test]
-fn words_of_the_other_shapes(rt: HostRuntime) {
-    assert_eq!(rt; Shape::BeginMutex.text(), "begin_mutex_group");
-    assert_eq!(rt; Shape::EndMutex.text(), "end_mutex_group");
-    assert_eq!(rt; Shape::BeginRule.text(), "begin_rule");
-    assert_eq!(rt; Shape::Head.text(), "head");
-    assert_eq!(rt; Shape::EndRule.text(), "end_rule");
-    assert_eq!(rt; Shape::Blank.text(), "blank line");
+fn names_the_first_line_of_a_rule_that_offends(rt: HostRuntime) -> Result<(), Fail> {
+    let alloc = rt.alloc();
+    for (number, word) in [(56, "begin_rule"), (60, "end_rule")] {
+        let text = with_line(alloc, file_j(), number, b"x")?;
+        assert_eq!(rt; offence_of(alloc, &text)?, Some((number, word)));
+    }
+    Ok(())
 }
 
 #[test]

@@ -6,14 +6,56 @@ use std::alloc::Global;
 use std::process::Abort;
 use std::test::Fail;
 
-/// A request over a file and a plan text, and all texts that may answer it.
+/// A request over a file and a plan text, its status, and the two texts that may answer it.
 #[derive(Clone, Copy)]
 pub struct Row<'a> {
-    pub words: &'a str,
-    pub file: &'a [u8],
-    pub plans: &'a [u8],
-    pub status: Status,
-    pub texts: &'a [&'a [u8]],
+    words: &'a str,
+    file: &'a [u8],
+    plans: &'a [u8],
+    status: Status,
+    text: &'a [u8],
+    other: &'a [u8],
+}
+
+/// A request over a file that one text answers.
+pub fn ask<'a>(words: &'a str, file: &'a [u8], status: Status, text: &'a [u8]) -> Row<'a> {
+    ask_either(words, file, status, text, text)
+}
+
+/// A request over a file that either text answers.
+pub fn ask_either<'a>(
+    words: &'a str,
+    file: &'a [u8],
+    status: Status,
+    text: &'a [u8],
+    other: &'a [u8],
+) -> Row<'a> {
+    Row {
+        words,
+        file,
+        plans: b"",
+        status,
+        text,
+        other,
+    }
+}
+
+/// A request over a file and a plan text that one text answers.
+pub fn ask_check<'a>(
+    words: &'a str,
+    file: &'a [u8],
+    plans: &'a [u8],
+    status: Status,
+    text: &'a [u8],
+) -> Row<'a> {
+    Row {
+        words,
+        file,
+        plans,
+        status,
+        text,
+        other: text,
+    }
 }
 
 /// Each request is answered by its status and one of its texts.
@@ -25,7 +67,7 @@ pub fn holds(rt: &impl Abort, alloc: Global, rows: &[Row]) -> Result<(), Fail> {
         let bytes = given.bytes.as_slice();
         assert!(rt; given.status == row.status, "{words}: {:?}", given.status);
         assert!(rt;
-            row.texts.iter().any(|text| *text == bytes),
+            row.text == bytes || row.other == bytes,
             "{words}: {bytes:?}"
         );
     }

@@ -1,7 +1,7 @@
 //! Words that are taken, and words that are answered by the usage text.
 
 use super::files::*;
-use super::rows::{Row, holds};
+use super::rows::{ask, holds};
 use super::{World, answer};
 use crate::Status;
 use crate::top::USAGE;
@@ -10,33 +10,24 @@ use std::test::Fail;
 #[test]
 fn reads_words(rt: HostRuntime) -> Result<(), Fail> {
     let rows = [
-        Row {
-            words: "plan FILE --k=3",
-            file: ONE_SWITCH,
-            plans: b"".as_slice(),
-            status: Status::Exhausted,
-            texts: &[
-                b"; plan 1\n; ops 0\n(switch-on)\n; cost = 1 (unit cost)\n; exhausted 1\n".as_slice(),
-            ],
-        },
-        Row {
-            words: "plan --k 3 FILE",
-            file: ONE_SWITCH,
-            plans: b"".as_slice(),
-            status: Status::Exhausted,
-            texts: &[
-                b"; plan 1\n; ops 0\n(switch-on)\n; cost = 1 (unit cost)\n; exhausted 1\n".as_slice(),
-            ],
-        },
-        Row {
-            words: "plan FILE --k 00000000000000000003 --mode topk --search auto",
-            file: ONE_SWITCH,
-            plans: b"".as_slice(),
-            status: Status::Exhausted,
-            texts: &[
-                b"; plan 1\n; ops 0\n(switch-on)\n; cost = 1 (unit cost)\n; exhausted 1\n".as_slice(),
-            ],
-        },
+        ask(
+            "plan FILE --k=3",
+            ONE_SWITCH,
+            Status::Exhausted,
+            b"; plan 1\n; ops 0\n(switch-on)\n; cost = 1 (unit cost)\n; exhausted 1\n",
+        ),
+        ask(
+            "plan --k 3 FILE",
+            ONE_SWITCH,
+            Status::Exhausted,
+            b"; plan 1\n; ops 0\n(switch-on)\n; cost = 1 (unit cost)\n; exhausted 1\n",
+        ),
+        ask(
+            "plan FILE --k 00000000000000000003 --mode topk --search auto",
+            ONE_SWITCH,
+            Status::Exhausted,
+            b"; plan 1\n; ops 0\n(switch-on)\n; cost = 1 (unit cost)\n; exhausted 1\n",
+        ),
     ];
     holds(&rt, rt.alloc(), &rows)
 }

@@ -1,8 +1,7 @@
 -- The lines of a task file in its canonical spelling, section by section.
-use Rattle.std.specs.Prelude.{ℕ, ◌-◌, List, [], ◌∷◌, ◌++◌, length, map, codes, decimal, flat_map}
+use Rattle.std.specs.Prelude.{ℕ, ◌-◌, ◌^◌, ◌<◌, All, List, [], ◌∷◌, ◌++◌, length, map, codes, decimal, flat_map}
 use Rattle.symk_task.specs.declared.parts.Fact.{Fact}
 use Rattle.symk_task.specs.declared.parts.Variable.{Variable}
-use Rattle.symk_task.specs.declared.parts.Effect.{Effect}
 use Rattle.symk_task.specs.declared.parts.Operator.{Operator}
 use Rattle.symk_task.specs.declared.parts.Rule.{Rule}
 use Rattle.symk_task.specs.declared.parts.TaskParts.{TaskParts}
@@ -42,6 +41,10 @@ operator_lines operator =
     codes "begin_operator" ∷ name_line operator.name ∷ facts_lines operator.prevail
     ++ decimal (length operator.effects) ∷ map effect_line operator.effects
     ++ decimal operator.cost ∷ [] ++ codes "end_operator" ∷ []
+
+-- each cost is a number that can be read back
+abbrev pub HasSmallCosts : List Operator → Type 0
+HasSmallCosts = All (λ operator. operator.cost < 2 ^ 64)
 
 unfoldable pub operators_lines : List Operator → List (List ℕ)
 operators_lines operators = decimal (length operators) ∷ flat_map operator_lines operators

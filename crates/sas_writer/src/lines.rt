@@ -1,6 +1,6 @@
 //! Single lines.
 
-ghost use Rattle.std.specs.Prelude.{◌≡◌, ◌++◌, ◌∷◌, [], OnOk, decimal};
+ghost use Rattle.std.specs.Prelude.{◌≡◌, ◌<◌, ◌^◌, ◌++◌, ◌∷◌, [], OnOk, decimal};
 ghost use Rattle.sas_writer.specs.Spelling.{text_of, name_line, or_minus_one};
 
 use symk_task::{Memory, Name};
@@ -27,6 +27,14 @@ pub fn push_number_line(text: &mut Text, number: u64) -> Result<(), Memory>
 {
     push_number(text, number)?;
     push_end(text)
+}
+
+/// Appends a line with a cost.
+pub fn push_cost(text: &mut Text, cost: u64) -> Result<(), Memory>
+    ensures line { OnOk result (text.new ≡ text.old ++ text_of (decimal cost ∷ [])) }
+    ensures small { cost < 2 ^ 64 }
+{
+    push_number_line(text, cost)
 }
 
 /// Appends a line with a name.

@@ -1,12 +1,13 @@
 //! The operators.
 
-ghost use Rattle.std.specs.Prelude.{◌≡◌, ◌++◌, ◌∷◌, [], OnOk, length, map, flat_map, decimal};
+ghost use Rattle.std.specs.Prelude.{◌≡◌, ◌<◌, ◌^◌, ◌++◌, ◌∷◌, [], OnOk, length, map, flat_map, decimal};
 ghost use Rattle.sas_writer.specs.Spelling.{text_of, effect_line};
-ghost use Rattle.sas_writer.specs.TaskLines.{operator_lines, operators_lines};
+ghost use Rattle.sas_writer.specs.TaskLines.{operator_lines, operators_lines, HasSmallCosts};
 
 use crate::facts::{push_conditions, push_facts};
 use crate::lines::{
-    push_end, push_name, push_number_and_space, push_number_line, push_or_minus_one, push_word,
+    push_cost, push_end, push_name, push_number_and_space, push_number_line, push_or_minus_one,
+    push_word,
 };
 use symk_task::{Effect, List, Memory, Operator};
 use symk_text::{Text, push_bytes, push_number};
@@ -14,7 +15,8 @@ use symk_text::{Text, push_bytes, push_number};
 /// Appends how many operators there are, and each.
 #[tactic(auto, using(crate::proofs::Growth::text_of_append), unfolding(crate::specs::TaskLines::operators_lines))]
 pub fn push_operators(text: &mut Text, operators: &List<Operator>) -> Result<(), Memory>
-    ensures { OnOk result (text.new ≡ text.old ++ text_of (operators_lines operators.now)) }
+    ensures lines { OnOk result (text.new ≡ text.old ++ text_of (operators_lines operators.now)) }
+    ensures costs { OnOk result (HasSmallCosts operators.now) }
 {
     let operators = operators.as_slice();
     push_number_line(text, operators.len() as u64)?;
@@ -22,7 +24,8 @@ pub fn push_operators(text: &mut Text, operators: &List<Operator>) -> Result<(),
 }
 
 fn push_each_operator(text: &mut Text, operators: &[Operator]) -> Result<(), Memory>
-    ensures { OnOk result (text.new ≡ text.old ++ text_of (flat_map operator_lines operators.now)) }
+    ensures lines { OnOk result (text.new ≡ text.old ++ text_of (flat_map operator_lines operators.now)) }
+    ensures costs { OnOk result (HasSmallCosts operators.now) }
 {
     for operator in operators {
         push_operator(text, operator)?;
@@ -32,13 +35,14 @@ fn push_each_operator(text: &mut Text, operators: &[Operator]) -> Result<(), Mem
 
 #[tactic(auto, using(crate::proofs::Growth::text_of_append), unfolding(crate::specs::TaskLines::operator_lines))]
 fn push_operator(text: &mut Text, operator: &Operator) -> Result<(), Memory>
-    ensures { OnOk result (text.new ≡ text.old ++ text_of (operator_lines operator.now)) }
+    ensures lines { OnOk result (text.new ≡ text.old ++ text_of (operator_lines operator.now)) }
+    ensures cost { OnOk result (operator.now.cost < 2 ^ 64) }
 {
     push_word(text, b"begin_operator")?;
     push_name(text, &operator.name)?;
     push_facts(text, &operator.prevail)?;
     push_effects(text, &operator.effects)?;
-    push_number_line(text, operator.cost)?;
+    push_cost(text, operator.cost)?;
     push_word(text, b"end_operator")
 }
 

@@ -1,4 +1,4 @@
-use Rattle.std.proofs.Common.{◌≡◌, ◌++◌, ◌∷◌, [], sym, ap, ◌∙◌, append_assoc}
+use Rattle.std.proofs.Common.{◌++◌, ◌∷◌, [], sym, ap, ◌∙◌, append_assoc}
 use Rattle.sas_writer.specs.Spelling.{effect_line}
 use Rattle.sas_writer.proofs.Growth.{line_more}
 use Rattle.sas_writer.proofs.operators.push_each_effect.Goals as goal

@@ -1,4 +1,4 @@
-use Rattle.std.proofs.Common.{◌≡◌, ◌++◌, ◌∷◌, [], sym, ap, ◌∙◌}
+use Rattle.std.proofs.Common.{◌++◌, sym, ap, ◌∙◌}
 use Rattle.sas_writer.specs.Spelling.{text_of}
 use Rattle.sas_writer.specs.TaskLines.{mutex_lines}
 use Rattle.sas_writer.proofs.Growth.{lines_more}

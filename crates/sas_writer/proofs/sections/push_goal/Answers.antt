@@ -1,6 +1,5 @@
-use Rattle.std.proofs.Common.{◌≡◌, ◌++◌, ◌∷◌, [], length, map}
-use Rattle.std.specs.Prelude.{codes, decimal}
-use Rattle.sas_writer.specs.Spelling.{text_of, name_line, or_minus_one, effect_line}
+use Rattle.std.proofs.Common.{◌++◌, ◌∷◌, []}
+use Rattle.std.specs.Prelude.{codes}
 use Rattle.sas_writer.specs.TaskLines.{goal_lines, facts_lines}
 use Rattle.sas_writer.proofs.Growth.{then, on_ok}
 use Rattle.sas_writer.proofs.sections.push_goal.Goals as goal

@@ -1,6 +1,5 @@
-use Rattle.std.proofs.Common.{◌≡◌, ◌++◌, ◌∷◌, [], length, map, ap, ◌∙◌}
+use Rattle.std.proofs.Common.{◌++◌, ◌∷◌, [], ap, ◌∙◌}
 use Rattle.std.specs.Prelude.{codes, decimal}
-use Rattle.sas_writer.specs.Spelling.{text_of, name_line, or_minus_one, effect_line}
 use Rattle.sas_writer.specs.TaskLines.{head_lines}
 use Rattle.sas_writer.proofs.Growth.{then, on_ok}
 use Rattle.sas_writer.proofs.sections.push_head.Goals as goal

@@ -1,5 +1,4 @@
-use Rattle.std.proofs.Common.{◌≡◌, ◌++◌, ◌∷◌, [], sym, ap, ◌∙◌}
-use Rattle.sas_writer.specs.Spelling.{text_of}
+use Rattle.std.proofs.Common.{◌++◌, ◌∷◌, [], sym, ap, ◌∙◌}
 use Rattle.sas_writer.specs.Spelling.{name_line}
 use Rattle.sas_writer.proofs.Growth.{line_more}
 use Rattle.sas_writer.proofs.variables.push_names.Goals as goal

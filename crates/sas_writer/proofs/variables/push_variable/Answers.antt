@@ -1,6 +1,6 @@
-use Rattle.std.proofs.Common.{◌≡◌, ◌++◌, ◌∷◌, [], length, map}
+use Rattle.std.proofs.Common.{◌++◌, ◌∷◌, [], length, map}
 use Rattle.std.specs.Prelude.{codes, decimal}
-use Rattle.sas_writer.specs.Spelling.{text_of, name_line, or_minus_one, effect_line}
+use Rattle.sas_writer.specs.Spelling.{name_line, or_minus_one}
 use Rattle.sas_writer.specs.TaskLines.{variable_lines}
 use Rattle.sas_writer.proofs.Growth.{then, on_ok}
 use Rattle.sas_writer.proofs.variables.push_variable.Goals as goal

@@ -1,4 +1,9 @@
 pub mod Growth
 pub mod Units
 pub mod Numbers
+pub mod Returning
+pub mod Walking
+pub mod OneRun
+pub mod Reasons
+pub mod Noting
 pub mod Checking

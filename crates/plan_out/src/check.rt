@@ -1,8 +1,12 @@
 //! Whether the blocks of a text are a list of plans of a mode, each once and by cost.
 
-ghost use Rattle.std.specs.Prelude.{◌≡◌, ◌<◌, All, IfOk, MatchOption, length};
-ghost use Rattle.plan_out.specs.Checks.{IsSound, IsReason, Finds};
+ghost use Rattle.std.specs.Prelude.{◌≡◌, ◌+◌, [], ◌∷◌, ◌++◌, List, All, IfOk, MatchOption, length};
+ghost use Rattle.plan_out.specs.declared.blocks.ReadBlock.{ReadBlock};
+ghost use Rattle.plan_out.specs.Checks.{AreNamed, IsSpelling, IsSeen, Passes};
+ghost use Rattle.plan_out.specs.Fails.{IsFirstReason, Finds};
+ghost use Rattle.symk_task.specs.Fits.{Fits};
 ghost use Rattle.task_run.specs.Counted.{AreRulesOf};
+ghost use Rattle.task_run.specs.Verdicts.{AreOperators};
 
 use crate::blocks::{Blocks, ReadBlock};
 use crate::run::{Outcome, run};
@@ -51,7 +55,7 @@ pub fn check_list(
     blocks: &Blocks,
 ) -> Result<Checked, Memory>
     requires { All (λ b. length b.names ≡ length b.ops) blocks.now.list }
-    ensures { IfOk result (Finds task.now blocks.now.list) }
+    ensures { IfOk result (Finds task.now mode blocks.now.list) }
 {
     let blocks = blocks.list.as_slice();
     let rules = Rules::of(alloc, task)?;
@@ -80,10 +84,15 @@ fn check_next(
 ) -> Result<Option<Why>, Memory>
     requires rules { AreRulesOf task.now rules.now }
     requires names { length block.now.names ≡ length block.now.ops }
-    ensures { IfOk result (λ why. MatchOption why (IsSound task.now block.now) (IsReason task.now block.now)) }
+    ensures fits { Fits task.now }
+    ensures next { IfOk result (λ why. (before : List ReadBlock) → IsSeen mode before seen.old → plan ≡ length before + 1 →
+        MatchOption why
+        (Passes task.now mode before block.now × IsSeen mode (before ++ block.now ∷ []) seen.new)
+        (IsFirstReason task.now mode before block.now)) }
 {
-    if let Some(why) = misspelled(task, block) {
-        return Ok(Some(why));
+    match misspelled(task, block) {
+        Some(why) => return Ok(Some(why)),
+        None => {}
     }
     let back = match run(alloc, task, rules, mode, &block.ops)? {
         Outcome::StopsAt { step } => return Ok(Some(Why::StopsAt { step })),
@@ -94,8 +103,9 @@ fn check_next(
     if !cost_fits(task, block, cost) {
         return Ok(Some(Why::WrongCost { cost }));
     }
-    if let Some(earlier) = seen.note(key_of(alloc, mode, &block.ops)?, plan)? {
-        return Ok(Some(Why::Repeats { earlier }));
+    match seen.note(key_of(alloc, mode, &block.ops)?, plan)? {
+        Some(earlier) => return Ok(Some(Why::Repeats { earlier })),
+        None => {}
     }
     if seen.is_cheaper(block.cost) {
         return Ok(Some(Why::Cheaper));
@@ -109,13 +119,15 @@ fn check_next(
 /// The first step whose operator isn't there, else the first that has another name.
 fn misspelled(task: &Task, block: &ReadBlock) -> Option<Why>
     requires { length block.now.names ≡ length block.now.ops }
-    ensures { MatchOption result (All (λ op. op < length task.now.operators) block.now.ops) (IsReason task.now block.now) }
+    ensures fits { Fits task.now }
+    ensures spelling { MatchOption result (AreOperators task.now block.now.ops × AreNamed task.now block.now) (IsSpelling task.now block.now) }
 {
-    let operators = block.ops.as_slice();
-    if let Some(step) = too_large(operators, task.operators()) {
+    let numbers = block.ops.as_slice();
+    let operators = task.parts().operators.as_slice();
+    if let Some(step) = too_large(numbers, task.operators()) {
         return Some(Why::NoSuchOperator { step });
     }
-    match wrong_name(task, operators, block.names.as_slice()) {
+    match wrong_name(operators, numbers, block.names.as_slice()) {
         Some(step) => Some(Why::WrongName { step }),
         None => None,
     }

@@ -1,7 +1,9 @@
 //! Runs of a block's operators.
 
-ghost use Rattle.std.specs.Prelude.{◌<◌, All, IfOk, length};
-ghost use Rattle.plan_out.specs.Checks.{IsOutcome};
+ghost use Rattle.std.specs.Prelude.{◌≡◌, ℕ, ◌+◌, ◌<◌, List, [], ◌∷◌, ◌++◌, All, IfOk, OnOk, length};
+ghost use Rattle.plan_out.specs.Checks.{IsOutcome, IsPassed};
+ghost use Rattle.symk_task.specs.declared.parts.Mode.{Mode};
+ghost use Rattle.symk_task.specs.declared.parts.Mode.TheVariants.{Loopless};
 ghost use Rattle.task_run.specs.Counted.{AreRulesOf};
 
 use std::alloc::Global;
@@ -30,7 +32,7 @@ pub fn run(
 ) -> Result<Outcome, Memory>
     requires rules { AreRulesOf task.now rules.now }
     requires operators { All (λ op. op < length task.now.operators) plan.now }
-    ensures { IfOk result (IsOutcome task.now plan.now) }
+    ensures { IfOk result (IsOutcome task.now mode plan.now) }
 {
     let operators = plan.as_slice();
     let mut passed = Passed::new(alloc);
@@ -42,9 +44,7 @@ pub fn run(
         }
         let next = successor_in(alloc, task, operators[i], &state, &values)?;
         values = closed_by(alloc, task, rules, &next)?;
-        if mode == Mode::Loopless {
-            passed.leave(state, &next, i as u64 + 1)?;
-        }
+        passed.leave(mode, state, &next, i as u64 + 1)?;
         state = next;
     }
     if goal_in(task, &state, &values) {
@@ -62,20 +62,37 @@ struct Passed {
 }
 
 impl Passed {
-    fn new(alloc: Global) -> Passed {
+    fn new(alloc: Global) -> Passed
+        ensures { (mode : Mode) (state : List ℕ) → IsPassed mode [] state result }
+    {
         Passed {
             left: BTreeSet::new(alloc),
             back: None,
         }
     }
 
+    /// Notes that this step leads from one state to the other; in mode loopless alone.
+    fn leave(&mut self, mode: Mode, from: State, to: &State, step: u64) -> Result<(), Memory>
+        ensures { OnOk result ((left : List (List ℕ)) → step ≡ length left + 1 →
+            IsPassed mode left from self.old → IsPassed mode (left ++ from ∷ []) to.now self.new) }
+    {
+        match mode {
+            Mode::TopK | Mode::Unordered => Ok(()),
+            Mode::Loopless => self.note(from, to, step),
+        }
+    }
+
     /// Notes that this step leads from one state to the other.
-    fn leave(&mut self, from: State, to: &State, step: u64) -> Result<(), Memory> {
-        if self.back.is_none() {
-            self.left.insert(from)?;
-            if self.left.contains(to) {
-                self.back = Some(step);
-            }
+    fn note(&mut self, from: State, to: &State, step: u64) -> Result<(), Memory>
+        ensures { OnOk result ((left : List (List ℕ)) → step ≡ length left + 1 →
+            IsPassed Loopless left from self.old → IsPassed Loopless (left ++ from ∷ []) to.now self.new) }
+    {
+        if self.back.is_some() {
+            return Ok(());
+        }
+        self.left.insert(from)?;
+        if self.left.contains(to) {
+            self.back = Some(step);
         }
         Ok(())
     }

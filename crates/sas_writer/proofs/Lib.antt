@@ -5,3 +5,4 @@ pub mod Pieces
 pub mod Rows
 pub mod SectionRows
 pub mod Small
+pub mod Words

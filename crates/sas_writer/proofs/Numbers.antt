@@ -11,10 +11,11 @@ use Rattle.symk_task.specs.declared.parts.Effect.{Effect}
 use Rattle.symk_task.specs.declared.parts.Rule.{Rule}
 use Rattle.sas_reader.specs.Numbers.{is_blank_byte, words_of, numbers_of_words, numbers_of, with_first}
 use Rattle.sas_reader.specs.Format.{fact_numbers, effect_numbers, head_numbers}
-use Rattle.sas_reader.proofs.Spelling.{Word, IsSmall, decimal_spells, number_word, minus_word, keep_word, word_then}
+use Rattle.sas_reader.proofs.Spelling.{IsSmall}
 use Rattle.sas_writer.specs.Spelling.{or_minus_one, fact_line, condition, effect_line}
 use Rattle.sas_writer.specs.TaskLines.{head_line}
 use Rattle.sas_writer.proofs.Pieces.{Plain, AllByRecursion-append}
+use Rattle.sas_writer.proofs.Words.{Word, decimal_spells, number_word, minus_word, keep_word, word_then}
 
 -- a word that stands alone, the number that it is, and no CR and no LF in it
 pub record IsWord (n : Option ℕ) (word : List ℕ) : Type 0 where

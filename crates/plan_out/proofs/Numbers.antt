@@ -1,11 +1,9 @@
 -- Where a number ends.
-use Rattle.std.proofs.Common.{◌≡◌, ℕ, ◌+◌, ◌^◌, ◌<◌, ◌≤◌, Bool, true, false, cond, List, length, take, drop, Option, Some, None, refl, sym, ap, ◌∙◌, subst, arith}
+use Rattle.std.proofs.Common.{◌≡◌, ℕ, ◌+◌, ◌^◌, ◌<◌, ◌≤◌, Bool, true, false, cond, List, length, Some, None, refl, sym, arith}
 use Rattle.std.specs.Prelude.{◌&&◌, nat_le, nat_lt}
-use Rattle.std.specs.List.{take_while, prefix_len}
-use Rattle.std.proofs.lemmas.Bool.{false≢true, leb-true}
-use Rattle.std.proofs.lemmas.List.{length-take, length-drop}
+use Rattle.std.proofs.lemmas.Bool.{leb-true}
+use Rattle.std.proofs.lemmas.List.{length-take}
 use Rattle.symk_text.specs.Numbers.{number_at, run_at, value_of}
-use Rattle.std.specs.Char.{is_ascii_digit}
 
 picked : (b : Bool) (v e : ℕ) (r : ℕ × ℕ) → cond b (Some (v, e)) None ≡ Some r → (b ≡ true) × (r.1 ≡ e)
 picked true v e r h = (refl, sym (cc))

@@ -1,5 +1,5 @@
 -- Which reasons are not true of a block.
-use Rattle.std.proofs.Common.{◌≡◌, ℕ, ◌+◌, ◌-◌, ◌<◌, ◌≤◌, List, length, get_or, take, Option, Some, None, inl, inr, refl, sym, ap, subst, ◌∙◌, arith}
+use Rattle.std.proofs.Common.{◌≡◌, ℕ, ◌+◌, ◌-◌, ◌<◌, List, Option, Some, None, inl, inr, refl, sym, subst, ◌∙◌, arith}
 use Rattle.std.specs.Prelude.{All, IsSomeAnd, slice_get}
 use Rattle.std.proofs.lemmas.Bool.{cases_eq}
 use Rattle.std.proofs.lemmas.Option.{slice_get_within, get_or_from_slice_get}
@@ -13,7 +13,7 @@ use Rattle.plan_out.specs.declared.check.Why.{Why}
 use Rattle.plan_out.specs.declared.check.Why.TheVariants.{NoSuchOperator, WrongName, StopsAt, MissesGoal, WrongCost, Repeats, Cheaper, Loops}
 use Rattle.plan_out.specs.Fails.{IsCostLine, IsCheaper, IsFirstSame, IsFirstReason, Says, rank}
 use Rattle.plan_out.specs.Checks.{AreNamed, IsSpelling, Passes, WalksBack}
-use Rattle.plan_out.proofs.OneRun.{plan_no_stop, plan_no_miss, miss_no_stop, no_loop}
+use Rattle.plan_out.proofs.OneRun.{plan_no_stop, plan_no_miss, no_loop}
 
 -- none of the first reasons is true of the block
 abbrev pub IsClear : TaskParts → Mode → List ReadBlock → ReadBlock → ℕ → Type 0

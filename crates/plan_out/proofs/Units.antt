@@ -1,12 +1,11 @@
 -- Each operator costs 1 exactly where the test says so.
-use Rattle.std.proofs.Common.{◌≡◌, ℕ, zero, suc, ◌+◌, ◌<◌, Bool, true, false, cond, List, [], ◌∷◌, length, refl, sym, ap, ◌∙◌, arith}
+use Rattle.std.proofs.Common.{◌≡◌, ℕ, zero, suc, ◌<◌, Bool, true, false, cond, List, [], ◌∷◌, length, refl, sym, arith}
 use Rattle.std.specs.Prelude.{slice_get, ◌==◌, ◌||◌, ◌&&◌, ◌↔◌}
 use Rattle.std.specs.Option.{option_map_or}
 use Rattle.std.specs.List.{list_all}
 use Rattle.std.proofs.lemmas.Bool.{eqb-true, eq-eqb, false≢true}
 use Rattle.symk_task.specs.declared.parts.Operator.{Operator}
 use Rattle.symk_task.specs.declared.parts.TaskParts.{TaskParts}
-use Rattle.symk_task.specs.Steps.{cost_at}
 use Rattle.symk_task.specs.Plans.{IsUnit}
 use Rattle.plan_out.specs.Texts.{is_unit}
 

@@ -20,7 +20,7 @@ use Rattle.plan_out.specs.declared.run.Passed.{Passed}
 use Rattle.plan_out.specs.declared.seen.Seen.{Seen}
 use Rattle.plan_out.specs.declared.check.Why.{Why}
 use Rattle.plan_out.specs.declared.check.Why.TheVariants.{NoSuchOperator, WrongName, StopsAt, MissesGoal, WrongCost, Repeats, Cheaper, Loops}
-use Rattle.plan_out.specs.Fails.{IsNamed, IsMisnamed, IsCostLine, IsFirstSame, IsCheaper, Recurs, IsFirstReturn, IsFirstLoop}
+use Rattle.plan_out.specs.Fails.{IsNamed, IsMisnamed, IsCostLine, IsFirstSame, IsCheaper, Recurs, IsFirstReturn}
 
 -- each step line has its operator's name
 abbrev pub AreNamed : TaskParts → ReadBlock → Type 0

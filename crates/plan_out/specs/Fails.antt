@@ -1,5 +1,5 @@
 -- Why a block of a list fails.
-use Rattle.std.specs.Prelude.{◌≡◌, ◌≢◌, ℕ, ◌-◌, ◌<◌, ◌≤◌, List, [], length, take, slice_get, slice_index, slice_index_or, All, Contains, IsSomeAnd}
+use Rattle.std.specs.Prelude.{◌≡◌, ℕ, ◌-◌, ◌<◌, ◌≤◌, List, [], length, take, slice_get, slice_index, slice_index_or, All, Contains, IsSomeAnd}
 use Rattle.std.specs.Option.{option_map_or}
 use Rattle.symk_task.specs.declared.parts.Mode.{Mode}
 use Rattle.symk_task.specs.declared.parts.Mode.TheVariants.{Loopless}

@@ -1,9 +1,10 @@
 //! Plan texts: how plans are printed, read back and checked.
 //!
-//! `block` and `end_line` print one plan and the end of a list. `read_plans` reads a plan text, or names the first line at
-//! which no plan text can go on so. `check_list` says whether the blocks of a text are a list of plans of a mode, each
-//! once and by cost, or names the first that fails and why. It stands on `symk_text` for lines and numbers, on
-//! `symk_task` for the task, on `task_run` for runs, and on `indexmap` for the plans seen so far.
+//! `block` and `end_line` print one plan and the end of a list, and their bytes are proved. `read_plans` reads a plan text,
+//! or names the first line at which no plan text can go on so; proved of it is that a block that is read has a name for
+//! each of its operators. `check_list` is exact: it calls the blocks good where none fails, and else it names the first
+//! that fails and the first reason that is true of it, as `specs/Fails.antt` defines both. It stands on `symk_text` for
+//! lines and numbers, on `symk_task` for the task, on `task_run` for runs, and on `indexmap` for the plans seen so far.
 #![tactic(auto)]
 
 mod blocks;

@@ -97,6 +97,8 @@ fn prints_a_block_and_each_end(rt: HostRuntime) -> Result<(), Fail> {
     assert!(rt; parts.fits());
     let task = Task::of(parts);
     let plan = Plan::of(vec![in alloc; 0]?);
+    assert!(rt; task.operators() == 1);
+    assert!(rt; task.plan_cost(&plan) == 1);
     assert_eq!(rt; block(alloc, &task, 1, &plan)?.as_slice(), ONE.as_bytes());
     for (end, want) in [
         (End::Reached { n: 20 }, "; reached 20\n"),

@@ -1,9 +1,8 @@
-use Rattle.std.proofs.Common.{◌≡◌, ℕ, ◌+◌, ◌<◌, List, length, take, refl, sym, subst, arith}
+use Rattle.std.proofs.Common.{◌+◌, List, length, take, subst, arith}
 use Rattle.plan_out.specs.declared.blocks.ReadBlock.{ReadBlock}
-use Rattle.plan_out.specs.declared.check.Why.{Why}
 use Rattle.plan_out.specs.declared.check.Checked.TheVariants.{Good, Bad}
-use Rattle.plan_out.specs.Fails.{IsFirstReason, Fails, Finds}
-use Rattle.plan_out.specs.Checks.{IsSeen, Passes}
+use Rattle.plan_out.specs.Fails.{IsFirstReason, Finds}
+use Rattle.plan_out.specs.Checks.{IsSeen}
 use Rattle.plan_out.proofs.Checking.{count_before, before_more, none_more, found_bad, found_good}
 use Rattle.plan_out.proofs.check.check_list.Goals as goal
 

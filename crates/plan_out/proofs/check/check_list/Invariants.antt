@@ -2,7 +2,6 @@ use Rattle.std.proofs.Common.{ℕ, ◌<◌, take}
 use Rattle.plan_out.specs.Checks.{IsSeen}
 use Rattle.plan_out.specs.Fails.{Fails}
 use Rattle.plan_out.specs.declared.check.Why.{Why}
-use Rattle.symk_task.specs.Fits.{Fits}
 use Rattle.plan_out.proofs.check.check_list.Given as goal
 
 abbrev pub invariant-loop-i : goal.invariant-loop-i

@@ -1,19 +1,16 @@
 use Rattle.std.proofs.Common.{◌≡◌, ℕ, ◌-◌, ◌≤◌, ◌∙◌, List, Option, Some, None, sym, subst}
-use Rattle.std.specs.Prelude.{All, MatchOption}
+use Rattle.std.specs.Prelude.{All}
 use Rattle.std.proofs.lemmas.Bool.{false≢true}
 use Rattle.std.proofs.lemmas.Option.{MatchOption-at_none, MatchOption-at_some}
 use Rattle.symk_task.specs.declared.parts.Mode.{Mode}
-use Rattle.symk_task.specs.declared.parts.TaskParts.{TaskParts}
-use Rattle.symk_task.specs.Fits.{Fits}
 use Rattle.symk_task.specs.Plans.{IsPlan, Same, cost_of}
-use Rattle.task_run.specs.Verdicts.{AreOperators, Misses}
+use Rattle.task_run.specs.Verdicts.{Misses}
 use Rattle.plan_out.specs.declared.blocks.ReadBlock.{ReadBlock}
-use Rattle.plan_out.specs.declared.check.Why.TheVariants.{MissesGoal, WrongCost, Repeats, Cheaper, Loops}
 use Rattle.plan_out.specs.declared.seen.Seen.{Seen}
-use Rattle.plan_out.specs.Fails.{IsCostLine, IsFirstSame, IsFirstReason}
-use Rattle.plan_out.specs.Checks.{AreNamed, IsSpelling, IsKey, first_of, IsNoted, IsSeen, Passes, WalksBack}
+use Rattle.plan_out.specs.Fails.{IsCostLine, IsFirstSame}
+use Rattle.plan_out.specs.Checks.{IsKey, first_of, IsNoted, IsSeen, Passes, WalksBack}
 use Rattle.plan_out.proofs.OneRun.{miss_no_stop, first_loop}
-use Rattle.plan_out.proofs.Reasons.{IsClear, clear_operators, clear_names, clear_steps, clear_plan, clear_cost, clear_repeats, clear_rising}
+use Rattle.plan_out.proofs.Reasons.{clear_operators, clear_names, clear_steps, clear_plan, clear_cost, clear_repeats, clear_rising}
 use Rattle.plan_out.proofs.Noting.{seen_more, cheaper, not_cheaper}
 use Rattle.plan_out.proofs.check.check_next.Goals as goal
 

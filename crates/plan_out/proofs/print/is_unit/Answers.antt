@@ -1,4 +1,3 @@
-use Rattle.std.proofs.Common.{◌≡◌}
 use Rattle.symk_task.specs.Plans.{IsUnit}
 use Rattle.plan_out.specs.Texts.{is_unit}
 use Rattle.plan_out.proofs.Units.{unit_law, same_test}

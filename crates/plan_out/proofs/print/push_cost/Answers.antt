@@ -1,4 +1,4 @@
-use Rattle.std.proofs.Common.{◌≡◌, ◌++◌, Bool, true, false, sym, subst}
+use Rattle.std.proofs.Common.{◌≡◌, ◌++◌, Bool, sym, subst}
 use Rattle.std.specs.Prelude.{codes, decimal, OnOk}
 use Rattle.plan_out.specs.Texts.{cost_line}
 use Rattle.plan_out.proofs.Growth.{step, on_ok}

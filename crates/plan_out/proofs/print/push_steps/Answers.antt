@@ -1,4 +1,4 @@
-use Rattle.std.proofs.Common.{◌≡◌, ◌++◌, get_or, sym, ap, ◌∙◌}
+use Rattle.std.proofs.Common.{◌++◌, get_or, sym, ap, ◌∙◌}
 use Rattle.plan_out.specs.Texts.{step_line}
 use Rattle.plan_out.proofs.Growth.{one_more}
 use Rattle.plan_out.proofs.print.push_steps.Goals as goal

@@ -1,9 +1,8 @@
-use Rattle.std.proofs.Common.{◌≡◌, ◌<◌, ◌≤◌, ◌+◌, ◌∷◌, [], ◌++◌, ◌∙◌, List, ℕ, ◌-◌, Option, Some, None, MatchOption, length, get_or, take, sym, subst, ap, arith}
+use Rattle.std.proofs.Common.{◌≡◌, ◌<◌, ◌≤◌, ◌+◌, ◌∷◌, [], ◌++◌, ◌∙◌, List, ℕ, ◌-◌, Option, Some, None, MatchOption, length, get_or, take, sym, subst, arith}
 use Rattle.symk_task.specs.declared.parts.Mode.{Mode}
 use Rattle.symk_task.specs.declared.parts.Mode.TheVariants.{TopK, Loopless, Unordered}
 use Rattle.symk_task.specs.declared.parts.TaskParts.{TaskParts}
-use Rattle.symk_task.specs.Plans.{Runs, IsInitial}
-use Rattle.symk_task.specs.Variables.{IsState}
+use Rattle.symk_task.specs.Plans.{IsInitial}
 use Rattle.symk_task.specs.Steps.{Step, Applies, After}
 use Rattle.std.proofs.lemmas.Bool.{false≢true}
 use Rattle.std.proofs.lemmas.List.{take_all, length-take-le}

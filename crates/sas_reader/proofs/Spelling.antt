@@ -20,9 +20,9 @@ fold_push : (value : ℕ) (digits : List ℕ) (digit : ℕ) → fold next value 
 fold_push value [] digit = refl
 fold_push value (d ∷ digits) digit = fold_push (next value d) digits digit
 
-record Spells (n : ℕ) (digits : List ℕ) : Type 0 where
-  each : AllByRecursion (λ d. is_ascii_digit d ≡ true) digits
-  value : value_of digits ≡ n
+pub record Spells (n : ℕ) (digits : List ℕ) : Type 0 where
+  pub each : AllByRecursion (λ d. is_ascii_digit d ≡ true) digits
+  pub value : value_of digits ≡ n
 
 one_more : (digits : List ℕ) (d : ℕ) → AllByRecursion (λ d. is_ascii_digit d ≡ true) digits → is_ascii_digit d ≡ true → AllByRecursion (λ d. is_ascii_digit d ≡ true) (digits ++ d ∷ [])
 one_more [] d h e = (e, tt)
@@ -31,7 +31,7 @@ one_more (c ∷ digits) d h e = (h.0, one_more digits d h.1 e)
 digit_of : (n : ℕ) → n < 10 → is_ascii_digit (48 + n) ≡ true
 digit_of n lt = grind (arith, nat_tests)
 
-decimal_spells : (n : ℕ) → n < 2 ^ 64 → Spells n (decimal n)
+pub decimal_spells : (n : ℕ) → n < 2 ^ 64 → Spells n (decimal n)
 unfolding value_of
 decimal_spells = decimal_by_steps Spells
     (λ n lt. record { each = (digit_of n lt, tt); value = (let e : 0 * 10 + ((48 + n) - 48) ≡ n = omega arith in e) })
@@ -60,10 +60,10 @@ not_minus digits some each = by_test (bytes_eq digits (codes "-1")) refl
     by_test true e = (let same : digits ≡ codes "-1" = (bytes_eq-Decides digits (codes "-1")).0 e in let bad = subst (AllByRecursion (λ d. is_ascii_digit d ≡ true)) same each in (let b : is_ascii_digit 45 ≡ true = bad.0 in cc))
 
 -- a word that stands alone, and the number that it is
-record Word (n : Option ℕ) (word : List ℕ) : Type 0 where
-  some : 1 ≤ length word
-  inked : AllByRecursion (λ b. is_blank_byte b ≡ false) word
-  is : number_of_word word ≡ Some n
+pub record Word (n : Option ℕ) (word : List ℕ) : Type 0 where
+  pub some : 1 ≤ length word
+  pub inked : AllByRecursion (λ b. is_blank_byte b ≡ false) word
+  pub is : number_of_word word ≡ Some n
 
 digit_inked : (d : ℕ) → is_ascii_digit d ≡ true → is_blank_byte d ≡ false
 digit_inked d e = grind (arith, nat_tests)
@@ -72,7 +72,7 @@ digits_inked : (digits : List ℕ) → AllByRecursion (λ d. is_ascii_digit d �
 digits_inked [] h = tt
 digits_inked (d ∷ digits) h = (digit_inked d h.0, digits_inked digits h.1)
 
-number_word : (n : ℕ) → n < 2 ^ 64 → Word (Some n) (decimal n)
+pub number_word : (n : ℕ) → n < 2 ^ 64 → Word (Some n) (decimal n)
 unfolding number_of_word
 number_word n lt =
     let s = decimal_spells n lt in
@@ -83,7 +83,7 @@ number_word n lt =
     let t : eqb (0 + length (decimal n)) (length (decimal n)) ≡ true = grind (arith, nat_tests) in
     record { some = some; inked = digits_inked (decimal n) s.each; is = rw (minus, back, t) refl }
 
-minus_word : Word None (codes "-1")
+pub minus_word : Word None (codes "-1")
 unfolding number_of_word
 minus_word = record { some = omega arith; inked = (refl, (refl, tt)); is = refl }
 
@@ -104,10 +104,10 @@ unfolding word_for
 word_is_for None h = minus_word
 word_is_for (Some n) h = number_word n h
 
-keep_word : (word : List ℕ) (words : List (List ℕ)) → 1 ≤ length word → filter (λ (w : List ℕ). nat_lt 0 (length w)) (word ∷ words) ≡ word ∷ filter (λ (w : List ℕ). nat_lt 0 (length w)) words
+pub keep_word : (word : List ℕ) (words : List (List ℕ)) → 1 ≤ length word → filter (λ (w : List ℕ). nat_lt 0 (length w)) (word ∷ words) ≡ word ∷ filter (λ (w : List ℕ). nat_lt 0 (length w)) words
 keep_word word words some = (let t : nat_lt 0 (length word) ≡ true = grind (arith, nat_tests) in rw t refl)
 
-word_then : (n : Option ℕ) (word rest : List ℕ) → Word n word → numbers_of (word ++ 32 ∷ rest) ≡ with_first n (numbers_of rest)
+pub word_then : (n : Option ℕ) (word rest : List ℕ) → Word n word → numbers_of (word ++ 32 ∷ rest) ≡ with_first n (numbers_of rest)
 unfolding numbers_of numbers_of_words words_of
 word_then n word rest w =
     ap (λ (words : List (List ℕ)). numbers_of_words (filter (λ (w : List ℕ). nat_lt 0 (length w)) words)) (slice_split_at is_blank_byte word 32 rest (All-from_recursion (λ b. is_blank_byte b ≡ false) word w.inked) refl)

@@ -4,3 +4,4 @@ pub mod Rows
 pub mod Format
 pub mod Reading
 pub mod Refused
+pub mod Printed

@@ -1,5 +1,8 @@
 //! Why a file can't be read.
 
+ghost use Rattle.std.specs.Prelude.{◌≡◌};
+ghost use Rattle.sas_reader.specs.Printed.{printed};
+
 use thiserror::Error;
 
 /// What a line of a task file has to be.
@@ -37,7 +40,10 @@ pub enum Shape {
 
 impl Shape {
     /// The word that is printed for the shape.
-    pub fn text(self) -> &'static str {
+    #[tactic(auto, unfolding(crate::specs::Printed::printed))]
+    pub fn text(self) -> &'static str
+        ensures { result.now ≡ printed self }
+    {
         match self {
             Shape::BeginVersion => "begin_version",
             Shape::Three => "3",

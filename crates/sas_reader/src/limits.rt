@@ -6,8 +6,6 @@ pub const MOST_VARIABLES: u64 = 65536;
 pub const MOST_VALUES: u64 = 65536;
 /// The greatest layer.
 pub const LAST_LAYER: u64 = 65535;
-/// The most bits of a state: the sum of the widths of the base variables.
-pub const MOST_BITS: u64 = 4096;
 /// The most facts, conditions or effects of one list.
 pub const MOST_FACTS: u64 = 65536;
 /// The most mutex groups, operators or rules.

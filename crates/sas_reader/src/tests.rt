@@ -9,6 +9,11 @@ fn file_a() -> &'static [u8] {
     b"begin_version\n3\nend_version\nbegin_metric\n0\nend_metric\n1\nbegin_variable\nvar0\n-1\n2\noff\non\nend_variable\n0\nbegin_state\n0\nend_state\nbegin_goal\n1\n0 1\nend_goal\n1\nbegin_operator\nswitch-on\n0\n1\n0 0 0 1\n1\nend_operator\n0\n"
 }
 
+/// A derived variable that two values of another lead to.
+fn file_d() -> &'static [u8] {
+    b"begin_version\n3\nend_version\nbegin_metric\n0\nend_metric\n2\nbegin_variable\npos\n-1\n3\np0\np1\np2\nend_variable\nbegin_variable\ndone\n0\n2\nno\nyes\nend_variable\n0\nbegin_state\n0\n0\nend_state\nbegin_goal\n1\n1 1\nend_goal\n2\nbegin_operator\nm1\n0\n1\n0 0 0 1\n1\nend_operator\nbegin_operator\nm2\n0\n1\n0 0 1 2\n1\nend_operator\n2\nbegin_rule\n1\n0 1\n1 0 1\nend_rule\nbegin_rule\n1\n0 2\n1 0 1\nend_rule\n"
+}
+
 /// A derived variable that rules lead to.
 fn file_j() -> &'static [u8] {
     b"begin_version\n3\nend_version\nbegin_metric\n0\nend_metric\n4\nbegin_variable\nx\n-1\n2\nx0\nx1\nend_variable\nbegin_variable\nd1\n0\n2\nno\nyes\nend_variable\nbegin_variable\nd2\n0\n2\nno\nyes\nend_variable\nbegin_variable\nd3\n1\n2\nno\nyes\nend_variable\n0\nbegin_state\n0\n0\n0\n0\nend_state\nbegin_goal\n1\n2 1\nend_goal\n1\nbegin_operator\ngo\n0\n1\n0 0 0 1\n1\nend_operator\n3\nbegin_rule\n1\n1 1\n2 0 1\nend_rule\nbegin_rule\n1\n0 1\n1 0 1\nend_rule\nbegin_rule\n1\n2 0\n3 0 1\nend_rule\n"
@@ -160,6 +165,15 @@ fn names_the_first_line_of_a_rule_that_offends(rt: HostRuntime) -> Result<(), Fa
         let text = with_line(alloc, file_j(), number, b"x")?;
         assert_eq!(rt; offence_of(alloc, &text)?, Some((number, word)));
     }
+    Ok(())
+}
+
+#[test]
+fn an_effect_on_a_derived_variable_offends(rt: HostRuntime) -> Result<(), Fail> {
+    let alloc = rt.alloc();
+    assert_eq!(rt; offence_of(alloc, file_d())?, None);
+    let text = with_line(alloc, file_d(), 37, b"0 1 0 1")?;
+    assert_eq!(rt; offence_of(alloc, &text)?, Some((37, "effect")));
     Ok(())
 }
 

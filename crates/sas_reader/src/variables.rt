@@ -4,16 +4,17 @@ ghost use Rattle.std.specs.Prelude.{◌≡◌, ◌≤◌, ◌+◌, ◌<◌};
 ghost use Rattle.line_grammar.specs.Reading.{Gives, row_at, many_at};
 ghost use Rattle.symk_task.specs.Variables.{width, range};
 ghost use Rattle.symk_task.specs.Fits.{bits_of};
+ghost use Rattle.symk_task.specs.declared.bits.TheConstants.{STATE_BITS};
 ghost use Rattle.sas_reader.specs.Reading.{name_at, kept, values_at, variable_at, variables_at, used_after, layer_in, may_have, number_that};
 ghost use Rattle.sas_reader.specs.declared.fault.Shape.TheVariants.{Layer, Range};
 
 use crate::fault::Shape;
-use crate::limits::{LAST_LAYER, MOST_BITS, MOST_VALUES, MOST_VARIABLES};
+use crate::limits::{LAST_LAYER, MOST_VALUES, MOST_VARIABLES};
 use crate::numbers::only_number;
 use crate::rows::{Rest, count_of, first_line, name_of, offence, word_of};
 use line_grammar::Stopped;
 use std::alloc::Global;
-use symk_task::{List, Name, Variable};
+use symk_task::{List, Name, STATE_BITS, Variable};
 
 /// How many values a derived variable has.
 const DERIVED_VALUES: u64 = 2;
@@ -56,12 +57,14 @@ fn layer_of<'a>(lines: Rest<'a>) -> Result<(Option<u32>, Rest<'a>), Stopped<Shap
 
 /// A variable of this layer may have so many values, where so many bits are used before it.
 fn may_have(layer: Option<u32>, used: u64, values: u64) -> bool
-    requires { used ≤ 4096 }
+    requires { used ≤ STATE_BITS }
     ensures { result ≡ may_have layer used values }
 {
     match layer {
         Some(_) => values == DERIVED_VALUES,
-        None => 1 <= values && values <= MOST_VALUES && used + width_of(values) <= MOST_BITS,
+        None => 1 <= values
+            && values <= MOST_VALUES
+            && used + width_of(values) <= u64::from(STATE_BITS),
     }
 }
 
@@ -71,7 +74,7 @@ fn range_of<'a>(
     used: u64,
     lines: Rest<'a>,
 ) -> Result<(u64, Rest<'a>), Stopped<Shape>>
-    requires { used ≤ 4096 }
+    requires { used ≤ STATE_BITS }
     ensures { Gives (λ x. (x.0, x.1)) result (row_at Range (number_that (may_have layer used)) lines.entry) }
 {
     let left = lines.len();
@@ -115,7 +118,7 @@ fn values_of<'a>(
     used: u64,
     lines: Rest<'a>,
 ) -> Result<(List<Name>, Rest<'a>), Stopped<Shape>>
-    requires { used ≤ 4096 }
+    requires { used ≤ STATE_BITS }
     ensures { Gives (λ x. (x.0, x.1)) result (values_at layer used lines.entry) }
 {
     let (count, rest) = range_of(layer, used, lines)?;
@@ -129,7 +132,7 @@ fn variable_of<'a>(
     used: u64,
     lines: Rest<'a>,
 ) -> Result<(Variable, Rest<'a>), Stopped<Shape>>
-    requires { used ≤ 4096 }
+    requires { used ≤ STATE_BITS }
     ensures { Gives (λ x. (x.0, x.1)) result (variable_at used lines.entry) }
 {
     let rest = word_of(Shape::BeginVariable, b"begin_variable", lines)?;
@@ -150,7 +153,7 @@ fn variable_of<'a>(
 /// How many bits are used with the variable.
 fn used_after(used: u64, variable: &Variable) -> u64
     requires few { range variable.now ≤ 65536 }
-    requires fits { used + bits_of variable.now ≤ 4096 }
+    requires fits { used + bits_of variable.now ≤ STATE_BITS }
     ensures { result ≡ used_after used variable.now }
 {
     match variable.layer {

@@ -5,4 +5,3 @@ pub mod Pieces
 pub mod Rows
 pub mod SectionRows
 pub mod Small
-pub mod Words

@@ -15,7 +15,7 @@ use Rattle.sas_reader.proofs.Spelling.{IsSmall}
 use Rattle.sas_writer.specs.Spelling.{or_minus_one, fact_line, condition, effect_line}
 use Rattle.sas_writer.specs.TaskLines.{head_line}
 use Rattle.sas_writer.proofs.Pieces.{Plain, AllByRecursion-append}
-use Rattle.sas_writer.proofs.Words.{Word, decimal_spells, number_word, minus_word, keep_word, word_then}
+use Rattle.sas_reader.proofs.Spelling.{Word, decimal_spells, number_word, minus_word, keep_word, word_then}
 
 -- a word that stands alone, the number that it is, and no CR and no LF in it
 pub record IsWord (n : Option ℕ) (word : List ℕ) : Type 0 where

@@ -1,11 +1,17 @@
 -- Which texts are too long, from what each part of a run says.
-use Rattle.std.proofs.Common.{◌≡◌, ◌∙◌, sym, subst, inl, inr, ◌⊎◌, Option, Some, None, IfSome}
+use Rattle.std.proofs.Common.{◌≡◌, ◌≤◌, ◌∙◌, sym, subst, inl, inr, ℕ, length, Option, Some, None, IfSome}
 use Rattle.symk_io.specs.View.{Bytes, Told, Tells}
 use Rattle.symk_io.specs.Told.{IsTextOf, Opened}
+use Rattle.symk_text.specs.Lines.{lines}
+use Rattle.sas_reader.specs.declared.fault.Shape.{Shape}
+use Rattle.sas_reader.specs.declared.fault.ReadFault.{ReadFault}
+use Rattle.sas_reader.specs.declared.fault.ReadFault.TheVariants.{Offence}
+use Rattle.sas_reader.specs.Refused.{RefusedAt}
+use Rattle.symk_cli.specs.declared.TheConstants.{LIMIT}
 use Rattle.symk_words.specs.Texts.{Texts, plan, check, demo}
 use Rattle.symk_cli.specs.Ends.{EndsAs}
 use Rattle.symk_cli.specs.Requests.{AsksPlan, AsksCheck, AsksDemo}
-use Rattle.symk_cli.specs.Lengths.{IsShort, IsLong, StopsText, StopsTask, IsListing, IsVerdict, IsShowing, PlanLengths, CheckLengths, Lengths}
+use Rattle.symk_cli.specs.Lengths.{IsShort, IsLong, IsOffending, StopsText, StopsTask, StopsPlans, IsListing, IsVerdict, IsShowing, PlanLengths, CheckLengths, Lengths}
 use Rattle.symk_cli.specs.declared.status.Status.{Status}
 use Rattle.symk_cli.specs.declared.status.Status.TheVariants as status
 
@@ -42,10 +48,40 @@ task_stops told name status.BadList s = absurd s
 task_stops told name status.Usage s = absurd s
 task_stops told name status.CostRange s = absurd s
 
-pub offending_stops : (told : Option Told) (name : Bytes) (result : Status) → IsShort told name → EndsAs status.Offending result → StopsTask told name result
+pub plans_stops : (told : Option Told) (name : Bytes) (result : Status) → StopsText told name result → StopsPlans told name result
+plans_stops told name status.TooLong s = s
+plans_stops told name status.Unreadable s = s
+plans_stops told name status.WriteFault s = s
+plans_stops told name status.Memory s = s
+plans_stops told name status.Offending s = absurd s
+plans_stops told name status.Reached s = absurd s
+plans_stops told name status.Good s = absurd s
+plans_stops told name status.Shown s = absurd s
+plans_stops told name status.Exhausted s = absurd s
+plans_stops told name status.BadList s = absurd s
+plans_stops told name status.Usage s = absurd s
+plans_stops told name status.CostRange s = absurd s
+
+-- a text that offends is one that was read
+pub offends_at : (told : Option Told) (name text read : Bytes) (fault : ReadFault) (line : ℕ) (wanted : Shape) → length text ≤ LIMIT → IsTextOf told name text → read ≡ text → fault ≡ Offence line wanted → RefusedAt (lines read) fault → IsOffending told name
+offends_at told name text read fault line wanted short is same e refused = record {
+  text = text;
+  short = short;
+  named = is;
+  line = line;
+  wanted = wanted;
+  refused = subst (λ f. RefusedAt (lines text) f) e (subst (λ t. RefusedAt (lines t) fault) same refused);
+}
+
+pub offending_stops : (told : Option Told) (name : Bytes) (result : Status) → IsOffending told name → EndsAs status.Offending result → StopsTask told name result
 offending_stops told name result s (inl e) = subst (λ x. StopsTask told name x) (sym e) s
 offending_stops told name result s (inr (inl e)) = subst (λ x. StopsTask told name x) (sym e) tt
 offending_stops told name result s (inr (inr e)) = subst (λ x. StopsTask told name x) (sym e) tt
+
+pub offending_plans : (told : Option Told) (name : Bytes) (result : Status) → IsShort told name → EndsAs status.Offending result → StopsPlans told name result
+offending_plans told name result s (inl e) = subst (λ x. StopsPlans told name x) (sym e) s
+offending_plans told name result s (inr (inl e)) = subst (λ x. StopsPlans told name x) (sym e) tt
+offending_plans told name result s (inr (inr e)) = subst (λ x. StopsPlans told name x) (sym e) tt
 
 -- the statuses of a verdict, a listing and a demonstration
 pub verdict_ends : (wanted result : Status) → IsVerdict wanted → EndsAs wanted result → IsVerdict result
@@ -83,7 +119,7 @@ plan_lists told file status.TooLong s l = absurd l
 plan_lists told file status.Unreadable s l = tt
 plan_lists told file status.WriteFault s l = tt
 plan_lists told file status.Memory s l = tt
-plan_lists told file status.Offending s l = s
+plan_lists told file status.Offending s l = absurd l
 plan_lists told file status.Reached s l = s
 plan_lists told file status.Good s l = s
 plan_lists told file status.Shown s l = s
@@ -98,7 +134,7 @@ check_stops told file plans status.TooLong s = inl s
 check_stops told file plans status.Unreadable s = tt
 check_stops told file plans status.WriteFault s = tt
 check_stops told file plans status.Memory s = tt
-check_stops told file plans status.Offending s = s
+check_stops told file plans status.Offending s = inl s
 check_stops told file plans status.Reached s = absurd s
 check_stops told file plans status.Good s = absurd s
 check_stops told file plans status.Shown s = absurd s
@@ -107,12 +143,12 @@ check_stops told file plans status.BadList s = absurd s
 check_stops told file plans status.Usage s = tt
 check_stops told file plans status.CostRange s = absurd s
 
-pub plans_stop : (old new : Option Told) (file plans : Bytes) (result : Status) → IsShort old file → Tells (Opened file) old new → StopsTask new plans result → CheckLengths old file plans result
+pub plans_stop : (old new : Option Told) (file plans : Bytes) (result : Status) → IsShort old file → Tells (Opened file) old new → StopsPlans new plans result → CheckLengths old file plans result
 plans_stop old new file plans status.TooLong f t s = inr (f, long_before file plans old new t s)
 plans_stop old new file plans status.Unreadable f t s = tt
 plans_stop old new file plans status.WriteFault f t s = tt
 plans_stop old new file plans status.Memory f t s = tt
-plans_stop old new file plans status.Offending f t s = f
+plans_stop old new file plans status.Offending f t s = inr (f, short_before file plans old new t s)
 plans_stop old new file plans status.Reached f t s = absurd s
 plans_stop old new file plans status.Good f t s = absurd s
 plans_stop old new file plans status.Shown f t s = absurd s
@@ -126,7 +162,7 @@ check_judges old new file plans status.TooLong f t p v = absurd v
 check_judges old new file plans status.Unreadable f t p v = tt
 check_judges old new file plans status.WriteFault f t p v = tt
 check_judges old new file plans status.Memory f t p v = tt
-check_judges old new file plans status.Offending f t p v = f
+check_judges old new file plans status.Offending f t p v = absurd v
 check_judges old new file plans status.Reached f t p v = absurd v
 check_judges old new file plans status.Good f t p v = (f, short_before file plans old new t p)
 check_judges old new file plans status.Shown f t p v = absurd v

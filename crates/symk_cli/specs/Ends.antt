@@ -1,5 +1,5 @@
 -- How a run may end, and why.
-use Rattle.std.specs.Prelude.{◌≡◌, ℕ, ◌⊎◌, ◌≤◌}
+use Rattle.std.specs.Prelude.{◌≡◌, ℕ, ◌⊎◌}
 use Rattle.symk_io.specs.View.{Bytes, Tells, Grew, GrewByPart, SinkView}
 use Rattle.symk_io.specs.Causes.{Rose}
 use Rattle.symk_cli.specs.declared.status.Status.{Status}

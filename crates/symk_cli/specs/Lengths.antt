@@ -2,6 +2,10 @@
 use Rattle.std.specs.Prelude.{◌≡◌, ℕ, ◌⊎◌, ◌<◌, ◌≤◌, length, ⊤, Option, Some, None}
 use Rattle.symk_io.specs.View.{Bytes, Told}
 use Rattle.symk_io.specs.Told.{IsTextOf}
+use Rattle.symk_text.specs.Lines.{lines}
+use Rattle.sas_reader.specs.declared.fault.Shape.{Shape}
+use Rattle.sas_reader.specs.declared.fault.ReadFault.TheVariants.{Offence}
+use Rattle.sas_reader.specs.Refused.{RefusedAt}
 use Rattle.symk_words.specs.Texts.{Texts, plan, check, demo}
 use Rattle.symk_cli.specs.declared.TheConstants.{LIMIT}
 use Rattle.symk_cli.specs.declared.status.Status.{Status}
@@ -10,6 +14,15 @@ use Rattle.symk_cli.specs.declared.status.Status.TheVariants as status
 -- the text of the name, where it is told, has at most 268,435,456 bytes
 abbrev pub IsShort : Option Told → Bytes → Type 0
 IsShort told name = (text : Bytes) × (length text ≤ LIMIT) × IsTextOf told name text
+
+-- the text of the name, where it is told, has at most so many bytes, and a line of it is the first at which no task file can go on so
+pub record IsOffending (told : Option Told) (name : Bytes) : Type 0 where
+  pub text : Bytes
+  pub short : length text ≤ LIMIT
+  pub named : IsTextOf told name text
+  pub line : ℕ
+  pub wanted : Shape
+  pub refused : RefusedAt (lines text) (Offence line wanted)
 
 -- it has more
 abbrev pub IsLong : Option Told → Bytes → Type 0
@@ -23,10 +36,15 @@ StopsText told name status.WriteFault = ⊤
 StopsText told name status.Memory = ⊤
 StopsText told name result = ⊥
 
--- how reading a task or a list of plans does
+-- how reading a task does
 abbrev pub StopsTask : Option Told → Bytes → Status → Type 0
-StopsTask told name status.Offending = IsShort told name
+StopsTask told name status.Offending = IsOffending told name
 StopsTask told name result = StopsText told name result
+
+-- how reading a list of plans does
+abbrev pub StopsPlans : Option Told → Bytes → Status → Type 0
+StopsPlans told name status.Offending = IsShort told name
+StopsPlans told name result = StopsText told name result
 
 -- the statuses of a listing
 abbrev pub IsListing : Status → Type 0
@@ -52,23 +70,25 @@ IsShowing status.WriteFault = ⊤
 IsShowing status.Memory = ⊤
 IsShowing result = ⊥
 
--- `plan`: too long only where FILE is, and a status that rests on FILE only where it isn't
+-- `plan`: too long only where FILE is, an offending line only where FILE isn't and offends, and a listing's end only where it isn't
 abbrev pub PlanLengths : Option Told → Bytes → Status → Type 0
 PlanLengths told file status.TooLong = IsLong told file
 PlanLengths told file status.Usage = ⊤
 PlanLengths told file status.Unreadable = ⊤
 PlanLengths told file status.WriteFault = ⊤
 PlanLengths told file status.Memory = ⊤
+PlanLengths told file status.Offending = IsOffending told file
 PlanLengths told file result = IsShort told file
 
--- `check`: too long only where FILE is, or PLANS after a FILE that isn't; a verdict only where neither is
+-- `check`: too long only where FILE is, or PLANS after a FILE that isn't; an offending line only where FILE isn't and offends,
+-- or neither is; a verdict only where neither is
 abbrev pub CheckLengths : Option Told → Bytes → Bytes → Status → Type 0
 CheckLengths told file plans status.TooLong = IsLong told file ⊎ (IsShort told file × IsLong told plans)
 CheckLengths told file plans status.Usage = ⊤
 CheckLengths told file plans status.Unreadable = ⊤
 CheckLengths told file plans status.WriteFault = ⊤
 CheckLengths told file plans status.Memory = ⊤
-CheckLengths told file plans status.Offending = IsShort told file
+CheckLengths told file plans status.Offending = IsOffending told file ⊎ (IsShort told file × IsShort told plans)
 CheckLengths told file plans result = IsShort told file × IsShort told plans
 
 -- What a status says of the lengths of the texts that the words name.

@@ -1,5 +1,5 @@
 -- What the texts of the words ask for.
-use Rattle.std.specs.Prelude.{◌≡◌, ℕ, ◌≤◌, Option}
+use Rattle.std.specs.Prelude.{◌≡◌, ◌≤◌}
 use Rattle.symk_io.specs.View.{Bytes}
 use Rattle.symk_words.specs.Texts.{Texts, plan, check, demo}
 use Rattle.symk_cli.specs.declared.request.Request.{Request}

@@ -1,10 +1,10 @@
 //! The files that the words name, read whole, or the refusal of them that ends the run.
 
-ghost use Rattle.std.specs.Prelude.{◌≡◌, All, length, IfOk, IfErr, OnOk};
+ghost use Rattle.std.specs.Prelude.{◌≡◌, ◌≤◌, All, length, IfOk, IfErr, OnOk};
 ghost use Rattle.symk_io.specs.View.{Tells};
-ghost use Rattle.symk_io.specs.Told.{Opened};
+ghost use Rattle.symk_io.specs.Told.{IsTextOf, Opened};
 ghost use Rattle.symk_cli.specs.Ends.{HasCauses};
-ghost use Rattle.symk_cli.specs.Lengths.{IsShort, StopsText, StopsTask};
+ghost use Rattle.symk_cli.specs.Lengths.{IsShort, StopsText, StopsTask, StopsPlans};
 
 use crate::LIMIT;
 use crate::ending::{end, end_with};
@@ -47,7 +47,8 @@ pub fn text_of<F: Files, K: Sink>(
     named: Named,
     name: &str,
 ) -> Result<Vec<u8>, Status>
-    ensures short { OnOk result (IsShort (F.view files.old).told name.now) }
+    ensures text { IfOk result (λ text. IsTextOf (F.view files.old).told name.now text.items) }
+    ensures within { IfOk result (λ text. length text.items ≤ LIMIT) }
     ensures opened { OnOk result (Tells (Opened name.now) (F.view files.old).told (F.view files.new).told) }
     ensures quiet { OnOk result (((F.view files.new).faults ≡ (F.view files.old).faults) × ((K.view sink.new).faults ≡ (K.view sink.old).faults)) }
     ensures stops { IfErr result (StopsText (F.view files.old).told name.now) }
@@ -96,7 +97,7 @@ pub fn plans_of<F: Files, K: Sink>(
     ensures names { IfOk result (λ blocks. All (λ block. length block.names ≡ length block.ops) blocks.list) }
     ensures short { OnOk result (IsShort (F.view files.old).told name.now) }
     ensures quiet { OnOk result (((F.view files.new).faults ≡ (F.view files.old).faults) × ((K.view sink.new).faults ≡ (K.view sink.old).faults)) }
-    ensures stops { IfErr result (StopsTask (F.view files.old).told name.now) }
+    ensures stops { IfErr result (StopsPlans (F.view files.old).told name.now) }
     ensures causes { IfErr result (λ status. HasCauses status (F.view files.old).faults (F.view files.new).faults (K.view sink.old).faults (K.view sink.new).faults) }
 {
     let text = text_of(alloc, files, sink, Named::Plans, name)?;

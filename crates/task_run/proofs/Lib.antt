@@ -3,6 +3,7 @@ pub mod Stepping
 pub mod Applying
 pub mod Growing
 pub mod Running
+pub mod OneVerdict
 pub mod Layers
 pub mod Placing
 pub mod Resuming

@@ -1,6 +1,9 @@
 //! Runs of plans.
 
-ghost use Rattle.std.specs.Prelude.{◌<◌, All, IfOk, MatchOption};
+ghost use Rattle.std.specs.Prelude.{◌≡◌, ◌<◌, ℕ, List, All, IfOk, MatchOption};
+ghost use Rattle.symk_task.specs.declared.parts.TaskParts.{TaskParts};
+ghost use Rattle.symk_task.specs.Fits.{Fits};
+ghost use Rattle.task_run.specs.declared.verdict.Verdict.{Verdict};
 ghost use Rattle.task_run.specs.Verdicts.{IsTooLarge, Judges};
 
 use crate::closing::closed_by;
@@ -50,3 +53,9 @@ pub fn run_plan(alloc: Global, task: &Task, plan: &Plan) -> Result<Verdict, Memo
         Ok(Verdict::MissesGoal)
     }
 }
+
+/// A plan of a task has one verdict: no other than the one that `run_plan` gives is true of it.
+pub fn plan_has_one_verdict()
+    ensures { (task : TaskParts) (plan : List ℕ) (one other : Verdict) →
+        Fits task → Judges task plan one → Judges task plan other → one ≡ other }
+{}

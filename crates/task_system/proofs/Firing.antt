@@ -1,10 +1,10 @@
 -- The rules that fire in a layer derive what is derived there, and so the raised variables are found layer by layer.
-use Rattle.std.proofs.Common.{◌≡◌, ℕ, zero, suc, ◌+◌, ◌<◌, ◌≤◌, ◌⊎◌, inl, inr, Bool, true, false, not, cond, ◌&&◌, ◌||◌, ◌==◌, nat_lt, slice_index, List, [], ◌∷◌, length, get_or, Option, Some, None, IsSomeAnd, slice_get, refl, sym, ap, subst, ◌∙◌, arith}
+use Rattle.std.proofs.Common.{◌≡◌, ℕ, zero, suc, ◌+◌, ◌<◌, ◌≤◌, ◌⊎◌, inl, inr, Bool, true, false, cond, ◌||◌, ◌==◌, nat_lt, slice_index, List, [], ◌∷◌, length, get_or, Option, Some, None, IsSomeAnd, slice_get, refl, sym, ap, subst, ◌∙◌, arith}
 use Rattle.std.specs.Bool.{Decides}
 use Rattle.std.specs.Option.{option_map}
-use Rattle.std.specs.List.{AllByRecursion, All, Contains, find, cons_option}
+use Rattle.std.specs.List.{AllByRecursion, Contains, find, cons_option}
 use Rattle.std.proofs.lemmas.Bool.{and_parts, and_from, not-true, not_from_false, eqb-true, eq-eqb, or_cases, or_left, or_right, false≢true, ltb-true, lt-ltb}
-use Rattle.std.proofs.lemmas.Bool.Decides.{Decides-eqb, Decides-and, Decides-or, Decides-ltb}
+use Rattle.std.proofs.lemmas.Bool.Decides.{Decides-eqb, Decides-and, Decides-or}
 use Rattle.symk_task.specs.declared.parts.Fact.{Fact}
 use Rattle.symk_task.specs.declared.parts.Variable.{Variable}
 use Rattle.symk_task.specs.declared.parts.Rule.{Rule}
@@ -13,7 +13,7 @@ use Rattle.symk_task.specs.Variables.{IsBase, HasLayer, place, other_value}
 use Rattle.symk_task.specs.Derived.{Counts, HasRule, Met, Derives, RaisedBelow}
 use Rattle.symk_task.specs.Derived.Met.{base, same, raised, default}
 use Rattle.symk_task.proofs.Closing.{Closed, complete, sound}
-use Rattle.task_system.specs.Computed.{layer_at, is_at, has_rule, meets, meets_all, derives_more, fired_in, raised_below}
+use Rattle.task_system.specs.Computed.{layer_at, is_at, has_rule, meets, meets_all, derives_more, fired_rules, raised_below}
 
 has_rule_decides : (var : ℕ) (rules : List Rule) → Decides (has_rule var rules) (HasRule var rules)
 has_rule_decides var [] = ((λ e. absurd (false≢true e)), (λ h. absurd h))
@@ -188,16 +188,16 @@ module _ (task : TaskParts) (s : List ℕ) (low : ℕ → Bool) (Low : ℕ → T
     derives : Derives task s Low layer fired
     far : Closed task s Low layer fired ⊎ (unfired fired task.rules + most ≤ length task.rules)
 
-  grown : (most : ℕ) → Grown most (fired_in task s low layer most)
-  unfolding fired_in
+  grown : (most : ℕ) → Grown most (fired_rules task s low layer most)
+  unfolding fired_rules
   grown zero = record { derives = tt; far = inr (omega (arith, unfired_most task.rules [])) }
-  grown (suc most) = go (find (derives_more task s low layer (fired_in task s low layer most)) task.rules) refl (grown most)
+  grown (suc most) = go (find (derives_more task s low layer (fired_rules task s low layer most)) task.rules) refl (grown most)
     where
-      go : (o : Option Rule) → find (derives_more task s low layer (fired_in task s low layer most)) task.rules ≡ o → Grown most (fired_in task s low layer most) → Grown (suc most) (cons_option o (fired_in task s low layer most))
+      go : (o : Option Rule) → find (derives_more task s low layer (fired_rules task s low layer most)) task.rules ≡ o → Grown most (fired_rules task s low layer most) → Grown (suc most) (cons_option o (fired_rules task s low layer most))
       go None e g = record { derives = g.derives; far = inl (record { closed = λ rule counts at met. closed rule counts at met (has_rule rule.var fired) refl }) }
         where
           fired : List Rule
-          fired = fired_in task s low layer most
+          fired = fired_rules task s low layer most
 
           closed : (rule : Rule) → Counts task rule → HasLayer task rule.var layer → AllByRecursion (Met task s Low layer fired) rule.conds → (b : Bool) → has_rule rule.var fired ≡ b → HasRule rule.var fired
           closed rule counts at met true t = (has_rule_decides rule.var fired).0 t
@@ -207,7 +207,7 @@ module _ (task : TaskParts) (s : List ℕ) (low : ℕ → Bool) (Low : ℕ → T
               let fails : derives_more task s low layer fired rule ≡ false = find_none (derives_more task s low layer fired) task.rules e rule c.0 c.1 c.2 in
               absurd (false≢true (sym fails ∙ passes))
       go (Some rule) e g =
-          let fired = fired_in task s low layer most in
+          let fired = fired_rules task s low layer most in
           let f = find_some (derives_more task s low layer fired) task.rules rule e in
           let p = and_parts _ _ f.1 in
           let q = and_parts _ _ p.1 in
@@ -222,16 +222,16 @@ module _ (task : TaskParts) (s : List ℕ) (low : ℕ → Bool) (Low : ℕ → T
           }
 
   -- as many rules as the task has are enough
-  fired_closed : Closed task s Low layer (fired_in task s low layer (length task.rules))
+  fired_closed : Closed task s Low layer (fired_rules task s low layer (length task.rules))
   fired_closed = elim (grown (length task.rules)).far [
     | inl c ↦ c
     | inr h ↦ record { closed = λ rule counts at met. (has_rule_decides rule.var _).0 (all_fired _ task.rules (omega (arith, h)) rule counts.0.0 counts.0.1 counts.0.2) }
   ]
 
   -- a rule for var fires exactly where a list of rules of the layer derives var
-  pub fired_decides : (var : ℕ) → Decides (has_rule var (fired_in task s low layer (length task.rules))) ((last : Rule) × (earlier : List Rule) × (last.var ≡ var) × Derives task s Low layer (last ∷ earlier))
+  pub fired_decides : (var : ℕ) → Decides (has_rule var (fired_rules task s low layer (length task.rules))) ((last : Rule) × (earlier : List Rule) × (last.var ≡ var) × Derives task s Low layer (last ∷ earlier))
   fired_decides var =
-      let fired = fired_in task s low layer (length task.rules) in
+      let fired = fired_rules task s low layer (length task.rules) in
       let d = has_rule_decides var fired in (
         (λ e. let k = sound task s Low layer fired (grown (length task.rules)).derives var (d.0 e) in (k.last, k.earlier, k.on, k.derives)),
         (λ h. d.1 (complete task s Low layer fired (h.0 ∷ h.1) fired_closed h.3 var (inl h.2))),
@@ -242,5 +242,5 @@ pub raised_decides : (layer : ℕ) (task : TaskParts) (s : List ℕ) (var : ℕ)
 unfolding raised_below RaisedBelow
 raised_decides zero task s var = ((λ e. absurd (false≢true e)), (λ h. absurd h))
 raised_decides (suc layer) task s var =
-    Decides-or (has_rule var (fired_in task s (raised_below layer task s) layer (length task.rules))) (raised_below layer task s var)
+    Decides-or (has_rule var (fired_rules task s (raised_below layer task s) layer (length task.rules))) (raised_below layer task s var)
     (fired_decides task s (raised_below layer task s) (RaisedBelow layer task s) (raised_decides layer task s) layer var) (raised_decides layer task s var)

@@ -3,3 +3,8 @@ pub mod ValuesLaw
 pub mod StepLaw
 pub mod Listing
 pub mod StatesLaw
+pub mod RunsLaw
+pub mod TraceLaw
+pub mod SameLaw
+pub mod ListsLaw
+pub mod GrowLaw

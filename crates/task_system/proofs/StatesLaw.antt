@@ -8,7 +8,7 @@ use Rattle.symk_task.specs.declared.parts.Variable.{Variable}
 use Rattle.symk_task.specs.declared.parts.TaskParts.{TaskParts}
 use Rattle.symk_task.specs.Variables.{is_base, range, IsState}
 use Rattle.symk_task.specs.Plans.{AllDifferent}
-use Rattle.task_system.specs.System.{State, Listed}
+use Rattle.task_system.specs.System.{Listed}
 use Rattle.task_system.specs.Computed.{assignments}
 use Rattle.task_system.proofs.Listing.{all_before, listed_all, all_listed, all_different}
 

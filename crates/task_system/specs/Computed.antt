@@ -1,5 +1,5 @@
 -- The transition system of a task: what the task means, computed.
-use Rattle.std.specs.Prelude.{◌≡◌, ℕ, zero, suc, Bool, true, false, not, ◌&&◌, ◌||◌, ◌==◌, nat_lt, if◌then◌else◌, List, [], ◌∷◌, length, map, slice_index, slice_get, slice_set, fold, find, Option, Some, None}
+use Rattle.std.specs.Prelude.{ℕ, zero, suc, Bool, true, false, not, ◌&&◌, ◌||◌, ◌==◌, nat_lt, if◌then◌else◌, List, [], ◌∷◌, length, map, slice_index, slice_get, slice_set, fold, find, Option, Some, None}
 use Rattle.std.specs.Option.{option_map, option_map_or}
 use Rattle.std.specs.List.{list_any, list_all, cons_option, range_with_len, flat_map}
 use Rattle.symk_task.specs.declared.parts.Fact.{Fact}
@@ -14,11 +14,11 @@ use Rattle.task_system.specs.System.{State, System}
 
 -- The values of all variables in a state.
 
--- the layer of a variable, if the task has the variable and if it is derived
+-- what a variable is: Some (Some layer) where it is derived, Some None where it is a base variable, None where the task has none of this number
 abbrev pub layer_at : TaskParts → ℕ → Option (Option ℕ)
 layer_at task var = option_map (λ (v : Variable). v.layer) (slice_get task.variables var)
 
--- that layer is this one
+-- it is derived, and of this layer
 abbrev pub is_at : ℕ → Option (Option ℕ) → Bool
 is_at layer None = false
 is_at layer (Some None) = false
@@ -28,7 +28,7 @@ is_at layer (Some (Some other)) = other == layer
 abbrev pub has_rule : ℕ → List Rule → Bool
 has_rule var rules = list_any (λ (rule : Rule). rule.var == var) rules
 
--- Whether a condition of a rule for the layer is met after the rules of the list, by the layer of its variable. Low tells the raised variables of lower layers.
+-- Whether a condition of a rule for the layer is met after the rules of the list, by what its variable is. Low tells the raised variables of lower layers.
 abbrev pub meets : TaskParts → State → (ℕ → Bool) → ℕ → List Rule → Fact → Option (Option ℕ) → Bool
 meets task s low layer earlier fact None = false
 meets task s low layer earlier fact (Some None) = slice_index s (place task fact.var) == fact.val
@@ -46,22 +46,23 @@ derives_more task s low layer earlier rule =
     (rule.new == other_value task rule.var) && (is_at layer (layer_at task rule.var) && (not (has_rule rule.var earlier) && meets_all task s low layer earlier rule.conds))
 
 -- At most so many rules of the layer, last rule first, each the first of the task that derives something new.
-unfoldable pub fired_in : TaskParts → State → (ℕ → Bool) → ℕ → ℕ → List Rule
-fired_in task s low layer zero = []
-fired_in task s low layer (suc most) =
-    let earlier = fired_in task s low layer most in cons_option (find (derives_more task s low layer earlier) task.rules) earlier
+unfoldable pub fired_rules : TaskParts → State → (ℕ → Bool) → ℕ → ℕ → List Rule
+fired_rules task s low layer zero = []
+fired_rules task s low layer (suc most) =
+    let earlier = fired_rules task s low layer most in cons_option (find (derives_more task s low layer earlier) task.rules) earlier
 
 -- whether var is raised, and its layer is below the number: layer after layer, each until no rule derives anything new
 unfoldable pub raised_below : ℕ → TaskParts → State → ℕ → Bool
 raised_below zero task s var = false
-raised_below (suc layer) task s var = has_rule var (fired_in task s (raised_below layer task s) layer (length task.rules)) || raised_below layer task s var
+raised_below (suc layer) task s var = has_rule var (fired_rules task s (raised_below layer task s) layer (length task.rules)) || raised_below layer task s var
 
--- what a variable has in a state, by its layer
+-- what a variable has in a state, by what it is
 abbrev pub value_by : TaskParts → State → ℕ → Option (Option ℕ) → ℕ
 value_by task s var None = 0
 value_by task s var (Some None) = slice_index s (place task var)
 value_by task s var (Some (Some layer)) = if raised_below (suc layer) task s var then other_value task var else slice_index task.initial var
 
+-- what it has, by its number
 unfoldable pub value_in : TaskParts → State → ℕ → ℕ
 value_in task s var = value_by task s var (layer_at task var)
 

@@ -1,5 +1,5 @@
 -- Lists of the cheapest plans, whatever a plan is, which plans count as one, and what a plan costs.
-use Rattle.std.specs.Prelude.{◌≡◌, ℕ, ◌-◌, ◌<◌, ◌≤◌, List, length, slice_get, All, Any, map, IfSome}
+use Rattle.std.specs.Prelude.{ℕ, ◌-◌, ◌<◌, ◌≤◌, List, length, slice_get, All, Any, map, IfSome}
 use Rattle.std.specs.List.Sorted.{IsNonDecreasing}
 
 -- p counts as one with a member
@@ -22,5 +22,5 @@ abbrev pub AreAllBelow : (List ℕ → Type 0) → (List ℕ → List ℕ → Ty
 AreAllBelow Plan Alike cost limit plans = (p : List ℕ) → Plan p → cost p < limit → IsAmong Alike plans p
 
 -- a plan costs the limit or more
-abbrev pub Reaches : (List ℕ → Type 0) → (List ℕ → ℕ) → ℕ → Type 0
-Reaches Plan cost limit = (p : List ℕ) × Plan p × (limit ≤ cost p)
+abbrev pub HasPlanFrom : (List ℕ → Type 0) → (List ℕ → ℕ) → ℕ → Type 0
+HasPlanFrom Plan cost limit = (p : List ℕ) × Plan p × (limit ≤ cost p)

@@ -4,7 +4,7 @@ use Rattle.std.specs.List.{list_all}
 use Rattle.symk_task.specs.declared.parts.Mode.{Mode}
 use Rattle.symk_task.specs.declared.parts.Mode.TheVariants.{TopK, Loopless, Unordered}
 use Rattle.symk_task.specs.Plans.{AllDifferent, Same}
-use Rattle.task_system.specs.Lists.{IsAmong, IsRightList, AreAllAmong, AreAllBelow, Reaches}
+use Rattle.task_system.specs.Lists.{IsRightList, AreAllAmong, AreAllBelow, HasPlanFrom}
 
 -- one value for each base variable
 abbrev pub State : Type 0
@@ -71,10 +71,6 @@ same TopK p q = are_equal p q
 same Loopless p q = are_equal p q
 same Unordered p q = list_all (λ a. count_by (λ b. a == b) p == count_by (λ b. a == b) q) (p ++ q)
 
--- p counts as one with a member
-abbrev pub IsListed : Mode → List (List ℕ) → List ℕ → Type 0
-IsListed mode plans p = IsAmong (Same mode) plans p
-
 -- the cheapest plans of a mode, each once, by cost
 abbrev pub IsRight : System → Mode → List (List ℕ) → Type 0
 IsRight system mode plans = IsRightList (IsPlanOf system mode) (Same mode) (cost_of system) plans
@@ -89,4 +85,4 @@ AllInRange system mode plans = AreAllBelow (IsPlanOf system mode) (Same mode) (c
 
 -- a plan of the mode costs more than 64 bits hold
 abbrev pub HasDearer : System → Mode → Type 0
-HasDearer system mode = Reaches (IsPlanOf system mode) (cost_of system) (2 ^ 64)
+HasDearer system mode = HasPlanFrom (IsPlanOf system mode) (cost_of system) (2 ^ 64)

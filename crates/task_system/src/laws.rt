@@ -13,6 +13,18 @@ ghost use Rattle.task_system.specs.Lists.{IsRightList};
 ghost use Rattle.task_system.specs.System.{State, System, Listed, Leads, Runs, trace, cost_of, IsPlanOf, same, IsRight, AllListed, AllInRange, HasDearer};
 ghost use Rattle.task_system.specs.Computed.{values_in, system_of};
 
+/// What a task says is said once: it has one initial state, a step leads to one state, a run has one end and passes one
+/// list of states.
+pub fn what_a_task_says_is_one()
+    ensures initial { (task : TaskParts) (s t : State) → IsInitial task s → IsInitial task t → s ≡ t }
+    ensures successor { (task : TaskParts) (s : State) (a : ℕ) (t u : State) → IsState task s →
+        After task s a t → After task s a u → t ≡ u }
+    ensures end { (task : TaskParts) (p : List ℕ) (s t u : State) → Fits task → IsState task s →
+        meaning.Runs task s p t → meaning.Runs task s p u → t ≡ u }
+    ensures trace { (task : TaskParts) (p : List ℕ) (s : State) (passed other : List State) → Fits task → IsState task s →
+        Trace task s p passed → Trace task s p other → passed ≡ other }
+{}
+
 /// The computed values are those that hold in the state, derived variables included.
 pub fn values_are_the_tasks()
     ensures { (task : TaskParts) (s : State) → Fits task → Valued task s (values_in task s) }

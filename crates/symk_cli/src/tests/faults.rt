@@ -6,7 +6,7 @@ use crate::Status;
 use std::test::Fail;
 
 // The whole answer for three plans, block by block one piece.
-const LISTED: &[u8] =
+pub const LISTED: &[u8] =
     b"; plan 1\n; ops 0\n(switch-on)\n; cost = 1 (unit cost)\n; plan 2\n; ops 0 1 0\n(switch-on)\n(switch-off)\n(switch-on)\n; cost = 3 (unit cost)\n; plan 3\n; ops 0 1 0 1 0\n(switch-on)\n(switch-off)\n(switch-on)\n(switch-off)\n(switch-on)\n; cost = 5 (unit cost)\n; reached 3\n";
 
 // The sink's call that fails, and how many bytes were taken before it. Each piece is one write and one flush.

@@ -1,3 +1,5 @@
 pub mod Texts
+pub mod Plans
+pub mod Refused
 pub mod Fails
 pub mod Checks

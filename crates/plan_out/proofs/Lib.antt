@@ -7,3 +7,5 @@ pub mod OneRun
 pub mod Reasons
 pub mod Noting
 pub mod Checking
+pub mod Fronts
+pub mod Spaced

@@ -1,5 +1,6 @@
 pub mod Texts
 pub mod Plans
 pub mod Refused
+pub mod Reading
 pub mod Fails
 pub mod Checks

@@ -10,8 +10,11 @@
 mod blocks;
 mod check;
 mod end;
+mod laws;
+mod line;
 mod print;
 mod read;
+mod rest;
 mod rows;
 mod run;
 mod seen;
@@ -24,3 +27,4 @@ pub use check::{Checked, Why, check_list};
 pub use end::{End, end_line};
 pub use print::block;
 pub use read::{PlansFault, read_plans};
+pub use laws::text_states_one_list;

@@ -1,12 +1,19 @@
 //! Reading a plan text.
 
-ghost use Rattle.std.specs.Prelude.{◌≡◌, ◌<◌, ◌≤◌, ◌+◌, ◌^◌, All, IfOk, OnOk, length};
+ghost use Rattle.std.specs.Prelude.{◌≡◌, ◌≤◌, All, IfOk, IfErr, MatchResult, length};
+ghost use Rattle.symk_text.specs.Lines.{lines};
+ghost use Rattle.plan_out.specs.declared.read.PlansFault.TheVariants.{Memory};
+ghost use Rattle.plan_out.specs.Plans.{IsPlansOf};
+ghost use Rattle.plan_out.specs.Reading.{IsAfterEnd, Refuses};
+ghost use Rattle.plan_out.specs.Refused.{PlansRefusedAt};
 
 use crate::blocks::{Blocks, ReadBlock};
-use crate::rows::{cost_of, ends, name_of, number_after, operators_of};
-use std::alloc::{AllocFailed, Global};
-use symk_task::{List, Memory, Name};
-use symk_text::{Line, lines_of};
+use crate::rest::{Rest, begins_with_end, offence};
+use crate::rows::block_of;
+use line_grammar::Stopped;
+use std::alloc::Global;
+use symk_task::{List, Memory};
+use symk_text::lines_of;
 use thiserror::Error;
 
 /// Why a plan text is not read.
@@ -21,119 +28,60 @@ pub enum PlansFault {
 }
 
 impl From<Memory> for PlansFault {
+    ghost from_gives = { λ _ fault. fault ≡ Memory };
+
     fn from(_: Memory) -> PlansFault {
         PlansFault::Memory
     }
 }
 
-impl<T: Drop> From<AllocFailed<T>> for PlansFault {
-    fn from(_: AllocFailed<T>) -> PlansFault {
-        PlansFault::Memory
-    }
-}
-
-/// The blocks of a plan text: blocks numbered from 1, and then at most one end line with their number. An offence is
-/// the first line at which no plan text can go on so.
+/// Reads a plan text: blocks numbered from 1, and then at most one end line with their number.
+///
+/// A `PlansFault::Offence` names the first line at which no plan text can go on so.
 pub fn read_plans(alloc: Global, bytes: &[u8]) -> Result<Blocks, PlansFault>
-    ensures { IfOk result (λ blocks. All (λ b. length b.names ≡ length b.ops) blocks.list) }
+    ensures names { IfOk result (λ blocks. All (λ b. length b.names ≡ length b.ops) blocks.list) }
+    ensures plans { IfOk result (λ blocks. IsPlansOf (lines bytes.now) blocks.list) }
+    ensures offence { IfErr result (λ fault. PlansRefusedAt (lines bytes.now) fault) }
 {
     let lines = lines_of(alloc, bytes)?;
     let lines = lines.as_slice();
+    match blocks_of(alloc, Rest::of(lines)) {
+        Ok(list) => Ok(Blocks { list }),
+        Err(Stopped::Memory) => Err(PlansFault::Memory),
+        Err(Stopped::Offence(offence)) => Err(PlansFault::Offence {
+            line: (lines.len() - offence.left) as u64 + 1,
+        }),
+    }
+}
+
+/// The blocks of a text, and its end line.
+fn blocks_of(alloc: Global, lines: Rest<'_>) -> Result<List<ReadBlock>, Stopped<()>>
+    ensures plans { IfOk result (IsPlansOf lines.entry) }
+    ensures offence { IfErr result (Refuses lines.entry) }
+{
     let mut list = List::of(Vec::new(alloc));
-    let mut at = 0;
-    while at < lines.len() {
-        if ends(lines[at].as_slice(), list.as_slice().len() as u64) {
-            return ended(lines, at, list);
+    let mut rest = lines;
+    while !rest.is_empty() {
+        let count = list.as_slice().len() as u64;
+        if begins_with_end(&rest, count) {
+            return ended(list, rest);
         }
-        let (block, after) = read_block(alloc, lines, at, list.as_slice().len() as u64 + 1)?;
+        let (block, after) = block_of(alloc, count + 1, rest)?;
         list.push(block)?;
-        at = after;
+        rest = after;
     }
-    Ok(Blocks { list })
+    Ok(list)
 }
 
-/// The blocks, where nothing follows the end line at this place.
-fn ended(lines: &[Line<'_>], at: usize, list: List<ReadBlock>) -> Result<Blocks, PlansFault>
-    requires { at < length lines.now }
-    ensures { IfOk result (λ blocks. blocks.list ≡ list) }
+/// The blocks, where nothing follows the end line, which is the first of the lines that are left.
+fn ended(list: List<ReadBlock>, rest: Rest<'_>) -> Result<List<ReadBlock>, Stopped<()>>
+    requires { 1 ≤ length rest }
+    ensures { MatchResult result (λ blocks. (blocks ≡ list) × (length rest.entry ≡ 1)) (IsAfterEnd rest.entry) }
 {
-    if at + 1 < lines.len() {
-        return Err(offence(at + 1));
-    }
-    Ok(Blocks { list })
-}
-
-/// The offence at a place, counted from 0.
-fn offence(at: usize) -> PlansFault
-    requires { at < 2 ^ 63 }
-{
-    PlansFault::Offence {
-        line: at as u64 + 1,
-    }
-}
-
-/// The block of this number that begins at a place, and the place after it.
-fn read_block(
-    alloc: Global,
-    lines: &[Line<'_>],
-    at: usize,
-    number: u64,
-) -> Result<(ReadBlock, usize), PlansFault>
-    requires { at < length lines.now }
-    ensures names { IfOk result (λ read. length read.0.names ≡ length read.0.ops) }
-    ensures after { IfOk result (λ read. (at < read.1) × (read.1 ≤ length lines.now)) }
-{
-    if number_after(line_at(lines, at)?, b"; plan ") != Some(number) {
-        return Err(offence(at));
-    }
-    let Some(ops) = operators_of(alloc, line_at(lines, at + 1)?)? else {
-        return Err(offence(at + 1));
-    };
-    let steps = ops.as_slice().len();
-    let names = read_names(alloc, lines, at + 2, steps)?;
-    let last = at + 2 + steps;
-    match cost_of(line_at(lines, last)?) {
-        Some((cost, unit)) => Ok((
-            ReadBlock {
-                ops,
-                names,
-                cost,
-                unit,
-            },
-            last + 1,
-        )),
-        None => Err(offence(last)),
-    }
-}
-
-/// The line at a place; where there is none, the offence is one past the last line.
-fn line_at<'a>(lines: &[Line<'a>], at: usize) -> Result<&'a [u8], PlansFault>
-    ensures { OnOk result (at < length lines.now) }
-{
-    if at < lines.len() {
-        Ok(lines[at].as_slice())
+    let following = rest.len() - 1;
+    if following == 0 {
+        Ok(list)
     } else {
-        Err(offence(lines.len()))
+        Err(offence(following))
     }
-}
-
-/// The names of so many step lines from a place on.
-fn read_names(
-    alloc: Global,
-    lines: &[Line<'_>],
-    at: usize,
-    steps: usize,
-) -> Result<List<Name>, PlansFault>
-    requires { at ≤ length lines.now }
-    ensures names { IfOk result (λ names. length names ≡ steps) }
-    ensures within { OnOk result (at + steps ≤ length lines.now) }
-{
-    let mut names = List::of(Vec::new(alloc));
-    for i in 0..steps {
-        match name_of(alloc, line_at(lines, at + i)?)? {
-            Some(name) => names.push(name)?,
-            None => return Err(offence(at + i)),
-        }
-    }
-    Ok(names)
 }

@@ -1,76 +1,116 @@
-//! The lines of a plan text, each by itself.
+//! The rows of a block, each read from the lines that are left.
 
-ghost use Rattle.std.specs.Prelude.{◌<◌, IfSome, length};
+ghost use Rattle.std.specs.Prelude.{◌≡◌};
+ghost use Rattle.line_grammar.specs.Reading.{Gives, row_at};
+ghost use Rattle.plan_out.specs.Reading.{plan_in, ops_in, step_in, cost_in, steps_at, block_at};
 
+use crate::blocks::ReadBlock;
+use crate::line::{cost_in, is_numbered, operators_in, step_in};
+use crate::rest::{Rest, first_line, offence};
+use line_grammar::Stopped;
 use std::alloc::Global;
-use symk_task::{Memory, Name, Plan};
-use symk_text::number;
+use symk_task::{List, Name, Plan};
 
-/// The number of a line that has these bytes before it and nothing after it.
-pub fn number_after(line: &[u8], word: &[u8]) -> Option<u64> {
-    let (value, rest) = number_then(line, word)?;
-    if rest.is_empty() { Some(value) } else { None }
-}
-
-/// The number that follows these bytes at the front of a line, and what follows the number.
-fn number_then<'a>(line: &'a [u8], word: &[u8]) -> Option<(u64, &'a [u8])>
-    ensures { IfSome result (λ (value, rest). length rest.now < length line.now) }
+/// The line that begins the block of this number, and the lines after it.
+fn plan_of(number: u64, lines: Rest<'_>) -> Result<Rest<'_>, Stopped<()>>
+    ensures { Gives (λ rest. (tt, rest)) result (row_at tt (plan_in number) lines.entry) }
 {
-    let digits = line.strip_prefix(word)?;
-    let (value, end) = number(digits, 0)?;
-    Some((value, &digits[end..]))
-}
-
-/// Whether the line ends a list of so many blocks.
-pub fn ends(line: &[u8], blocks: u64) -> bool {
-    line == b"; cost range".as_slice()
-        || number_after(line, b"; reached ") == Some(blocks)
-        || number_after(line, b"; exhausted ") == Some(blocks)
-}
-
-/// The operators of the line that lists them.
-pub fn operators_of(alloc: Global, line: &[u8]) -> Result<Option<Plan>, Memory> {
-    let Some(mut rest) = line.strip_prefix(b"; ops") else {
-        return Ok(None);
-    };
-    let mut plan = Plan::of(Vec::new(alloc));
-    while !rest.is_empty() {
-        match operator_then(rest) {
-            Some((operator, after)) => {
-                plan.push(operator)?;
-                rest = after;
+    let left = lines.len();
+    match first_line(lines) {
+        Some((line, rest)) => {
+            if is_numbered(line, b"; plan ", number) {
+                Ok(rest)
+            } else {
+                Err(offence(left))
             }
-            None => return Ok(None),
         }
+        None => Err(offence(left)),
     }
-    Ok(Some(plan))
 }
 
-/// The operator that follows one space, and what follows it.
-fn operator_then(line: &[u8]) -> Option<(u32, &[u8])>
-    ensures { IfSome result (λ (operator, rest). length rest.now < length line.now) }
+/// The operators, and the lines after them.
+fn operators_of(alloc: Global, lines: Rest<'_>) -> Result<(Plan, Rest<'_>), Stopped<()>>
+    ensures { Gives (λ x. (x.0, x.1)) result (row_at tt ops_in lines.entry) }
 {
-    let (value, rest) = number_then(line, b" ")?;
-    match u32::try_from(value) {
-        Ok(operator) => Some((operator, rest)),
-        Err(_) => None,
+    let left = lines.len();
+    match first_line(lines) {
+        Some((line, rest)) => match operators_in(alloc, line)? {
+            Some(operators) => Ok((operators, rest)),
+            None => Err(offence(left)),
+        },
+        None => Err(offence(left)),
     }
 }
 
-/// The name of a step line.
-pub fn name_of(alloc: Global, line: &[u8]) -> Result<Option<Name>, Memory> {
-    match line {
-        [b'(', name @ .., b')'] => Ok(Some(Name::of(Vec::from_slice(alloc, name)?))),
-        _ => Ok(None),
+/// The name of one step, and the lines after it.
+fn name_of(alloc: Global, lines: Rest<'_>) -> Result<(Name, Rest<'_>), Stopped<()>>
+    ensures { Gives (λ x. (x.0, x.1)) result (row_at tt step_in lines.entry) }
+{
+    let left = lines.len();
+    match first_line(lines) {
+        Some((line, rest)) => match step_in(line) {
+            Some(name) => {
+                let name = Name::of(Vec::from_slice(alloc, name)?);
+                Ok((name, rest))
+            }
+            None => Err(offence(left)),
+        },
+        None => Err(offence(left)),
     }
 }
 
-/// The number and the word of a cost line: whether each operator costs 1.
-pub fn cost_of(line: &[u8]) -> Option<(u64, bool)> {
-    let (cost, rest) = number_then(line, b"; cost = ")?;
-    match rest {
-        b" (unit cost)" => Some((cost, true)),
-        b" (general cost)" => Some((cost, false)),
-        _ => None,
+/// The names of so many steps, and the lines after them.
+fn names_of(
+    alloc: Global,
+    count: usize,
+    lines: Rest<'_>,
+) -> Result<(List<Name>, Rest<'_>), Stopped<()>>
+    ensures { Gives (λ x. (x.0, x.1)) result (steps_at count lines.entry) }
+{
+    let mut names = List::of(Vec::new(alloc));
+    let mut rest = lines;
+    for _ in 0..count {
+        let (name, after) = name_of(alloc, rest)?;
+        names.push(name)?;
+        rest = after;
     }
+    Ok((names, rest))
+}
+
+/// The cost and whether each operator costs 1, and the lines after them.
+fn cost_of(lines: Rest<'_>) -> Result<((u64, bool), Rest<'_>), Stopped<()>>
+    ensures { Gives (λ x. (x.0, x.1)) result (row_at tt cost_in lines.entry) }
+{
+    let left = lines.len();
+    match first_line(lines) {
+        Some((line, rest)) => match cost_in(line) {
+            Some(cost) => Ok((cost, rest)),
+            None => Err(offence(left)),
+        },
+        None => Err(offence(left)),
+    }
+}
+
+/// The block of this number, and the lines after it.
+#[tactic(auto, unfolding(crate::specs::Reading::block_at))]
+pub fn block_of(
+    alloc: Global,
+    number: u64,
+    lines: Rest<'_>,
+) -> Result<(ReadBlock, Rest<'_>), Stopped<()>>
+    ensures { Gives (λ x. (x.0, x.1)) result (block_at number lines.entry) }
+{
+    let rest = plan_of(number, lines)?;
+    let (ops, rest) = operators_of(alloc, rest)?;
+    let (names, rest) = names_of(alloc, ops.as_slice().len(), rest)?;
+    let ((cost, unit), rest) = cost_of(rest)?;
+    Ok((
+        ReadBlock {
+            ops,
+            names,
+            cost,
+            unit,
+        },
+        rest,
+    ))
 }

@@ -1,0 +1,71 @@
+//! The lines that are left to read.
+
+ghost use Rattle.std.specs.Prelude.{◌≡◌, ◌==◌, ℕ, List, [], ◌∷◌, length, MatchOption};
+ghost use Rattle.plan_out.specs.Reading.{begins_with_end};
+ghost use Rattle.line_grammar.specs.declared.Stopped.TheVariants as stopped;
+
+use crate::line::is_end;
+use line_grammar::{Offence, Stopped};
+use std::marker::Model;
+use symk_text::Line;
+
+/// The lines that are left to read.
+#[derive(Drop)]
+pub struct Rest<'a> {
+    lines: &'a [Line<'a>],
+}
+
+impl<'a> Model for Rest<'a> {
+    ghost Value = { List (List ℕ) };
+
+    ghost view = { λ a. a.lines.now };
+}
+
+impl<'a> Rest<'a> {
+    pub fn of(lines: &'a [Line<'a>]) -> Rest<'a>
+        ensures { result ≡ lines.now }
+    {
+        Rest { lines }
+    }
+
+    /// How many lines are left.
+    pub fn len(&self) -> usize
+        ensures { result ≡ length self.now }
+    {
+        self.lines.len()
+    }
+
+    /// Whether no line is left.
+    pub fn is_empty(&self) -> bool
+        ensures { result ≡ (length self.now == 0) }
+    {
+        self.lines.is_empty()
+    }
+}
+
+/// The first line, and the lines after it.
+pub fn first_line(rest: Rest<'_>) -> Option<(&[u8], Rest<'_>)>
+    ensures { MatchOption result (rest.entry ≡ []) (λ x. rest.entry ≡ x.0.now ∷ x.1) }
+{
+    match rest.lines {
+        [line, after @ ..] => Some((line.as_slice(), Rest { lines: after })),
+        [] => None,
+    }
+}
+
+/// The first of so many lines that are left isn't what is wanted, or is missing.
+pub fn offence(left: usize) -> Stopped<()>
+    ensures { result ≡ stopped.Offence (record { wanted = tt; left = left }) }
+{
+    Stopped::Offence(Offence { wanted: (), left })
+}
+
+/// Whether the first line ends a list of so many blocks.
+pub fn begins_with_end(rest: &Rest<'_>, blocks: u64) -> bool
+    ensures { result ≡ begins_with_end blocks rest.now }
+{
+    match rest.lines {
+        [line, ..] => is_end(line.as_slice(), blocks),
+        [] => false,
+    }
+}

@@ -9,3 +9,6 @@ pub mod Noting
 pub mod Checking
 pub mod Fronts
 pub mod Spaced
+pub mod BlockRows
+pub mod OneBlock
+pub mod WholeText

@@ -1,0 +1,325 @@
+-- A whole plan text is read exactly.
+use Rattle.std.proofs.Common.{◌≡◌, ◌≢◌, ℕ, zero, suc, ◌+◌, ◌-◌, ◌^◌, ◌<◌, ◌≤◌, ◌⊎◌, inl, inr, Bool, true, false, cond, eqb, ◌||◌, List, [], ◌∷◌, ◌++◌, length, get_or, take, Option, Some, None, Ok, Err, refl, sym, ap, subst, ◌∙◌, arith, codes, append_assoc, length-append, zero-add}
+use Rattle.std.proofs.Math.Seq.{take-append_seam, take-append-add}
+use Rattle.std.proofs.lemmas.List.{append-nil, nil_from_length}
+use Rattle.std.proofs.lemmas.List.Elements.{All-nil, All-cons, All-head, All-tail, All-push}
+use Rattle.std.proofs.lemmas.Slice.Eq.{bytes_eq-Decides}
+use Rattle.std.specs.Str.{bytes_eq}
+use Rattle.std.specs.List.{All}
+use Rattle.line_grammar.specs.declared.Offence.{Offence}
+use Rattle.line_grammar.specs.Rows.{Lines, Spells, IsFront, Offends}
+use Rattle.line_grammar.specs.Reading.{Read}
+use Rattle.line_grammar.proofs.Exact as grammar
+use Rattle.plan_out.specs.declared.blocks.ReadBlock.{ReadBlock}
+use Rattle.plan_out.specs.Plans.{IsNumber, IsNumbered, Row, plan, IsSpelled, block_rows, rows_from, IsBlock, IsEndLine, IsEnding, IsPlansOf}
+use Rattle.plan_out.specs.Reading.{is_numbered, is_end, begins_with_end, block_at}
+use Rattle.plan_out.proofs.BlockRows.{shape_of, numbered_is, numbered_again}
+use Rattle.plan_out.proofs.OneBlock.{Exact, exact_block}
+
+-- End lines.
+
+pub end_is : (n : ℕ) (line : List ℕ) → is_end n line ≡ true → IsEndLine n line
+end_is n line e = by_tests (is_numbered (codes "; reached ") n line) (is_numbered (codes "; exhausted ") n line) refl refl e
+  where
+    by_tests : (t u : Bool) → is_numbered (codes "; reached ") n line ≡ t → is_numbered (codes "; exhausted ") n line ≡ u → (t || u || bytes_eq line (codes "; cost range")) ≡ true → IsEndLine n line
+    by_tests true u t1 t2 e = inl (numbered_is (codes "; reached ") n line t1)
+    by_tests false true t1 t2 e = inr (inl (numbered_is (codes "; exhausted ") n line t2))
+    by_tests false false t1 t2 e = inr (inr ((bytes_eq-Decides line (codes "; cost range")).0 e))
+
+pub is_end_again : (n : ℕ) (line : List ℕ) → IsEndLine n line → is_end n line ≡ true
+is_end_again n line (inl h) = (let t = numbered_again (codes "; reached ") n line h in rw t refl)
+is_end_again n line (inr (inl h)) = (let t = numbered_again (codes "; exhausted ") n line h in by_first (is_numbered (codes "; reached ") n line) t)
+  where
+    by_first : (t : Bool) → is_numbered (codes "; exhausted ") n line ≡ true → (t || is_numbered (codes "; exhausted ") n line || bytes_eq line (codes "; cost range")) ≡ true
+    by_first true u = refl
+    by_first false u = rw u refl
+is_end_again n line (inr (inr h)) = by_both (is_numbered (codes "; reached ") n line) (is_numbered (codes "; exhausted ") n line) ((bytes_eq-Decides line (codes "; cost range")).1 h)
+  where
+    by_both : (t u : Bool) → bytes_eq line (codes "; cost range") ≡ true → (t || u || bytes_eq line (codes "; cost range")) ≡ true
+    by_both true u e = refl
+    by_both false true e = refl
+    by_both false false e = e
+
+-- the third bytes of two lines
+third_apart : (a b : ℕ) → a ≡ b → a ≢ b → ⊥
+third_apart a b e ne = ne e
+
+-- no end line begins a block
+no_block_there : (n i : ℕ) (line : List ℕ) → IsEndLine n line → IsSpelled (plan i) line → ⊥
+no_block_there n i line (inl h) k = third_apart 114 112 (ap (λ (z : List ℕ). get_or z 2 0) (sym h.2 ∙ k.2)) (omega arith)
+no_block_there n i line (inr (inl h)) k = third_apart 101 112 (ap (λ (z : List ℕ). get_or z 2 0) (sym h.2 ∙ k.2)) (omega arith)
+no_block_there n i line (inr (inr h)) k = third_apart 99 112 (ap (λ (z : List ℕ). get_or z 2 0) (sym h ∙ k.2)) (omega arith)
+
+-- The blocks of a text, one after the other.
+
+-- the lines are those of a plan text after its first n blocks
+record From (n : ℕ) (lines : Lines) (blocks : List ReadBlock) : Type 0 where
+  main : Lines
+  ending : Lines
+  whole : lines ≡ main ++ ending
+  spelled : Spells IsSpelled (rows_from (n + 1) blocks) main
+  ends : IsEnding (n + length blocks) ending
+  each : All IsBlock blocks
+
+whole_from : (lines : Lines) (blocks : List ReadBlock) → IsPlansOf lines blocks → From 0 lines blocks
+whole_from lines blocks h = record { main = h.main; ending = h.ending; whole = h.whole; spelled = h.spelled; ends = subst (λ (k : ℕ). IsEnding k h.ending) (sym (zero-add (length blocks))) h.ends; each = h.each }
+
+-- nothing but an ending
+nothing_more : (n : ℕ) (lines : Lines) → From n lines [] → IsEnding n lines
+nothing_more n lines h = (let same : lines ≡ h.ending = h.whole ∙ ap (λ (z : Lines). z ++ h.ending) (none h.main h.spelled) in subst (IsEnding n) (sym same) (let k : n + 0 ≡ n = omega arith in subst (λ (z : ℕ). IsEnding z h.ending) k h.ends))
+  where
+    none : (main : Lines) → Spells IsSpelled [] main → main ≡ []
+    none [] s = refl
+    none (l ∷ main) s = absurd s
+
+number_small : (i : ℕ) (b : ReadBlock) (rows : List Row) (f : Lines) → Spells IsSpelled (block_rows i b ++ rows) f → i < 2 ^ 64
+number_small i b rows [] h = absurd h
+number_small i b rows (l ∷ f) h = h.0.1.small
+
+-- what a block is read from, and leaves
+again : (i : ℕ) (b : ReadBlock) (f rest : Lines) → i < 2 ^ 64 → IsBlock b → Spells IsSpelled (block_rows i b) f → block_at i (f ++ rest) ≡ Ok (b, rest)
+again i b f rest small is h = (exact_block i small).again b f rest is h
+
+-- the first block of a text, read from its front
+record First (n : ℕ) (lines : Lines) (b : ReadBlock) (blocks : List ReadBlock) : Type 0 where
+  left : Lines
+  read : block_at (n + 1) lines ≡ Ok (b, left)
+  others : From (n + 1) left blocks
+
+first_of : (n : ℕ) (lines : Lines) (b : ReadBlock) (blocks : List ReadBlock) → From n lines (b ∷ blocks) → First n lines b blocks
+first_of n lines b blocks h =
+    let small = number_small (n + 1) b (rows_from (n + 1 + 1) blocks) h.main h.spelled in
+    let parts = grammar.spells_split shape_of IsSpelled (block_rows (n + 1) b) (rows_from (n + 1 + 1) blocks) h.main h.spelled in
+    let there : lines ≡ parts.one ++ (parts.two ++ h.ending) = h.whole ∙ ap (λ (z : Lines). z ++ h.ending) parts.whole ∙ append_assoc parts.one parts.two h.ending in
+    let count : n + length (b ∷ blocks) ≡ (n + 1) + length blocks = omega arith in
+    record {
+      left = parts.two ++ h.ending;
+      read = ap (block_at (n + 1)) there ∙ again (n + 1) b parts.one (parts.two ++ h.ending) small (All-head IsBlock b blocks h.each) parts.first;
+      others = record { main = parts.two; ending = h.ending; whole = refl; spelled = parts.second; ends = subst (λ (k : ℕ). IsEnding k h.ending) count h.ends; each = All-tail IsBlock b blocks h.each };
+    }
+
+-- lines that begin with a block are no ending
+no_ending : (n i : ℕ) (b : ReadBlock) (f rest : Lines) → Spells IsSpelled (block_rows i b) f → IsEnding n (f ++ rest) → ⊥
+no_ending n i b [] rest h k = absurd h
+no_ending n i b (l ∷ []) rest h k = absurd h.1
+no_ending n i b (l ∷ m ∷ f) rest h k = k
+
+-- blocks that are known to come first
+record Known (n : ℕ) (list : List ReadBlock) (rest : Lines) (blocks : List ReadBlock) : Type 0 where
+  others : List ReadBlock
+  same : blocks ≡ list ++ others
+  left : From n rest others
+
+-- a block that comes first is the first of the blocks
+first_known : (n : ℕ) (b : ReadBlock) (f rest : Lines) (blocks : List ReadBlock) → IsBlock b → Spells IsSpelled (block_rows (n + 1) b) f → From n (f ++ rest) blocks → Known (n + 1) (b ∷ []) rest blocks
+first_known n b f rest [] is h text = absurd (no_ending n (n + 1) b f rest h (nothing_more n (f ++ rest) text))
+first_known n b f rest (c ∷ blocks) is h text =
+    let first = first_of n (f ++ rest) c blocks text in
+    let small = number_small (n + 1) b [] f (subst (λ (rows : List Row). Spells IsSpelled rows f) (sym (append-nil (block_rows (n + 1) b))) h) in
+    let same = grammar.ok_both shape_of IsSpelled (block_at (n + 1) (f ++ rest)) (c, first.left) (b, rest) first.read (again (n + 1) b f rest small is h) in
+    record { others = blocks; same = ap (λ (z : ReadBlock). z ∷ blocks) same.0; left = subst (λ (z : Lines). From (n + 1) z blocks) same.1 first.others }
+
+all_known : (n m : ℕ) (list : List ReadBlock) (front rest : Lines) (blocks : List ReadBlock) → m ≡ n + length list → All IsBlock list → Spells IsSpelled (rows_from (n + 1) list) front → From n (front ++ rest) blocks → Known m list rest blocks
+all_known n m [] [] rest blocks count each h text = record { others = blocks; same = refl; left = (let k : n ≡ m = omega arith in subst (λ (z : ℕ). From z rest blocks) k text) }
+all_known n m [] (l ∷ front) rest blocks count each h text = absurd h
+all_known n m (b ∷ list) front rest blocks count each h text =
+    let parts = grammar.spells_split shape_of IsSpelled (block_rows (n + 1) b) (rows_from (n + 1 + 1) list) front h in
+    let there : front ++ rest ≡ parts.one ++ (parts.two ++ rest) = ap (λ (z : Lines). z ++ rest) parts.whole ∙ append_assoc parts.one parts.two rest in
+    let one = first_known n b parts.one (parts.two ++ rest) blocks (All-head IsBlock b list each) parts.first (subst (λ (z : Lines). From n z blocks) there text) in
+    let more = all_known (n + 1) m list parts.two rest one.others (omega arith) (All-tail IsBlock b list each) parts.second one.left in
+    record { others = more.others; same = one.same ∙ ap (λ (z : List ReadBlock). b ∷ z) more.same; left = more.left }
+
+-- What is read so far.
+
+pub record Begun (lines : Lines) (list : List ReadBlock) (rest : Lines) : Type 0 where
+  pub front : Lines
+  pub whole : lines ≡ front ++ rest
+  pub spelled : Spells IsSpelled (rows_from 1 list) front
+  pub each : All IsBlock list
+
+pub begun : (lines : Lines) → Begun lines [] lines
+begun lines = record { front = []; whole = refl; spelled = tt; each = All-nil IsBlock }
+
+-- in a text that begins so, what is left goes on after these blocks
+known : (list : List ReadBlock) (front rest : Lines) (blocks : List ReadBlock) → All IsBlock list → Spells IsSpelled (rows_from 1 list) front → IsPlansOf (front ++ rest) blocks → Known (length list) list rest blocks
+known list front rest blocks each h text = all_known 0 (length list) list front rest blocks (sym (zero-add (length list))) each h (whole_from (front ++ rest) blocks text)
+
+rows_push : (i m : ℕ) (list : List ReadBlock) (b : ReadBlock) → m ≡ i + length list → rows_from i (list ++ b ∷ []) ≡ rows_from i list ++ block_rows m b
+rows_push i m [] b count = (let k : i ≡ m = omega arith in append-nil (block_rows i b) ∙ ap (λ (z : ℕ). block_rows z b) k)
+rows_push i m (c ∷ list) b count = ap (λ (rows : List Row). block_rows i c ++ rows) (rows_push (i + 1) m list b (omega arith)) ∙ sym (append_assoc (block_rows i c) (rows_from (i + 1) list) (block_rows m b))
+
+-- one block more is spelled
+spelled_more : (list : List ReadBlock) (b : ReadBlock) (front more : Lines) → Spells IsSpelled (rows_from 1 list) front → Spells IsSpelled (block_rows (length list + 1) b) more → Spells IsSpelled (rows_from 1 (list ++ b ∷ [])) (front ++ more)
+spelled_more list b front more h k =
+    subst (λ (rows : List Row). Spells IsSpelled rows (front ++ more)) (sym (rows_push 1 (length list + 1) list b (omega arith)))
+    (grammar.spells_append shape_of IsSpelled (rows_from 1 list) (block_rows (length list + 1) b) front more h k)
+
+pub begun_more : (lines : Lines) (list : List ReadBlock) (rest : Lines) (b : ReadBlock) (after : Lines) → length list + 1 < 2 ^ 64 → block_at (length list + 1) rest ≡ Ok (b, after) → Begun lines list rest → Begun lines (list ++ b ∷ []) after
+begun_more lines list rest b after small e so_far =
+    let t = (exact_block (length list + 1) small).takes rest b after e in
+    record {
+      front = so_far.front ++ t.front;
+      whole = so_far.whole ∙ ap (λ (z : Lines). so_far.front ++ z) t.whole ∙ sym (append_assoc so_far.front t.front after);
+      spelled = spelled_more list b so_far.front t.front so_far.spelled t.spelled;
+      each = All-push IsBlock list b so_far.each t.fits;
+    }
+
+pub all_read : (lines : Lines) (list : List ReadBlock) (rest : Lines) → length rest ≡ 0 → Begun lines list rest → IsPlansOf lines list
+all_read lines list rest empty so_far =
+    record { main = so_far.front; ending = []; whole = so_far.whole ∙ ap (λ (z : Lines). so_far.front ++ z) (nil_from_length rest empty); spelled = so_far.spelled; ends = tt; each = so_far.each }
+
+-- the front with its end line is a whole text
+with_end : (list : List ReadBlock) (front : Lines) (line : List ℕ) → All IsBlock list → Spells IsSpelled (rows_from 1 list) front → IsEndLine (length list) line → IsPlansOf (front ++ line ∷ []) list
+with_end list front line each h is = record { main = front; ending = line ∷ []; whole = refl; spelled = h; ends = is; each = each }
+
+pub end_read : (lines : Lines) (list : List ReadBlock) (rest : Lines) → begins_with_end (length list) rest ≡ true → length rest ≡ 1 → Begun lines list rest → IsPlansOf lines list
+end_read lines list [] t one so_far = absurd (omega arith)
+end_read lines list (line ∷ []) t one so_far = subst (λ (z : Lines). IsPlansOf z list) (sym so_far.whole) (with_end list so_far.front line so_far.each so_far.spelled (end_is (length list) line t))
+end_read lines list (line ∷ next ∷ rest) t one so_far = absurd (omega arith)
+
+-- Where the lines stop being those of a plan text.
+
+record Stops (lines : Lines) (left : ℕ) : Type 0 where
+  front : Lines
+  rest : Lines
+  whole : lines ≡ front ++ rest
+  place : left ≡ length rest
+  begins : IsFront IsPlansOf front
+  ends : rest ≡ [] → (blocks : List ReadBlock) → IsPlansOf front blocks → ⊥
+  dead : (l : List ℕ) (r : Lines) → rest ≡ l ∷ r → IsFront IsPlansOf (front ++ l ∷ []) → ⊥
+
+abbrev Stuck : Lines → ℕ → Type 0
+Stuck lines n = ((n ≤ length lines) × (IsFront IsPlansOf (take n lines) → ⊥)) ⊎ ((n ≡ length lines + 1) × ((blocks : List ReadBlock) → IsPlansOf lines blocks → ⊥))
+
+stuck_there : (lines front rest : Lines) (n : ℕ) → lines ≡ front ++ rest → n ≡ length front + 1
+    → (rest ≡ [] → (blocks : List ReadBlock) → IsPlansOf front blocks → ⊥) → ((l : List ℕ) (r : Lines) → rest ≡ l ∷ r → IsFront IsPlansOf (front ++ l ∷ []) → ⊥) → Stuck lines n
+stuck_there lines front [] n whole place ends dead =
+    let same : lines ≡ front = whole ∙ append-nil front in
+    inr (place ∙ ap (λ (z : Lines). length z + 1) (sym same), λ blocks h. ends refl blocks (subst (λ (z : Lines). IsPlansOf z blocks) same h))
+stuck_there lines front (l ∷ r) n whole place ends dead =
+    let cut : take n lines ≡ front ++ l ∷ [] = rw (place, whole) (take-append-add front (l ∷ r) 1) in
+    inl (omega (arith, ap length whole, length-append front (l ∷ r)), λ m. dead l r refl (subst (IsFront IsPlansOf) cut m))
+
+offends : (lines : Lines) (left : ℕ) → Stops lines left → (left ≤ length lines) × Offends IsPlansOf lines (length lines - left + 1)
+offends lines left st =
+    let sum : length lines ≡ length st.front + length st.rest = ap (λ (z : Lines). length z) st.whole ∙ length-append st.front st.rest in
+    let at : left ≡ length st.rest = st.place in
+    let n : length lines - left ≡ length st.front = omega arith in
+    let k : (length lines - left + 1) - 1 ≡ length st.front = omega arith in
+    let cut : take ((length lines - left + 1) - 1) lines ≡ st.front = rw (k, st.whole) (take-append_seam st.front st.rest) in (
+      omega arith,
+      record {
+        counted = omega arith;
+        front = subst (IsFront IsPlansOf) (sym cut) st.begins;
+        stuck = stuck_there lines st.front st.rest (length lines - left + 1) st.whole (ap (λ z. z + 1) n) st.ends st.dead;
+      },
+    )
+
+-- after n blocks neither an end line nor a block is read from these lines
+no_text : (n : ℕ) (lines : Lines) (o : Offence (Unit {0})) → ((line : List ℕ) → lines ≡ line ∷ [] → IsEndLine n line → ⊥) → 1 ≤ length lines → block_at (n + 1) lines ≡ Err o → (blocks : List ReadBlock) → From n lines blocks → ⊥
+no_text n lines o no_end some e [] text = at lines some (nothing_more n lines text) (λ line same. no_end line same)
+  where
+    at : (lines : Lines) → 1 ≤ length lines → IsEnding n lines → ((line : List ℕ) → lines ≡ line ∷ [] → IsEndLine n line → ⊥) → ⊥
+    at [] some h none = absurd (omega arith)
+    at (line ∷ []) some h none = none line refl h
+    at (line ∷ next ∷ lines) some h none = h
+no_text n lines o no_end some e (b ∷ blocks) text = (let first = first_of n lines b blocks text in let r : block_at (n + 1) lines ≡ Ok (b, first.left) = first.read in cc)
+
+regrouped : (front more : Lines) (l : List ℕ) (tail : Lines) → ((front ++ more) ++ l ∷ []) ++ tail ≡ front ++ (more ++ l ∷ tail)
+regrouped front more l tail = append_assoc (front ++ more) (l ∷ []) tail ∙ append_assoc front more (l ∷ tail)
+
+-- the line that comes first is no end line, and stays so however the lines go on
+first_stays : (n : ℕ) (rest front tail : Lines) (line : List ℕ) → begins_with_end n rest ≡ false → (l : List ℕ) (r : Lines) → rest ≡ front ++ l ∷ r → front ++ l ∷ tail ≡ line ∷ [] → IsEndLine n line → ⊥
+first_stays n rest [] tail line t l r whole same is =
+    let heads : l ≡ line = cc in
+    let good : is_end n l ≡ true = ap (is_end n) heads ∙ is_end_again n line is in
+    let bad : is_end n l ≡ false = sym (ap (begins_with_end n) whole) ∙ t in
+    cc
+first_stays n rest (f ∷ front) tail line t l r whole same is =
+    let heads : f ≡ line = cc in
+    let good : is_end n f ≡ true = ap (is_end n) heads ∙ is_end_again n line is in
+    let bad : is_end n f ≡ false = sym (ap (begins_with_end n) whole) ∙ t in
+    cc
+
+pub stops_in_block : (lines : Lines) (list : List ReadBlock) (rest : Lines) (o : Offence (Unit {0})) → length list + 1 < 2 ^ 64 → 1 ≤ length rest → begins_with_end (length list) rest ≡ false → block_at (length list + 1) rest ≡ Err o → Begun lines list rest
+    → (o.left ≤ length lines) × Offends IsPlansOf lines (length lines - o.left + 1)
+stops_in_block lines list rest o small some no_end e so_far =
+    let n = length list in
+    let st = (exact_block (n + 1) small).stuck rest o e in
+    offends lines o.left (record {
+      front = so_far.front ++ st.front;
+      rest = st.rest;
+      whole = so_far.whole ∙ ap (λ (z : Lines). so_far.front ++ z) st.whole ∙ sym (append_assoc so_far.front st.front st.rest);
+      place = st.place;
+      begins = (st.more, list ++ st.value ∷ [], record {
+        main = so_far.front ++ (st.front ++ st.more);
+        ending = [];
+        whole = append_assoc so_far.front st.front st.more ∙ sym (append-nil (so_far.front ++ (st.front ++ st.more)));
+        spelled = spelled_more list st.value so_far.front (st.front ++ st.more) so_far.spelled st.spelled;
+        ends = tt;
+        each = All-push IsBlock list st.value so_far.each st.fits;
+      });
+      ends = λ none blocks text. (
+          let all : rest ≡ st.front = st.whole ∙ ap (λ (z : Lines). st.front ++ z) none ∙ append-nil st.front in
+          let k = known list so_far.front st.front blocks so_far.each so_far.spelled text in
+          no_text n st.front (grammar.offence shape_of IsSpelled o.wanted 0) (λ line same is. only rest line no_end (all ∙ same) is) (subst (λ (z : Lines). 1 ≤ length z) all some) st.ends k.others k.left);
+      dead = λ l r same m. (
+          let more = m.0 in
+          let k = known list so_far.front (st.front ++ l ∷ more) m.1 so_far.each so_far.spelled (subst (λ (z : Lines). IsPlansOf z m.1) (regrouped so_far.front st.front l more) m.2) in
+          no_text n (st.front ++ l ∷ more) (grammar.offence shape_of IsSpelled o.wanted (suc (length more)))
+          (λ line alone is. first_stays n rest st.front more line no_end l r (st.whole ∙ ap (λ (z : Lines). st.front ++ z) same) alone is)
+          (omega (arith, length-append st.front (l ∷ more))) (st.dead l r more same) k.others k.left);
+    })
+  where
+    only : (rest : Lines) (line : List ℕ) → begins_with_end (length list) rest ≡ false → rest ≡ line ∷ [] → IsEndLine (length list) line → ⊥
+    only rest line t same is = (let good : is_end (length list) line ≡ true = is_end_again (length list) line is in let bad : is_end (length list) line ≡ false = sym (ap (begins_with_end (length list)) same) ∙ t in cc)
+
+-- nothing goes on after the end line
+no_more : (n : ℕ) (line : List ℕ) (next : List ℕ) (tail : Lines) → IsEndLine n line → (blocks : List ReadBlock) → From n (line ∷ next ∷ tail) blocks → ⊥
+no_more n line next tail is [] text = nothing_more n (line ∷ next ∷ tail) text
+no_more n line next tail is (b ∷ blocks) text = at text.main text.whole text.spelled
+  where
+    at : (main : Lines) → line ∷ next ∷ tail ≡ main ++ text.ending → Spells IsSpelled (rows_from (n + 1) (b ∷ blocks)) main → ⊥
+    at [] whole h = absurd h
+    at (l ∷ main) whole h = (let same : line ≡ l = cc in no_block_there n (n + 1) l (subst (λ (z : List ℕ). IsEndLine n z) same is) h.0)
+
+pub stops_after_end : (lines : Lines) (list : List ReadBlock) (rest : Lines) (left : ℕ) → begins_with_end (length list) rest ≡ true → 1 ≤ left → length rest ≡ left + 1 → Begun lines list rest
+    → (left ≤ length lines) × Offends IsPlansOf lines (length lines - left + 1)
+stops_after_end lines list [] left t some count so_far = absurd (omega arith)
+stops_after_end lines list (line ∷ rest) left t some count so_far =
+    let n = length list in
+    let is = end_is n line t in
+    offends lines left (record {
+      front = so_far.front ++ line ∷ [];
+      rest = rest;
+      whole = so_far.whole ∙ sym (append_assoc so_far.front (line ∷ []) rest);
+      place = omega arith;
+      begins = ([], list, subst (λ (z : Lines). IsPlansOf z list) (sym (append-nil (so_far.front ++ line ∷ []))) (with_end list so_far.front line so_far.each so_far.spelled is));
+      ends = λ none blocks text. absurd (omega (arith, ap (λ (z : Lines). length z) none));
+      dead = λ l r same m. (
+          let more = m.0 in
+          let k = known list so_far.front (line ∷ l ∷ more) m.1 so_far.each so_far.spelled (subst (λ (z : Lines). IsPlansOf z m.1) (regrouped so_far.front (line ∷ []) l more) m.2) in
+          no_more n line l more is k.others k.left);
+    })
+
+-- One text, one list of blocks.
+
+no_blocks : (n : ℕ) (lines : Lines) (b : ReadBlock) (blocks : List ReadBlock) → From n lines [] → From n lines (b ∷ blocks) → ⊥
+no_blocks n lines b blocks none some =
+    let parts = grammar.spells_split shape_of IsSpelled (block_rows (n + 1) b) (rows_from (n + 1 + 1) blocks) some.main some.spelled in
+    let there : lines ≡ parts.one ++ (parts.two ++ some.ending) = some.whole ∙ ap (λ (z : Lines). z ++ some.ending) parts.whole ∙ append_assoc parts.one parts.two some.ending in
+    no_ending n (n + 1) b parts.one (parts.two ++ some.ending) parts.first (subst (IsEnding n) there (nothing_more n lines none))
+
+one_list_from : (n : ℕ) (lines : Lines) (one other : List ReadBlock) → From n lines one → From n lines other → one ≡ other
+one_list_from n lines [] [] h k = refl
+one_list_from n lines [] (c ∷ other) h k = absurd (no_blocks n lines c other h k)
+one_list_from n lines (b ∷ one) [] h k = absurd (no_blocks n lines b one k h)
+one_list_from n lines (b ∷ one) (c ∷ other) h k =
+    let x = first_of n lines b one h in
+    let y = first_of n lines c other k in
+    let same = grammar.ok_both shape_of IsSpelled (block_at (n + 1) lines) (b, x.left) (c, y.left) x.read y.read in
+    let others : one ≡ other = one_list_from (n + 1) x.left one other x.others (subst (λ (z : Lines). From (n + 1) z other) (sym same.1) y.others) in
+    ap (λ (z : ReadBlock). z ∷ one) same.0 ∙ ap (λ (z : List ReadBlock). c ∷ z) others
+
+pub one_list : (lines : Lines) (one other : List ReadBlock) → IsPlansOf lines one → IsPlansOf lines other → one ≡ other
+one_list lines one other h k = one_list_from 0 lines one other (whole_from lines one h) (whole_from lines other k)

@@ -1,5 +1,5 @@
 -- A whole plan text is read exactly.
-use Rattle.std.proofs.Common.{◌≡◌, ◌≢◌, ℕ, zero, suc, ◌+◌, ◌-◌, ◌^◌, ◌<◌, ◌≤◌, ◌⊎◌, inl, inr, Bool, true, false, cond, eqb, ◌||◌, List, [], ◌∷◌, ◌++◌, length, get_or, take, Option, Some, None, Ok, Err, refl, sym, ap, subst, ◌∙◌, arith, codes, append_assoc, length-append, zero-add}
+use Rattle.std.proofs.Common.{◌≡◌, ◌≢◌, ℕ, zero, suc, ◌+◌, ◌-◌, ◌^◌, ◌<◌, ◌≤◌, ◌⊎◌, inl, inr, Bool, true, false, cond, eqb, ◌||◌, List, [], ◌∷◌, ◌++◌, length, get_or, take, Option, Some, None, Result, Ok, Err, MatchResult, IfOk, IfErr, refl, sym, ap, subst, ◌∙◌, arith, codes, append_assoc, length-append, zero-add}
 use Rattle.std.proofs.Math.Seq.{take-append_seam, take-append-add}
 use Rattle.std.proofs.lemmas.List.{append-nil, nil_from_length}
 use Rattle.std.proofs.lemmas.List.Elements.{All-nil, All-cons, All-head, All-tail, All-push}
@@ -8,11 +8,13 @@ use Rattle.std.specs.Str.{bytes_eq}
 use Rattle.std.specs.List.{All}
 use Rattle.line_grammar.specs.declared.Offence.{Offence}
 use Rattle.line_grammar.specs.Rows.{Lines, Spells, IsFront, Offends}
-use Rattle.line_grammar.specs.Reading.{Read}
+use Rattle.line_grammar.specs.declared.Stopped.{Stopped}
+use Rattle.line_grammar.specs.declared.Stopped.TheVariants as stopped
+use Rattle.line_grammar.specs.Reading.{Fails}
 use Rattle.line_grammar.proofs.Exact as grammar
 use Rattle.plan_out.specs.declared.blocks.ReadBlock.{ReadBlock}
 use Rattle.plan_out.specs.Plans.{IsNumber, IsNumbered, Row, plan, IsSpelled, block_rows, rows_from, IsBlock, IsEndLine, IsEnding, IsPlansOf}
-use Rattle.plan_out.specs.Reading.{is_numbered, is_end, begins_with_end, block_at}
+use Rattle.plan_out.specs.Reading.{is_numbered, is_end, begins_with_end, block_at, IsAfterEnd, Refuses}
 use Rattle.plan_out.proofs.BlockRows.{shape_of, numbered_is, numbered_again}
 use Rattle.plan_out.proofs.OneBlock.{Exact, exact_block}
 
@@ -119,6 +121,9 @@ first_known n b f rest (c ∷ blocks) is h text =
     let same = grammar.ok_both shape_of IsSpelled (block_at (n + 1) (f ++ rest)) (c, first.left) (b, rest) first.read (again (n + 1) b f rest small is h) in
     record { others = blocks; same = ap (λ (z : ReadBlock). z ∷ blocks) same.0; left = subst (λ (z : Lines). From (n + 1) z blocks) same.1 first.others }
 
+behind : (b : ReadBlock) (blocks rest list others : List ReadBlock) → blocks ≡ b ∷ rest → rest ≡ list ++ others → blocks ≡ b ∷ list ++ others
+behind b blocks rest list others e f = cc
+
 all_known : (n m : ℕ) (list : List ReadBlock) (front rest : Lines) (blocks : List ReadBlock) → m ≡ n + length list → All IsBlock list → Spells IsSpelled (rows_from (n + 1) list) front → From n (front ++ rest) blocks → Known m list rest blocks
 all_known n m [] [] rest blocks count each h text = record { others = blocks; same = refl; left = (let k : n ≡ m = omega arith in subst (λ (z : ℕ). From z rest blocks) k text) }
 all_known n m [] (l ∷ front) rest blocks count each h text = absurd h
@@ -127,7 +132,7 @@ all_known n m (b ∷ list) front rest blocks count each h text =
     let there : front ++ rest ≡ parts.one ++ (parts.two ++ rest) = ap (λ (z : Lines). z ++ rest) parts.whole ∙ append_assoc parts.one parts.two rest in
     let one = first_known n b parts.one (parts.two ++ rest) blocks (All-head IsBlock b list each) parts.first (subst (λ (z : Lines). From n z blocks) there text) in
     let more = all_known (n + 1) m list parts.two rest one.others (omega arith) (All-tail IsBlock b list each) parts.second one.left in
-    record { others = more.others; same = one.same ∙ ap (λ (z : List ReadBlock). b ∷ z) more.same; left = more.left }
+    record { others = more.others; same = behind b blocks one.others list more.others one.same more.same; left = more.left }
 
 -- What is read so far.
 
@@ -163,6 +168,17 @@ begun_more lines list rest b after small e so_far =
       spelled = spelled_more list b so_far.front t.front so_far.spelled t.spelled;
       each = All-push IsBlock list b so_far.each t.fits;
     }
+
+-- a block takes a line at least
+pub block_shorter : (i : ℕ) (rest : Lines) (b : ReadBlock) (after : Lines) → i < 2 ^ 64 → block_at i rest ≡ Ok (b, after) → length after < length rest
+block_shorter i rest b after small e =
+    let t = (exact_block i small).takes rest b after e in
+    let some : 1 ≤ length t.front = spelled_some t.front t.spelled in
+    omega (arith, ap (λ (z : Lines). length z) t.whole, length-append t.front after)
+  where
+    spelled_some : (front : Lines) → Spells IsSpelled (block_rows i b) front → 1 ≤ length front
+    spelled_some [] h = absurd h
+    spelled_some (l ∷ front) h = omega arith
 
 pub all_read : (lines : Lines) (list : List ReadBlock) (rest : Lines) → length rest ≡ 0 → Begun lines list rest → IsPlansOf lines list
 all_read lines list rest empty so_far =
@@ -323,3 +339,18 @@ one_list_from n lines (b ∷ one) (c ∷ other) h k =
 
 pub one_list : (lines : Lines) (one other : List ReadBlock) → IsPlansOf lines one → IsPlansOf lines other → one ≡ other
 one_list lines one other h k = one_list_from 0 lines one other (whole_from lines one h) (whole_from lines other k)
+
+-- What the loop over the blocks gives.
+
+pub ended_plans : (lines : Lines) (list : List ReadBlock) (rest : Lines) (r : Result (List ReadBlock) (Stopped (Unit {0}))) → MatchResult r (λ blocks. (blocks ≡ list) × (length rest ≡ 1)) (IsAfterEnd rest) → begins_with_end (length list) rest ≡ true → Begun lines list rest → IfOk r (IsPlansOf lines)
+ended_plans lines list rest (Ok blocks) h t so_far = subst (IsPlansOf lines) (sym h.0) (end_read lines list rest t h.1 so_far)
+ended_plans lines list rest (Err e) h t so_far = tt
+
+pub ended_refuses : (lines : Lines) (list : List ReadBlock) (rest : Lines) (r : Result (List ReadBlock) (Stopped (Unit {0}))) → MatchResult r (λ blocks. (blocks ≡ list) × (length rest ≡ 1)) (IsAfterEnd rest) → begins_with_end (length list) rest ≡ true → Begun lines list rest → IfErr r (Refuses lines)
+ended_refuses lines list rest (Ok blocks) h t so_far = tt
+ended_refuses lines list rest (Err stopped.Memory) h t so_far = tt
+ended_refuses lines list rest (Err (stopped.Offence o)) h t so_far = stops_after_end lines list rest o.left t h.0 h.1 so_far
+
+pub block_refuses : (lines : Lines) (list : List ReadBlock) (rest : Lines) (e : Stopped (Unit {0})) → length list + 1 < 2 ^ 64 → 1 ≤ length rest → begins_with_end (length list) rest ≡ false → Fails e (block_at (length list + 1) rest) → Begun lines list rest → Refuses lines e
+block_refuses lines list rest stopped.Memory small some t fails so_far = tt
+block_refuses lines list rest (stopped.Offence o) small some t fails so_far = stops_in_block lines list rest o small some t fails so_far

@@ -1,6 +1,5 @@
 pub mod Growth
 pub mod Units
-pub mod Numbers
 pub mod Returning
 pub mod Walking
 pub mod OneRun

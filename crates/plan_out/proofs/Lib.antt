@@ -11,3 +11,5 @@ pub mod Spaced
 pub mod BlockRows
 pub mod OneBlock
 pub mod WholeText
+pub mod Deciding
+pub mod GoodList

@@ -11,8 +11,8 @@ use Rattle.task_run.specs.Verdicts.{AreOperators, Stops, Misses}
 use Rattle.plan_out.specs.declared.blocks.ReadBlock.{ReadBlock}
 use Rattle.plan_out.specs.declared.check.Why.{Why}
 use Rattle.plan_out.specs.declared.check.Why.TheVariants.{NoSuchOperator, WrongName, StopsAt, MissesGoal, WrongCost, Repeats, Cheaper, Loops}
-use Rattle.plan_out.specs.Fails.{IsCostLine, IsCheaper, IsFirstSame, IsFirstReason, Says, rank}
-use Rattle.plan_out.specs.Checks.{AreNamed, IsSpelling, Passes, WalksBack}
+use Rattle.plan_out.specs.Fails.{AreNamed, IsCostLine, IsCheaper, IsFirstSame, IsFirstReason, Says, rank}
+use Rattle.plan_out.specs.Checks.{IsSpelling, Passes, WalksBack}
 use Rattle.plan_out.proofs.OneRun.{plan_no_stop, plan_no_miss, no_loop}
 
 -- none of the first reasons is true of the block
@@ -20,7 +20,7 @@ abbrev pub IsClear : TaskParts → Mode → List ReadBlock → ReadBlock → ℕ
 IsClear task mode blocks b n = (other : Why) → rank other < n → ¬ Says task mode blocks b other
 
 -- one reason more
-next : (task : TaskParts) (mode : Mode) (blocks : List ReadBlock) (b : ReadBlock) (n m : ℕ) → m ≡ n + 1 → IsClear task mode blocks b n → ((other : Why) → rank other ≡ n → ¬ Says task mode blocks b other) → IsClear task mode blocks b m
+pub next : (task : TaskParts) (mode : Mode) (blocks : List ReadBlock) (b : ReadBlock) (n m : ℕ) → m ≡ n + 1 → IsClear task mode blocks b n → ((other : Why) → rank other ≡ n → ¬ Says task mode blocks b other) → IsClear task mode blocks b m
 next task mode blocks b n m is clear here other lt says = elim (cases_eq (rank other) n) [
   | inl e ↦ here other e says
   | inr ne ↦ clear other (omega (arith, lt, ne, is)) says
@@ -105,7 +105,7 @@ clear_plan task mode blocks b fits (ops, names) plan =
     (clear_steps task mode blocks b (clear_names task mode blocks b (clear_operators task mode blocks b ops) names) (plan_no_stop task b.ops fits plan))
     (plan_no_miss task b.ops fits plan)
 
-below_all : (why : Why) → rank why < 8
+pub below_all : (why : Why) → rank why < 8
 below_all (NoSuchOperator step) = omega arith
 below_all (WrongName step) = omega arith
 below_all (StopsAt step) = omega arith

@@ -20,11 +20,7 @@ use Rattle.plan_out.specs.declared.run.Passed.{Passed}
 use Rattle.plan_out.specs.declared.seen.Seen.{Seen}
 use Rattle.plan_out.specs.declared.check.Why.{Why}
 use Rattle.plan_out.specs.declared.check.Why.TheVariants.{NoSuchOperator, WrongName, StopsAt, MissesGoal, WrongCost, Repeats, Cheaper, Loops}
-use Rattle.plan_out.specs.Fails.{IsNamed, IsMisnamed, IsCostLine, IsFirstSame, IsCheaper, Recurs, IsFirstReturn}
-
--- each step line has its operator's name
-abbrev pub AreNamed : TaskParts → ReadBlock → Type 0
-AreNamed task b = (k : ℕ) → k < length b.ops → IsNamed task.operators b.ops b.names k
+use Rattle.plan_out.specs.Fails.{AreNamed, IsMisnamed, IsCostLine, IsFirstSame, IsCheaper, Recurs, IsFirstReturn}
 
 -- what is wrong with the spelling of a block
 abbrev pub IsSpelling : TaskParts → ReadBlock → Why → Type 0

@@ -22,6 +22,10 @@ name_of all op = option_map_or (λ operator. operator.name) (slice_get all op) [
 abbrev pub IsNamed : List Operator → List ℕ → List (List ℕ) → ℕ → Type 0
 IsNamed all ops names i = slice_index_or names i [] ≡ name_of all (slice_index ops i)
 
+-- each step line has its operator's name
+abbrev pub AreNamed : TaskParts → ReadBlock → Type 0
+AreNamed task b = (k : ℕ) → k < length b.ops → IsNamed task.operators b.ops b.names k
+
 -- the first step whose line has another name than its operator's
 pub record IsMisnamed (all : List Operator) (ops : List ℕ) (names : List (List ℕ)) (i : ℕ) : Type 0 where
   pub within : i < length ops

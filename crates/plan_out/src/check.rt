@@ -2,8 +2,8 @@
 
 ghost use Rattle.std.specs.Prelude.{◌≡◌, ◌+◌, [], ◌∷◌, ◌++◌, List, All, IfOk, MatchOption, length};
 ghost use Rattle.plan_out.specs.declared.blocks.ReadBlock.{ReadBlock};
-ghost use Rattle.plan_out.specs.Checks.{AreNamed, IsSpelling, IsSeen, Passes};
-ghost use Rattle.plan_out.specs.Fails.{IsFirstReason, Finds};
+ghost use Rattle.plan_out.specs.Checks.{IsSpelling, IsSeen, Passes};
+ghost use Rattle.plan_out.specs.Fails.{AreNamed, IsFirstReason, Finds};
 ghost use Rattle.symk_task.specs.Fits.{Fits};
 ghost use Rattle.task_run.specs.Counted.{AreRulesOf};
 ghost use Rattle.task_run.specs.Verdicts.{AreOperators};

@@ -27,4 +27,4 @@ pub use check::{Checked, Why, check_list};
 pub use end::{End, end_line};
 pub use print::block;
 pub use read::{PlansFault, read_plans};
-pub use laws::text_states_one_list;
+pub use laws::{good_blocks_are_plans, text_states_one_list};

@@ -104,10 +104,13 @@ module _ (task : TaskParts) (mode : Mode) (before : List ReadBlock) (b : ReadBlo
   once i d lt = each_place (λ k. (d : ReadBlock) → ¬ Same mode (get_or before k d).ops b.ops) (length before) at i lt d
     where
       at : (i : ℕ) → i < length before → ((k : ℕ) → k < i → (d : ReadBlock) → ¬ Same mode (get_or before k d).ops b.ops) → (d : ReadBlock) → ¬ Same mode (get_or before i d).ops b.ops
-      at i lt earlier d same = none (Repeats (i + 1)) (omega arith, subst (λ (z : ℕ). IsFirstSame mode before b.ops z) (sym (one_less i)) (record {
-        here = subst (λ (o : Option ReadBlock). IsSomeAnd o (λ x. Same mode x.ops b.ops)) (sym (slice_get-get_or before i d lt)) same;
-        before = λ k e low. (let short : k < i = omega (arith, length-take-le i before (omega arith)) in subst (λ (x : ReadBlock). ¬ Same mode x.ops b.ops) (sym (get_or-take i before k e short)) (earlier k short e));
-      }))
+      at i lt earlier d same = none (Repeats (i + 1)) (
+        omega arith,
+        subst (λ (z : ℕ). IsFirstSame mode before b.ops z) (sym (one_less i)) (record {
+          here = subst (λ (o : Option ReadBlock). IsSomeAnd o (λ x. Same mode x.ops b.ops)) (sym (slice_get-get_or before i d lt)) same;
+          before = λ k e low. (let short : k < i = omega (arith, length-take-le i before (omega arith)) in subst (λ (x : ReadBlock). ¬ Same mode x.ops b.ops) (sym (get_or-take i before k e short)) (earlier k short e));
+        }),
+      )
 
   fresh_from : (s : List ℕ) (passed : List (List ℕ)) → ((i : ℕ) → ¬ IsFirstReturn passed i) → AreFresh passed
   fresh_from s passed never = each_place (λ k. ¬ Recurs passed k) (length passed) (λ i lt before there. never i (record { within = lt; here = there; before = before }))

@@ -267,14 +267,18 @@ stops_in_block lines list rest o small some no_end e so_far =
       rest = st.rest;
       whole = so_far.whole ∙ ap (λ (z : Lines). so_far.front ++ z) st.whole ∙ sym (append_assoc so_far.front st.front st.rest);
       place = st.place;
-      begins = (st.more, list ++ st.value ∷ [], record {
-        main = so_far.front ++ (st.front ++ st.more);
-        ending = [];
-        whole = append_assoc so_far.front st.front st.more ∙ sym (append-nil (so_far.front ++ (st.front ++ st.more)));
-        spelled = spelled_more list st.value so_far.front (st.front ++ st.more) so_far.spelled st.spelled;
-        ends = tt;
-        each = All-push IsBlock list st.value so_far.each st.fits;
-      });
+      begins = (
+        st.more,
+        list ++ st.value ∷ [],
+        record {
+          main = so_far.front ++ (st.front ++ st.more);
+          ending = [];
+          whole = append_assoc so_far.front st.front st.more ∙ sym (append-nil (so_far.front ++ (st.front ++ st.more)));
+          spelled = spelled_more list st.value so_far.front (st.front ++ st.more) so_far.spelled st.spelled;
+          ends = tt;
+          each = All-push IsBlock list st.value so_far.each st.fits;
+        },
+      );
       ends = λ none blocks text. (
           let all : rest ≡ st.front = st.whole ∙ ap (λ (z : Lines). st.front ++ z) none ∙ append-nil st.front in
           let k = known list so_far.front st.front blocks so_far.each so_far.spelled text in

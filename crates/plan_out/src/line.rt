@@ -40,13 +40,7 @@ fn number_after(line: &[u8], word: &[u8]) -> Option<u64>
     ensures { result ≡ number_after word.now line.now }
 {
     match number_then(line, word) {
-        Some((value, rest)) => {
-            if rest.is_empty() {
-                Some(value)
-            } else {
-                None
-            }
-        }
+        Some((value, rest)) => { if rest.is_empty() { Some(value) } else { None } }
         None => None,
     }
 }

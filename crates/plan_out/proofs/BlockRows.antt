@@ -1,5 +1,5 @@
 -- The rows of a block are read exactly.
-use Rattle.std.proofs.Common.{◌≡◌, ℕ, zero, suc, ◌+◌, ◌-◌, ◌*◌, ◌/◌, ◌%◌, ◌^◌, ◌<◌, ◌≤◌, Bool, true, false, cond, eqb, nat_le, ◌&&◌, List, [], ◌∷◌, ◌++◌, length, get_or, take, drop, map, Option, Some, None, refl, sym, ap, subst, ◌∙◌, arith, codes, decimal, append_assoc, length-append}
+use Rattle.std.proofs.Common.{◌≡◌, ℕ, zero, suc, ◌+◌, ◌-◌, ◌*◌, ◌/◌, ◌%◌, ◌^◌, ◌<◌, ◌≤◌, Bool, true, false, cond, eqb, nat_le, ◌&&◌, List, [], ◌∷◌, ◌++◌, length, get_or, take, drop, Option, Some, None, refl, sym, ap, subst, ◌∙◌, arith, codes, decimal, length-append}
 use Rattle.std.proofs.lemmas.List.{append-nil, take_more, take_all}
 use Rattle.std.proofs.lemmas.Option.{cond_some}
 use Rattle.std.proofs.lemmas.Bool.{eqb-true, eq-eqb}
@@ -10,14 +10,14 @@ use Rattle.std.proofs.lemmas.List.Elements.{All-nil, All-cons, All-head, All-tai
 use Rattle.std.proofs.Math.Seq.{take-append_seam, get_or-append_seam}
 use Rattle.std.specs.Option.{option_map, option_map_or, option_and_then}
 use Rattle.std.specs.Str.{bytes_eq}
-use Rattle.std.specs.List.{fold, flat_map, All}
-use Rattle.std.specs.Char.{is_ascii_digit, IsAsciiDigit}
+use Rattle.std.specs.List.{fold, All}
+use Rattle.std.specs.Char.{IsAsciiDigit}
 use Rattle.symk_text.specs.Numbers.{value_of}
 use Rattle.line_grammar.proofs.Exact as grammar
 use Rattle.line_grammar.proofs.Joining.{Always}
 use Rattle.plan_out.specs.Plans.{IsNumber, IsNumbered, AreSpaced, cost_word, Row, plan, ops, step, cost, IsSpelled}
-use Rattle.plan_out.specs.Reading.{after, number_then, if_alone, number_after, is_numbered, operator_then, spaced_in, plan_in, ops_in, step_in, with_word, cost_in}
-use Rattle.plan_out.proofs.Fronts.{NoDigit, after_is, after_again, Follows, number_follows, follows_number, operator_is, operator_again}
+use Rattle.plan_out.specs.Reading.{after, number_then, if_alone, is_numbered, operator_then, spaced_in, plan_in, ops_in, step_in, with_word, cost_in}
+use Rattle.plan_out.proofs.Fronts.{NoDigit, after_is, after_again, number_follows, follows_number, operator_is, operator_again}
 use Rattle.plan_out.proofs.Spaced.{operator_shorter}
 
 abbrev pub shape_of : Row → Unit {0}

@@ -1,9 +1,9 @@
 -- What a list of operators comes to is decided: it is a plan, or it stops, or it misses the goal.
-use Rattle.std.proofs.Common.{◌≡◌, ℕ, zero, suc, ◌+◌, ◌<◌, ◌≤◌, ◌⊎◌, ◌↔◌, inl, inr, List, [], ◌∷◌, ◌++◌, length, get_or, take, Option, Some, None, IsSomeAnd, IfSome, slice_get, Contains, refl, sym, ap, subst, ◌∙◌, append_assoc, arith}
+use Rattle.std.proofs.Common.{◌≡◌, ℕ, zero, suc, ◌<◌, ◌≤◌, ◌⊎◌, ◌↔◌, inl, inr, List, [], ◌∷◌, ◌++◌, length, get_or, take, Option, Some, None, IsSomeAnd, IfSome, slice_get, Contains, refl, sym, ap, subst, ◌∙◌, append_assoc, arith}
 use Rattle.std.proofs.Math.ListN.{set}
 use Rattle.std.proofs.lemmas.Bool.{cases_eq}
 use Rattle.std.proofs.lemmas.List.{append-nil, length-set}
-use Rattle.std.proofs.lemmas.List.Elements.{All-nil, All-cons, All-head, All-tail, Contains-get_or}
+use Rattle.std.proofs.lemmas.List.Elements.{All-nil, All-cons, All-head, All-tail}
 use Rattle.std.specs.List.{All}
 use Rattle.symk_task.specs.declared.parts.Fact.{Fact}
 use Rattle.symk_task.specs.declared.parts.Effect.{Effect}
@@ -14,12 +14,12 @@ use Rattle.symk_task.specs.declared.parts.TaskParts.{TaskParts}
 use Rattle.symk_task.specs.Variables.{HasLayer, IsState, base_values}
 use Rattle.symk_task.specs.Steps.{Holds, Applies, Step, ValueAfter}
 use Rattle.symk_task.specs.Plans.{Runs, IsInitial, IsPlan}
-use Rattle.symk_task.specs.Fits.{Fits, FitsOperator, InRange}
+use Rattle.symk_task.specs.Fits.{Fits}
 use Rattle.symk_task.proofs.Places.{within_some}
-use Rattle.symk_task.proofs.Running.{fits_operator, step_state, run_state}
+use Rattle.symk_task.proofs.Running.{fits_operator, step_state}
 use Rattle.symk_task.proofs.Starting.{start_law}
-use Rattle.task_run.specs.Values.{HasValue, Valued, FiresBy, AllowsBy, AppliesBy, IsOn}
-use Rattle.task_run.specs.Layer.{IsOwn, Raises, Grows, IsStuck, at_default, start_value}
+use Rattle.task_run.specs.Values.{HasValue, Valued, FiresBy, AllowsBy, IsOn}
+use Rattle.task_run.specs.Layer.{Raises, Grows, IsStuck, at_default, start_value}
 use Rattle.task_run.specs.Layer.Grows.{done, by}
 use Rattle.task_run.specs.Verdicts.{AreOperators, Stops, Misses}
 use Rattle.task_run.proofs.Applying.{applies_law, below}

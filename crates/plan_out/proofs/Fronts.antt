@@ -1,22 +1,21 @@
 -- What the front of a line says.
-use Rattle.std.proofs.Common.{◌≡◌, ℕ, zero, suc, ◌+◌, ◌-◌, ◌*◌, ◌^◌, ◌<◌, ◌≤◌, Bool, true, false, cond, eqb, nat_lt, nat_le, ◌&&◌, List, [], ◌∷◌, ◌++◌, length, get_or, take, drop, Option, Some, None, MatchOption, IfSome, refl, sym, ap, subst, ◌∙◌, arith, codes, ◌≢◌, length-take, length-drop, length-append}
-use Rattle.std.proofs.lemmas.Bool.Decides.{nat_tests, Decides-eqb}
+use Rattle.std.proofs.Common.{◌≡◌, ℕ, ◌+◌, ◌-◌, ◌^◌, ◌<◌, ◌≤◌, Bool, true, false, cond, eqb, nat_lt, nat_le, ◌&&◌, List, [], ◌∷◌, ◌++◌, length, get_or, take, drop, Option, Some, None, MatchOption, refl, sym, ap, subst, ◌∙◌, arith, codes, ◌≢◌, length-append}
+use Rattle.std.proofs.lemmas.Bool.Decides.{nat_tests}
 use Rattle.std.proofs.lemmas.Bool.{eqb-true, eq-eqb}
-use Rattle.std.proofs.lemmas.Option.{cond_some, some_pair_parts, option_and_then_some}
+use Rattle.std.proofs.lemmas.Option.{cond_some, some_pair_parts}
 use Rattle.std.proofs.lemmas.List.Folds.{length-prefix_len}
-use Rattle.std.proofs.lemmas.Slice.Eq.{strip_prefix_is, bytes_eq-Decides}
-use Rattle.std.proofs.lemmas.List.{take-append-drop, get_or-take, take_rest, nil_from_length, append-nil, append_assoc}
-use Rattle.std.proofs.lemmas.List.Elements.{All-from_recursion, All-from_get_or}
-use Rattle.std.proofs.lemmas.List.Sums.{prefix_len_passes, prefix_len_stops, prefix_len-le-length, prefix_len_is}
+use Rattle.std.proofs.lemmas.List.{take-append-drop, get_or-take, take_rest, append_assoc}
+use Rattle.std.proofs.lemmas.List.Elements.{All-from_get_or}
+use Rattle.std.proofs.lemmas.List.Sums.{prefix_len_passes, prefix_len-le-length, prefix_len_is}
 use Rattle.std.proofs.Math.ListN.{get_or-append}
 use Rattle.std.proofs.Math.Seq.{take-append_seam, drop-append_seam}
-use Rattle.std.specs.Option.{option_map, option_map_or, option_and_then, option_copied}
+use Rattle.std.specs.Option.{option_map, option_and_then, option_copied}
 use denote.Ref.{Bor}
 use Rattle.std.specs.List.{prefix_len, All}
 use Rattle.std.specs.Char.{is_ascii_digit, IsAsciiDigit}
 use Rattle.symk_text.specs.Numbers.{value_of, run_at, number_at}
-use Rattle.plan_out.specs.Plans.{IsNumber, IsNumbered}
-use Rattle.plan_out.specs.Reading.{after, first_number, number_then, if_alone, number_after, is_numbered, if_operator, operator_then}
+use Rattle.plan_out.specs.Plans.{IsNumber}
+use Rattle.plan_out.specs.Reading.{after, first_number, number_then, if_operator, operator_then}
 
 -- Bytes at the front.
 

@@ -1,15 +1,14 @@
 -- What is known of a list of blocks of which none fails.
-use Rattle.std.proofs.Common.{◌≡◌, ◌≢◌, ℕ, zero, suc, ◌+◌, ◌-◌, ◌<◌, ◌≤◌, ◌⊎◌, inl, inr, Bool, true, false, List, [], ◌∷◌, length, get_or, take, map, Option, Some, None, IfSome, IsSomeAnd, slice_get, Contains, refl, sym, ap, subst, ◌∙◌, arith}
+use Rattle.std.proofs.Common.{◌≡◌, ℕ, zero, suc, ◌+◌, ◌-◌, ◌<◌, ◌≤◌, inl, inr, Bool, true, false, List, [], ◌∷◌, length, get_or, take, map, Option, Some, None, IfSome, IsSomeAnd, slice_get, refl, sym, ap, subst, ◌∙◌, arith}
 use Rattle.std.specs.List.{All}
 use Rattle.std.specs.Option.{option_map}
-use Rattle.std.specs.List.Sorted.{IsNonDecreasing}
 use Rattle.std.proofs.lemmas.Bool.{cases_eq, cases_lt}
 use Rattle.std.proofs.lemmas.Slice.Eq.{bytes_eq-Decides}
 use Rattle.std.specs.Str.{bytes_eq}
 use Rattle.std.proofs.lemmas.List.{get_or-take, get_or_default, get_or-map, length-take-le, length-map}
-use Rattle.std.proofs.lemmas.List.Elements.{All-nil, All-map}
+use Rattle.std.proofs.lemmas.List.Elements.{All-map}
 use Rattle.std.proofs.lemmas.List.Sorted.{IsNonDecreasingBy-from_all_adjacent}
-use Rattle.std.proofs.lemmas.Option.{slice_get-map, slice_get-get_or, slice_get_within, get_or_from_slice_get}
+use Rattle.std.proofs.lemmas.Option.{slice_get-map, slice_get-get_or, get_or_from_slice_get}
 use Rattle.symk_task.specs.declared.parts.Mode.{Mode}
 use Rattle.symk_task.specs.declared.parts.Mode.TheVariants.{TopK, Loopless, Unordered}
 use Rattle.symk_task.specs.declared.parts.TaskParts.{TaskParts}
@@ -22,7 +21,7 @@ use Rattle.plan_out.specs.declared.check.Why.{Why}
 use Rattle.plan_out.specs.declared.check.Why.TheVariants.{NoSuchOperator, WrongName, StopsAt, MissesGoal, WrongCost, Repeats, Cheaper, Loops}
 use Rattle.plan_out.specs.declared.check.Checked.TheVariants.{Good}
 use Rattle.plan_out.specs.Texts.{is_unit}
-use Rattle.plan_out.specs.Fails.{name_of, IsNamed, AreNamed, IsMisnamed, IsCostLine, IsFirstSame, IsCheaper, Recurs, IsFirstReturn, IsFirstReason, Says, Fails, Finds, rank}
+use Rattle.plan_out.specs.Fails.{name_of, IsNamed, AreNamed, IsMisnamed, IsCostLine, IsFirstSame, Recurs, IsFirstReturn, IsFirstReason, Says, Finds}
 use Rattle.plan_out.specs.Checks.{AreFresh, WalksBack, Passes}
 use Rattle.plan_out.specs.Lists.{plans_of, IsGoodList}
 use Rattle.plan_out.proofs.Reasons.{IsClear, next, below_all}

@@ -1,7 +1,7 @@
 -- A block is read exactly.
-use Rattle.std.proofs.Common.{◌≡◌, ℕ, ◌+◌, ◌^◌, ◌<◌, ◌≤◌, Bool, List, [], ◌∷◌, ◌++◌, length, map, refl, sym, ap, ◌∙◌}
+use Rattle.std.proofs.Common.{◌≡◌, ℕ, ◌^◌, ◌<◌, Bool, List, [], ◌∷◌, ◌++◌, length, map, refl, ap}
 use Rattle.std.specs.List.{flat_map, All}
-use Rattle.line_grammar.specs.Reading.{Reading, row_at, both_at, after_at}
+use Rattle.line_grammar.specs.Reading.{Reading, row_at, both_at}
 use Rattle.line_grammar.proofs.Exact as grammar
 use Rattle.line_grammar.proofs.Joining as joining
 use Rattle.plan_out.specs.declared.blocks.ReadBlock.{ReadBlock}

@@ -1,11 +1,10 @@
 -- The operators of a line, read one after the other.
-use Rattle.std.proofs.Common.{◌≡◌, ℕ, zero, suc, ◌+◌, ◌^◌, ◌<◌, ◌≤◌, Bool, true, false, eqb, List, [], ◌∷◌, ◌++◌, length, Option, Some, None, refl, sym, ap, subst, ◌∙◌, arith, codes, append_assoc, length-append}
+use Rattle.std.proofs.Common.{◌≡◌, ℕ, zero, suc, ◌<◌, ◌≤◌, true, false, eqb, List, [], ◌∷◌, ◌++◌, length, Option, Some, None, refl, sym, ap, ◌∙◌, arith, codes, append_assoc, length-append}
 use Rattle.std.proofs.lemmas.List.{append-nil, nil_from_length}
 use Rattle.std.proofs.lemmas.Bool.Decides.{nat_tests}
-use Rattle.std.specs.Option.{option_map, option_and_then}
-use Rattle.plan_out.specs.Plans.{IsNumber, AreSpaced}
+use Rattle.std.specs.Option.{option_map}
 use Rattle.plan_out.specs.Reading.{operator_then, spaced_in}
-use Rattle.plan_out.proofs.Fronts.{NoDigit, Operator, operator_is, operator_again}
+use Rattle.plan_out.proofs.Fronts.{operator_is}
 
 pub operator_shorter : (bytes : List ℕ) (n : ℕ) (rest : List ℕ) → Some (n, rest) ≡ operator_then bytes → length rest < length bytes
 operator_shorter bytes n rest e =

@@ -1,8 +1,8 @@
 -- A whole plan text is read exactly.
-use Rattle.std.proofs.Common.{◌≡◌, ◌≢◌, ℕ, zero, suc, ◌+◌, ◌-◌, ◌^◌, ◌<◌, ◌≤◌, ◌⊎◌, inl, inr, Bool, true, false, cond, eqb, ◌||◌, List, [], ◌∷◌, ◌++◌, length, get_or, take, Option, Some, None, Result, Ok, Err, MatchResult, IfOk, IfErr, refl, sym, ap, subst, ◌∙◌, arith, codes, append_assoc, length-append, zero-add}
+use Rattle.std.proofs.Common.{◌≡◌, ◌≢◌, ℕ, suc, ◌+◌, ◌-◌, ◌^◌, ◌<◌, ◌≤◌, ◌⊎◌, inl, inr, Bool, true, false, ◌||◌, List, [], ◌∷◌, ◌++◌, length, get_or, take, Result, Ok, Err, MatchResult, IfOk, IfErr, refl, sym, ap, subst, ◌∙◌, arith, codes, append_assoc, length-append, zero-add}
 use Rattle.std.proofs.Math.Seq.{take-append_seam, take-append-add}
 use Rattle.std.proofs.lemmas.List.{append-nil, nil_from_length}
-use Rattle.std.proofs.lemmas.List.Elements.{All-nil, All-cons, All-head, All-tail, All-push}
+use Rattle.std.proofs.lemmas.List.Elements.{All-nil, All-head, All-tail, All-push}
 use Rattle.std.proofs.lemmas.Slice.Eq.{bytes_eq-Decides}
 use Rattle.std.specs.Str.{bytes_eq}
 use Rattle.std.specs.List.{All}
@@ -13,10 +13,10 @@ use Rattle.line_grammar.specs.declared.Stopped.TheVariants as stopped
 use Rattle.line_grammar.specs.Reading.{Fails}
 use Rattle.line_grammar.proofs.Exact as grammar
 use Rattle.plan_out.specs.declared.blocks.ReadBlock.{ReadBlock}
-use Rattle.plan_out.specs.Plans.{IsNumber, IsNumbered, Row, plan, IsSpelled, block_rows, rows_from, IsBlock, IsEndLine, IsEnding, IsPlansOf}
+use Rattle.plan_out.specs.Plans.{Row, plan, IsSpelled, block_rows, rows_from, IsBlock, IsEndLine, IsEnding, IsPlansOf}
 use Rattle.plan_out.specs.Reading.{is_numbered, is_end, begins_with_end, block_at, IsAfterEnd, Refuses}
 use Rattle.plan_out.proofs.BlockRows.{shape_of, numbered_is, numbered_again}
-use Rattle.plan_out.proofs.OneBlock.{Exact, exact_block}
+use Rattle.plan_out.proofs.OneBlock.{exact_block}
 
 -- End lines.
 

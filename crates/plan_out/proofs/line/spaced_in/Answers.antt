@@ -1,4 +1,4 @@
-use Rattle.std.proofs.Common.{◌≤◌, ◌≡◌, length, sym, ◌∙◌}
+use Rattle.std.proofs.Common.{length, sym, ◌∙◌}
 use Rattle.plan_out.specs.Reading.{spaced_in}
 use Rattle.plan_out.proofs.Spaced.{operator_shorter, begun, goes_on, breaks_off, all_read, is_some, is_none}
 use Rattle.plan_out.proofs.line.spaced_in.Goals as goal

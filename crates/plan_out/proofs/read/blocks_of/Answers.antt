@@ -1,7 +1,5 @@
-use Rattle.std.proofs.Common.{◌≡◌, ◌+◌, ◌<◌, ◌^◌, List, length, sym, ap, subst, ◌∙◌, arith}
+use Rattle.std.proofs.Common.{◌+◌, ◌<◌, ◌^◌, length, sym, ◌∙◌, arith}
 use Rattle.std.proofs.lemmas.Result.{err_from_is_err_and}
-use Rattle.plan_out.specs.declared.blocks.ReadBlock.{ReadBlock}
-use Rattle.plan_out.specs.Reading.{begins_with_end}
 use Rattle.plan_out.proofs.Spaced.{is_some}
 use Rattle.plan_out.proofs.WholeText.{begun_more, block_shorter, ended_plans, ended_refuses, block_refuses}
 use Rattle.plan_out.proofs.read.blocks_of.Goals as goal

@@ -1,0 +1,6 @@
+pub mod CostList
+pub mod Runs
+pub mod Missed
+pub mod Keeping
+pub mod Owning
+pub mod Trading

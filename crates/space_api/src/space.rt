@@ -1,0 +1,146 @@
+//! Spaces of sets of states.
+
+ghost use Rattle.std.specs.Prelude.{◌≡◌, ◌<◌, ◌↔◌, ℕ, IsTrue, IsFalse, IfOk, OnErr, length, slice_index};
+ghost use Rattle.task_system.specs.System.{State, Listed};
+ghost use Rattle.space_api.specs.View.{View, Valid, Has, HasMember, IsEmpty, HasSame, GoalIn, Unites, Meets, Lacks, Image, CostImage, Preimage, CostPreimage};
+ghost use Rattle.space_api.specs.Frames.{Kept, NoMore, Gives, Forgot};
+ghost use Rattle.space_api.specs.Costs.{costs_of};
+
+use symk_task::Memory;
+
+/// Why a call of a space is refused: want of memory alone.
+pub type SpaceFault = Memory;
+
+/// Sets of states of one transition system.
+///
+/// Each call is given valid sets of this space. Each call that gives a set gives one that was not valid before; it is
+/// valid until it is handed to `forget`. No call changes the system or what a valid set has, and a refused call makes no
+/// set valid.
+pub trait Space {
+    /// A name of a set. It is copied freely; the set is given back once, by `forget`.
+    type Set: Copy;
+
+    /// The system, which sets are valid, and which states each has.
+    ghost view: { Self → View Self.Set };
+
+    /// No state.
+    fn empty(&mut self) -> Result<Self::Set, SpaceFault>
+        ensures kept { Kept (view self.old) (view self.new) }
+        ensures ok { IfOk result (Gives (view self.old) (view self.new) (λ _. ⊥)) }
+        ensures err { OnErr result (NoMore (view self.old) (view self.new)) };
+
+    /// Every state of the system.
+    fn all(&mut self) -> Result<Self::Set, SpaceFault>
+        ensures kept { Kept (view self.old) (view self.new) }
+        ensures ok { IfOk result (Gives (view self.old) (view self.new) (Listed (view self.old).system.states)) }
+        ensures err { OnErr result (NoMore (view self.old) (view self.new)) };
+
+    /// The initial state alone.
+    fn init(&mut self) -> Result<Self::Set, SpaceFault>
+        ensures kept { Kept (view self.old) (view self.new) }
+        ensures ok { IfOk result (Gives (view self.old) (view self.new) (λ s. s ≡ (view self.old).system.initial)) }
+        ensures err { OnErr result (NoMore (view self.old) (view self.new)) };
+
+    /// The states of `a` where the goal holds.
+    fn goal_in(&mut self, a: Self::Set) -> Result<Self::Set, SpaceFault>
+        requires { Valid (view self.old) a }
+        ensures kept { Kept (view self.old) (view self.new) }
+        ensures ok { IfOk result (Gives (view self.old) (view self.new) (GoalIn (view self.old) a)) }
+        ensures err { OnErr result (NoMore (view self.old) (view self.new)) };
+
+    /// The states of `a` or `b`.
+    fn unite(&mut self, a: Self::Set, b: Self::Set) -> Result<Self::Set, SpaceFault>
+        requires a { Valid (view self.old) a }
+        requires b { Valid (view self.old) b }
+        ensures kept { Kept (view self.old) (view self.new) }
+        ensures ok { IfOk result (Gives (view self.old) (view self.new) (Unites (view self.old) a b)) }
+        ensures err { OnErr result (NoMore (view self.old) (view self.new)) };
+
+    /// The states of both `a` and `b`.
+    fn meet(&mut self, a: Self::Set, b: Self::Set) -> Result<Self::Set, SpaceFault>
+        requires a { Valid (view self.old) a }
+        requires b { Valid (view self.old) b }
+        ensures kept { Kept (view self.old) (view self.new) }
+        ensures ok { IfOk result (Gives (view self.old) (view self.new) (Meets (view self.old) a b)) }
+        ensures err { OnErr result (NoMore (view self.old) (view self.new)) };
+
+    /// The states of `a` that are not in `b`.
+    fn minus(&mut self, a: Self::Set, b: Self::Set) -> Result<Self::Set, SpaceFault>
+        requires a { Valid (view self.old) a }
+        requires b { Valid (view self.old) b }
+        ensures kept { Kept (view self.old) (view self.new) }
+        ensures ok { IfOk result (Gives (view self.old) (view self.new) (Lacks (view self.old) a b)) }
+        ensures err { OnErr result (NoMore (view self.old) (view self.new)) };
+
+    /// The states to which operators of cost `w` lead from states of `a`.
+    fn image_cost(&mut self, w: u64, a: Self::Set) -> Result<Self::Set, SpaceFault>
+        requires { Valid (view self.old) a }
+        ensures kept { Kept (view self.old) (view self.new) }
+        ensures ok { IfOk result (Gives (view self.old) (view self.new) (CostImage (view self.old) w a)) }
+        ensures err { OnErr result (NoMore (view self.old) (view self.new)) };
+
+    /// The states to which the operator leads from those states of `a` to which it applies.
+    fn image_op(&mut self, op: u32, a: Self::Set) -> Result<Self::Set, SpaceFault>
+        requires a { Valid (view self.old) a }
+        requires op { op < (view self.old).system.operators }
+        ensures kept { Kept (view self.old) (view self.new) }
+        ensures ok { IfOk result (Gives (view self.old) (view self.new) (Image (view self.old) op a)) }
+        ensures err { OnErr result (NoMore (view self.old) (view self.new)) };
+
+    /// The states of `within` from which an operator of cost `w` leads to a state of `a`.
+    fn pre_cost(&mut self, w: u64, a: Self::Set, within: Self::Set) -> Result<Self::Set, SpaceFault>
+        requires a { Valid (view self.old) a }
+        requires within { Valid (view self.old) within }
+        ensures kept { Kept (view self.old) (view self.new) }
+        ensures ok { IfOk result (Gives (view self.old) (view self.new) (CostPreimage (view self.old) w a within)) }
+        ensures err { OnErr result (NoMore (view self.old) (view self.new)) };
+
+    /// The states of `within` from which the operator leads to a state of `a`.
+    fn pre_op(&mut self, op: u32, a: Self::Set, within: Self::Set) -> Result<Self::Set, SpaceFault>
+        requires a { Valid (view self.old) a }
+        requires within { Valid (view self.old) within }
+        requires op { op < (view self.old).system.operators }
+        ensures kept { Kept (view self.old) (view self.new) }
+        ensures ok { IfOk result (Gives (view self.old) (view self.new) (Preimage (view self.old) op a within)) }
+        ensures err { OnErr result (NoMore (view self.old) (view self.new)) };
+
+    /// Gives a set back. It takes no memory.
+    fn forget(&mut self, a: Self::Set)
+        requires { Valid (view self.old) a }
+        ensures { Forgot (view self.old) (view self.new) a };
+
+    /// Whether the set has no state.
+    fn is_empty(&self, a: Self::Set) -> bool
+        requires { Valid (view self.now) a }
+        ensures empty { IsTrue result ↔ IsEmpty (view self.now) a }
+        ensures member { IsFalse result → HasMember (view self.now) a };
+
+    /// Whether the two sets have the same states.
+    fn same(&self, a: Self::Set, b: Self::Set) -> bool
+        requires a { Valid (view self.now) a }
+        requires b { Valid (view self.now) b }
+        ensures { IsTrue result ↔ HasSame (view self.now) a b };
+
+    /// Whether the initial state is one of the set.
+    fn has_init(&self, a: Self::Set) -> bool
+        requires { Valid (view self.now) a }
+        ensures { result ≡ (view self.now).has a (view self.now).system.initial };
+
+    /// How many different costs the operators have.
+    fn costs(&self) -> usize
+        ensures { result ≡ length (costs_of (view self.now).system) };
+
+    /// The cost at this place among the different ones, rising; the first is at place 0.
+    fn cost_at(&self, i: usize) -> u64
+        requires { i < length (costs_of (view self.now).system) }
+        ensures { result ≡ slice_index (costs_of (view self.now).system) i };
+
+    /// The number of operators.
+    fn operators(&self) -> u32
+        ensures { result ≡ (view self.now).system.operators };
+
+    /// What the operator costs.
+    fn cost_of(&self, op: u32) -> u64
+        requires { op < (view self.now).system.operators }
+        ensures { result ≡ (view self.now).system.cost op };
+}

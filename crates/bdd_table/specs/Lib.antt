@@ -1,0 +1,3 @@
+pub mod Diagram
+pub mod Collected
+pub mod NodeHash

@@ -1,3 +1,9 @@
 pub mod Members
 pub mod Causes
 pub mod Texts
+pub mod Puts
+pub mod Listed
+pub mod Asked
+pub mod LawfulWishes
+pub mod Costed
+pub mod Answering

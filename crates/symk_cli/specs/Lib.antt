@@ -3,4 +3,15 @@ pub mod Listable
 pub mod Ends
 pub mod Lengths
 pub mod Steps
+pub mod Wishes
 pub mod Requests
+pub mod LawfulWords
+pub mod Refusals
+pub mod Lists
+pub mod Verdicts
+pub mod Shown
+pub mod Plans
+pub mod Answer
+pub mod Named
+pub mod Opens
+pub mod Complete

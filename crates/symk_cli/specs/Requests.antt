@@ -1,27 +1,17 @@
--- What the texts of the words ask for.
-use Rattle.std.specs.Prelude.{◌≡◌, ◌≤◌}
-use Rattle.symk_io.specs.View.{Bytes}
-use Rattle.symk_words.specs.Texts.{Texts, plan, check, demo}
+-- What a request is for.
+use Rattle.std.specs.Prelude.{◌≤◌, ⊤}
+use Rattle.symk_cli.specs.Wishes.{Wish, lists, checks, shows}
 use Rattle.symk_cli.specs.declared.request.Request.{Request}
-use Rattle.symk_cli.specs.declared.request.Request.TheVariants as request
+use Rattle.symk_cli.specs.declared.request.Request.TheVariants.{Plan, Check, Demo}
 
-abbrev pub AsksPlan : Texts → Bytes → Type 0
-AsksPlan (plan file k mode search) name = file ≡ name
-AsksPlan (check file plans mode) name = ⊥
-AsksPlan (demo n) name = ⊥
+-- what it asks for
+abbrev pub wished : Request → Wish
+wished (Plan file most mode direction) = lists file.now most mode direction
+wished (Check file plans mode) = checks file.now plans.now mode
+wished (Demo switches) = shows switches
 
-abbrev pub AsksCheck : Texts → Bytes → Bytes → Type 0
-AsksCheck (plan file k mode search) name other = ⊥
-AsksCheck (check file plans mode) name other = (file ≡ name) × (plans ≡ other)
-AsksCheck (demo n) name other = ⊥
-
-abbrev pub AsksDemo : Texts → Type 0
-AsksDemo (plan file k mode search) = ⊥
-AsksDemo (check file plans mode) = ⊥
-AsksDemo (demo n) = Unit {0}
-
--- the request is of the texts' kind and of their files
-abbrev pub AsksFor : Texts → Request → Type 0
-AsksFor texts (request.Plan file most mode direction) = AsksPlan texts file.now
-AsksFor texts (request.Check file plans mode) = AsksCheck texts file.now plans.now
-AsksFor texts (request.Demo switches) = (1 ≤ switches) × (switches ≤ 64) × AsksDemo texts
+-- there are 1 to 64 switches
+abbrev pub HasSwitches : Request → Type 0
+HasSwitches (Plan file most mode direction) = ⊤
+HasSwitches (Check file plans mode) = ⊤
+HasSwitches (Demo switches) = (1 ≤ switches) × (switches ≤ 64)

@@ -1,8 +1,8 @@
 //! The verdict on a list of plans.
 
-ghost use Rattle.std.specs.Prelude.{◌≡◌, All, length};
-ghost use Rattle.symk_cli.specs.Ends.{HasCauses};
-ghost use Rattle.symk_cli.specs.Lengths.{IsVerdict};
+ghost use Rattle.std.specs.Prelude.{◌≡◌, ◌++◌, ◌-◌, All, length, IfOk, OnOk, decimal};
+ghost use Rattle.symk_cli.specs.Ends.{HasCauses, OrFront, Puts};
+ghost use Rattle.symk_cli.specs.Verdicts.{Verdict, verdict_text, why_text};
 
 use crate::ending::end_with;
 use crate::status::Status;
@@ -21,7 +21,7 @@ pub fn judge<K: Sink>(
     sink: &mut K,
 ) -> Status
     requires { All (λ block. length block.names ≡ length block.ops) blocks.now.list }
-    ensures verdict { IsVerdict result }
+    ensures verdict { Puts (OrFront (Verdict task.now mode blocks.now.list)) (K.view sink.old).taken (K.view sink.new).taken result }
     ensures causes { HasCauses result 0 0 (K.view sink.old).faults (K.view sink.new).faults }
 {
     match check_list(alloc, task, mode, blocks) {
@@ -34,7 +34,10 @@ pub fn judge<K: Sink>(
 }
 
 // `good N`
-fn good_text(alloc: Global, n: u64) -> Result<Text, Memory> {
+#[tactic(auto, unfolding(crate::specs::Verdicts::verdict_text))]
+fn good_text(alloc: Global, n: u64) -> Result<Text, Memory>
+    ensures { IfOk result (λ text. text ≡ verdict_text (Checked.Good n)) }
+{
     let mut text = Text::new(alloc);
     push_bytes(&mut text, b"good ")?;
     push_number(&mut text, n)?;
@@ -43,7 +46,10 @@ fn good_text(alloc: Global, n: u64) -> Result<Text, Memory> {
 }
 
 // `bad plan I: WHY`
-fn bad_text(alloc: Global, plan: u64, why: Why) -> Result<Text, Memory> {
+#[tactic(auto, unfolding(crate::specs::Verdicts::verdict_text))]
+fn bad_text(alloc: Global, plan: u64, why: Why) -> Result<Text, Memory>
+    ensures { IfOk result (λ text. text ≡ verdict_text (Checked.Bad plan why)) }
+{
     let mut text = Text::new(alloc);
     push_bytes(&mut text, b"bad plan ")?;
     push_number(&mut text, plan)?;
@@ -53,7 +59,10 @@ fn bad_text(alloc: Global, plan: u64, why: Why) -> Result<Text, Memory> {
     Ok(text)
 }
 
-fn push_why(text: &mut Text, plan: u64, why: Why) -> Result<(), Memory> {
+#[tactic(auto, unfolding(crate::specs::Verdicts::why_text))]
+fn push_why(text: &mut Text, plan: u64, why: Why) -> Result<(), Memory>
+    ensures { OnOk result (text.new ≡ text.old ++ why_text plan why) }
+{
     match why {
         Why::NoSuchOperator { step } => push_step(text, b"no such operator at step ", step),
         Why::WrongName { step } => push_step(text, b"other name at step ", step),
@@ -69,13 +78,17 @@ fn push_why(text: &mut Text, plan: u64, why: Why) -> Result<(), Memory> {
     }
 }
 
-fn push_step(text: &mut Text, words: &[u8], number: u64) -> Result<(), Memory> {
+fn push_step(text: &mut Text, words: &[u8], number: u64) -> Result<(), Memory>
+    ensures { OnOk result (text.new ≡ text.old ++ (words.now ++ decimal number)) }
+{
     push_bytes(text, words)?;
     push_number(text, number)
 }
 
 // A cost may be past 64 bits.
-fn push_cost(text: &mut Text, cost: u128) -> Result<(), Memory> {
+pub fn push_cost(text: &mut Text, cost: u128) -> Result<(), Memory>
+    ensures { OnOk result (text.new ≡ text.old ++ decimal cost) }
+{
     let mut buffer = itoa::Buffer::new();
     push_bytes(text, buffer.format(cost).as_bytes())
 }

@@ -1,6 +1,6 @@
 //! The texts that end a run.
 
-ghost use Rattle.std.specs.Prelude.{◌≡◌};
+ghost use Rattle.std.specs.Prelude.{◌≡◌, MatchResult};
 ghost use Rattle.symk_cli.specs.Ends.{Ends, EndsAs, HasCauses};
 
 use crate::status::Status;
@@ -33,6 +33,9 @@ pub fn end<K: Sink>(sink: &mut K, text: &[u8], status: Status) -> Status
 pub fn end_with<K: Sink>(sink: &mut K, text: Result<Text, Memory>, status: Status) -> Status
     requires unreadable { status ≡ Status.Unreadable → ⊥ }
     requires write { status ≡ Status.WriteFault → ⊥ }
+    ensures ends { MatchResult text
+        (λ made. Ends status made (K.view sink.old) (K.view sink.new) result)
+        (λ _. (result ≡ Status.Memory) × (K.view sink.new ≡ K.view sink.old)) }
     ensures status { EndsAs status result }
     ensures causes { HasCauses result 0 0 (K.view sink.old).faults (K.view sink.new).faults }
 {

@@ -1,8 +1,11 @@
 //! Plans, listed one by one.
 
-ghost use Rattle.std.specs.Prelude.{◌≡◌};
-ghost use Rattle.symk_cli.specs.Ends.{HasCauses};
-ghost use Rattle.symk_cli.specs.Lengths.{IsListing};
+ghost use Rattle.std.specs.Prelude.{◌≡◌, ◌⊎◌, IfErr, OnOk, OnErr};
+ghost use Rattle.symk_io.specs.View.{Tells, Grew, GrewByPart};
+ghost use Rattle.plan_out.specs.Texts.{block as block_text, end_line as end_text};
+ghost use Rattle.symk_cli.specs.Ends.{Ends, HasCauses, Puts};
+ghost use Rattle.symk_cli.specs.Listable.{IsListable};
+ghost use Rattle.symk_cli.specs.Lists.{OrPart, end_status};
 
 use crate::ending::{end, status_of};
 use crate::search::{Search, Stop};
@@ -10,7 +13,7 @@ use crate::status::Status;
 use plan_out::{End, block, end_line};
 use std::alloc::Global;
 use symk_io::{Sink, put};
-use symk_task::{Mode, Task};
+use symk_task::{Mode, Plan, Task};
 
 /// Lists at most that many plans, each block put before the next plan is asked for, and then the line that says why the
 /// list ends.
@@ -21,7 +24,7 @@ pub fn list_plans<K: Sink>(
     most: u64,
     sink: &mut K,
 ) -> Status
-    ensures listing { IsListing result }
+    ensures lists { Puts (OrPart task.now most mode) (K.view sink.old).taken (K.view sink.new).taken result }
     ensures causes { HasCauses result 0 0 (K.view sink.old).faults (K.view sink.new).faults }
 {
     let Ok(mut search) = Search::new(alloc, task, mode) else {
@@ -29,14 +32,10 @@ pub fn list_plans<K: Sink>(
     };
     'plans: for number in 0..most {
         match search.next_plan(alloc, task) {
-            Ok(Some(plan)) => {
-                let Ok(text) = block(alloc, task, number + 1, &plan) else {
-                    return Status::Memory;
-                };
-                if let Err(fault) = put(sink, &text) {
-                    return status_of(fault);
-                }
-            }
+            Ok(Some(plan)) => match put_block(alloc, task, number + 1, &plan, sink) {
+                Ok(()) => {}
+                Err(status) => return status,
+            },
             Ok(None) => return end_list(alloc, sink, End::Exhausted { n: number }),
             Err(Stop::CostRange) => return end_list(alloc, sink, End::CostRange),
             Err(Stop::Memory) => return Status::Memory,
@@ -45,18 +44,47 @@ pub fn list_plans<K: Sink>(
     end_list(alloc, sink, End::Reached { n: most })
 }
 
+// Puts the block of a plan, which is the one of this number in its list, or ends the run.
+fn put_block<K: Sink>(
+    alloc: Global,
+    task: &Task,
+    number: u64,
+    plan: &Plan,
+    sink: &mut K,
+) -> Result<(), Status>
+    requires { IsListable task.now plan.now }
+    ensures ok { OnOk result (Tells (Grew (block_text task.now number plan.now)) (K.view sink.old).taken (K.view sink.new).taken) }
+    ensures quiet { OnOk result ((K.view sink.new).faults ≡ (K.view sink.old).faults) }
+    ensures err { OnErr result (Tells (GrewByPart (block_text task.now number plan.now)) (K.view sink.old).taken (K.view sink.new).taken) }
+    ensures stop { IfErr result (λ status. (status ≡ Status.WriteFault) ⊎ (status ≡ Status.Memory)) }
+    ensures causes { IfErr result (λ status. HasCauses status 0 0 (K.view sink.old).faults (K.view sink.new).faults) }
+{
+    let Ok(text) = block(alloc, task, number, plan) else {
+        return Err(Status::Memory);
+    };
+    match put(sink, &text) {
+        Ok(()) => Ok(()),
+        Err(fault) => Err(status_of(fault)),
+    }
+}
+
 // Puts the line that ends a list.
 fn end_list<K: Sink>(alloc: Global, sink: &mut K, why: End) -> Status
-    ensures listing { IsListing result }
+    ensures ends { Ends (end_status why) (end_text why) (K.view sink.old) (K.view sink.new) result }
     ensures causes { HasCauses result 0 0 (K.view sink.old).faults (K.view sink.new).faults }
 {
-    let status = match why {
+    match end_line(alloc, why) {
+        Ok(text) => end(sink, &text, status_of_end(why)),
+        Err(_) => Status::Memory,
+    }
+}
+
+fn status_of_end(why: End) -> Status
+    ensures { result ≡ end_status why }
+{
+    match why {
         End::Reached { .. } => Status::Reached,
         End::Exhausted { .. } => Status::Exhausted,
         End::CostRange => Status::CostRange,
-    };
-    match end_line(alloc, why) {
-        Ok(text) => end(sink, &text, status),
-        Err(_) => Status::Memory,
     }
 }

@@ -1,8 +1,9 @@
 //! What the words ask for.
 
-ghost use Rattle.std.specs.Prelude.{◌≤◌, IfSome};
+ghost use Rattle.std.specs.Prelude.{◌≡◌, ◌≤◌, IfSome, option_map};
 ghost use Rattle.symk_words.specs.Texts.{view_of};
-ghost use Rattle.symk_cli.specs.Requests.{AsksFor};
+ghost use Rattle.symk_cli.specs.Wishes.{number_within, mode_of, direction_of, serves, spelled};
+ghost use Rattle.symk_cli.specs.Requests.{wished, HasSwitches};
 
 use symk_task::Mode;
 use symk_text::number;
@@ -38,7 +39,8 @@ pub enum Request<'a> {
 
 /// The request that the texts spell, None where one of them isn't as the usage text says.
 pub fn request_of<'a>(asked: &Asked<'a>) -> Option<Request<'a>>
-    ensures { IfSome result (AsksFor (view_of asked.now)) }
+    ensures wish { option_map wished result ≡ spelled (view_of asked.now) }
+    ensures switches { IfSome result HasSwitches }
 {
     match *asked {
         Asked::Plan {
@@ -74,7 +76,8 @@ pub fn request_of<'a>(asked: &Asked<'a>) -> Option<Request<'a>>
 
 // The number that is the whole word, within the bounds.
 fn number_within(word: &str, least: u64, most: u64) -> Option<u64>
-    ensures { IfSome result (λ n. (least ≤ n) × (n ≤ most)) }
+    ensures number { result ≡ number_within least most word.now }
+    ensures bounds { IfSome result (λ n. (least ≤ n) × (n ≤ most)) }
 {
     let (value, end) = number(word.as_bytes(), 0)?;
     if end == word.len() && least <= value && value <= most {
@@ -84,7 +87,9 @@ fn number_within(word: &str, least: u64, most: u64) -> Option<u64>
     }
 }
 
-fn mode_of(word: Option<&str>) -> Option<Mode> {
+fn mode_of(word: Option<&str>) -> Option<Mode>
+    ensures { result ≡ mode_of (option_map (λ s. s.now) word.entry) }
+{
     match word {
         None | Some("topk") => Some(Mode::TopK),
         Some("loopless") => Some(Mode::Loopless),
@@ -93,7 +98,9 @@ fn mode_of(word: Option<&str>) -> Option<Mode> {
     }
 }
 
-fn direction_of(word: Option<&str>) -> Option<Direction> {
+fn direction_of(word: Option<&str>) -> Option<Direction>
+    ensures { result ≡ direction_of (option_map (λ s. s.now) word.entry) }
+{
     match word {
         None | Some("auto") => Some(Direction::Auto),
         Some("forward") => Some(Direction::Forward),
@@ -104,7 +111,9 @@ fn direction_of(word: Option<&str>) -> Option<Direction> {
 }
 
 // Loopless plans are found backward alone.
-fn is_served(mode: Mode, direction: Direction) -> bool {
+fn is_served(mode: Mode, direction: Direction) -> bool
+    ensures { result ≡ serves mode direction }
+{
     let forward = direction == Direction::Forward || direction == Direction::Bidirectional;
     mode != Mode::Loopless || !forward
 }

@@ -1,9 +1,11 @@
 //! The demonstration: the cheapest plans of a task that is made from a number.
 
-ghost use Rattle.std.specs.Prelude.{◌≡◌, ◌≤◌};
-ghost use Rattle.symk_cli.specs.Ends.{HasCauses};
-ghost use Rattle.symk_cli.specs.Lengths.{IsShowing};
+ghost use Rattle.std.specs.Prelude.{◌≡◌, ◌+◌, ◌*◌, ◌^◌, ◌<◌, ◌≤◌, ◌++◌, IfOk, OnOk, min, max};
+ghost use Rattle.task_gen.specs.Switches.{switches as switches_task};
+ghost use Rattle.symk_cli.specs.Ends.{HasCauses, OrFront, Puts};
+ghost use Rattle.symk_cli.specs.Shown.{HasPlans, IsSummary, Summary, counts_line, costs_line, reached_line};
 
+use crate::checking::push_cost;
 use crate::ending::end_with;
 use crate::search::Search;
 use crate::status::Status;
@@ -22,7 +24,7 @@ const SHOWN: u64 = 20;
 pub fn show<K: Sink>(alloc: Global, number: u32, sink: &mut K) -> Status
     requires least { 1 ≤ number }
     requires most { number ≤ 64 }
-    ensures showing { IsShowing result }
+    ensures shows { Puts (OrFront (IsSummary number)) (K.view sink.old).taken (K.view sink.new).taken result }
     ensures causes { HasCauses result 0 0 (K.view sink.old).faults (K.view sink.new).faults }
 {
     end_with(sink, summary(alloc, number), Status::Shown)
@@ -32,6 +34,7 @@ pub fn show<K: Sink>(alloc: Global, number: u32, sink: &mut K) -> Status
 fn task_read_back(alloc: Global, number: u32) -> Result<Task, Memory>
     requires least { 1 ≤ number }
     requires most { number ≤ 64 }
+    ensures { IfOk result (λ task. task ≡ switches_task number) }
 {
     let text = write_task(alloc, &switches(alloc, number)?)?;
     match read_task(alloc, &text) {
@@ -40,29 +43,44 @@ fn task_read_back(alloc: Global, number: u32) -> Result<Task, Memory>
     }
 }
 
-// What the plans cost: how many there are, the least and the greatest cost, and the sum.
+// What plans cost: the least and the greatest cost, and the sum.
 #[derive(Clone, Copy, Debug)]
 struct Costs {
     cheapest: u64,
     dearest: u64,
-    total: u64,
+    total: u128,
 }
 
-fn costs_of(alloc: Global, task: &Task) -> Result<Costs, Memory> {
+impl Costs {
+    // Those of one plan more.
+    fn with(self, cost: u64) -> Costs
+        requires { self.total + cost < 2 ^ 128 }
+        ensures cheapest { result.cheapest ≡ min self.cheapest cost }
+        ensures dearest { result.dearest ≡ max self.dearest cost }
+        ensures total { result.total ≡ self.total + cost }
+    {
+        Costs {
+            cheapest: self.cheapest.min(cost),
+            dearest: self.dearest.max(cost),
+            total: self.total + u128::from(cost),
+        }
+    }
+}
+
+fn costs_of(alloc: Global, task: &Task) -> Result<Costs, Memory>
+    ensures { IfOk result (λ costs. HasPlans task.now costs.cheapest costs.dearest costs.total) }
+{
     let mut search = Search::new(alloc, task, Mode::TopK)?;
     let mut costs = Costs {
         cheapest: u64::MAX,
         dearest: 0,
         total: 0,
     };
-    'plans: for _ in 0..SHOWN {
+    'plans: for _number in 0..SHOWN {
         let Ok(Some(plan)) = search.next_plan(alloc, task) else {
             return Err(AllocError);
         };
-        let cost = task.plan_cost(&plan) as u64;
-        costs.cheapest = costs.cheapest.min(cost);
-        costs.dearest = costs.dearest.max(cost);
-        costs.total = costs.total.saturating_add(cost);
+        costs = costs.with(task.plan_cost(&plan) as u64);
     }
     Ok(costs)
 }
@@ -70,20 +88,22 @@ fn costs_of(alloc: Global, task: &Task) -> Result<Costs, Memory> {
 fn summary(alloc: Global, number: u32) -> Result<Text, Memory>
     requires least { 1 ≤ number }
     requires most { number ≤ 64 }
+    ensures { IfOk result (Summary number) }
 {
     let task = task_read_back(alloc, number)?;
     let costs = costs_of(alloc, &task)?;
     let mut text = Text::new(alloc);
     push_counts(&mut text, number, &task)?;
     push_costs(&mut text, costs)?;
-    push_bytes(&mut text, b"end reached ")?;
-    push_number(&mut text, SHOWN)?;
-    push_bytes(&mut text, b"\n")?;
+    push_reached(&mut text)?;
     Ok(text)
 }
 
 // `switches N: variables V operators O rules R`
-fn push_counts(text: &mut Text, number: u32, task: &Task) -> Result<(), Memory> {
+#[tactic(auto, unfolding(crate::specs::Shown::counts_line))]
+fn push_counts(text: &mut Text, number: u32, task: &Task) -> Result<(), Memory>
+    ensures { OnOk result (text.new ≡ text.old ++ counts_line number task.now) }
+{
     let parts = task.parts();
     push_bytes(text, b"switches ")?;
     push_number(text, u64::from(number))?;
@@ -97,7 +117,10 @@ fn push_counts(text: &mut Text, number: u32, task: &Task) -> Result<(), Memory> 
 }
 
 // `plans M: cheapest C dearest D total T`
-fn push_costs(text: &mut Text, costs: Costs) -> Result<(), Memory> {
+#[tactic(auto, unfolding(crate::specs::Shown::costs_line))]
+fn push_costs(text: &mut Text, costs: Costs) -> Result<(), Memory>
+    ensures { OnOk result (text.new ≡ text.old ++ costs_line 20 costs.cheapest costs.dearest costs.total) }
+{
     push_bytes(text, b"plans ")?;
     push_number(text, SHOWN)?;
     push_bytes(text, b": cheapest ")?;
@@ -105,6 +128,16 @@ fn push_costs(text: &mut Text, costs: Costs) -> Result<(), Memory> {
     push_bytes(text, b" dearest ")?;
     push_number(text, costs.dearest)?;
     push_bytes(text, b" total ")?;
-    push_number(text, costs.total)?;
+    push_cost(text, costs.total)?;
+    push_bytes(text, b"\n")
+}
+
+// `end reached M`
+#[tactic(auto, unfolding(crate::specs::Shown::reached_line))]
+fn push_reached(text: &mut Text) -> Result<(), Memory>
+    ensures { OnOk result (text.new ≡ text.old ++ reached_line 20) }
+{
+    push_bytes(text, b"end reached ")?;
+    push_number(text, SHOWN)?;
     push_bytes(text, b"\n")
 }

@@ -1,0 +1,79 @@
+-- What the words ask for, from what is read of them.
+use Rattle.std.proofs.Common.{◌≡◌, ◌∙◌, ap, sym, refl, subst, ℕ, zero, suc, ◌+◌, ◌^◌, ◌<◌, ◌≤◌, Bool, true, false, cond, ◌&&◌, ◌==◌, nat_le, nat_lt, List, [], ◌∷◌, length, Option, Some, None, IsSome, arith, drop, option_and_then, option_map}
+use Rattle.std.specs.List.{list_all, take_while}
+use Rattle.std.specs.Char.{is_ascii_digit}
+use Rattle.std.proofs.lemmas.List.Sums.{take_while-cons}
+use Rattle.std.proofs.lemmas.Bool.Decides.{nat_tests}
+use Rattle.symk_text.specs.Numbers.{value_of, number_at, run_at}
+use Rattle.symk_io.specs.View.{Bytes}
+use Rattle.symk_cli.specs.Wishes.{number_within}
+
+and_step : (b : Bool) (x : ℕ) (xs rest : List ℕ) (all : Bool) → (b && all) ≡ true → (all ≡ true → rest ≡ xs) → cond b (x ∷ rest) [] ≡ x ∷ xs
+and_step true x xs rest all h r = ap (λ z. x ∷ z) (r h)
+and_step false x xs rest all h r = absurd (cc)
+
+-- where each passes, the run is all
+run_all : (p : ℕ → Bool) (xs : List ℕ) → list_all p xs ≡ true → take_while p xs ≡ xs
+run_all p [] h = refl
+run_all p (x ∷ xs) h = take_while-cons p x xs ∙ and_step (p x) x xs (take_while p xs) (list_all p xs) h (run_all p xs)
+
+less_step : (b : Bool) (x : ℕ) (xs rest : List ℕ) (all : Bool) → (b && all) ≡ false → (all ≡ false → length rest < length xs) → length (cond b (x ∷ rest) []) < length (x ∷ xs)
+less_step true x xs rest all h r = let shorter : length rest < length xs = r h in omega (arith, shorter)
+less_step false x xs rest all h r = omega arith
+
+-- where one doesn't, it is shorter
+run_less : (p : ℕ → Bool) (xs : List ℕ) → list_all p xs ≡ false → length (take_while p xs) < length xs
+run_less p [] h = absurd (cc)
+run_less p (x ∷ xs) h =
+    subst (λ (r : List ℕ). length r < length (x ∷ xs)) (sym (take_while-cons p x xs)) (less_step (p x) x xs (take_while p xs) (list_all p xs) h (run_less p xs))
+
+-- the number that was read, if it is the whole word and within the bounds
+abbrev pub whole_number : ℕ → ℕ → ℕ → Option (ℕ × ℕ) → Option ℕ
+whole_number least most end None = None
+whole_number least most end (Some read) = cond (read.1 == end && nat_le least read.0 && nat_le read.0 most) (Some read.0) None
+
+digits_number : (some few small least most whole : Bool) (v : ℕ) → whole ≡ true → (most ≡ true → small ≡ true) → cond (true && some && few && least && most) (Some v) None ≡ cond (some && few && small) (cond (whole && least && most) (Some v) None) None
+digits_number false few small least most whole v w s = refl
+digits_number true false small least most whole v w s = refl
+digits_number true true small false most true v w s = elim small as (λ b. None ≡ cond b None None) [ true ↦ refl | false ↦ refl ]
+digits_number true true true true most true v w s = refl
+digits_number true true false true false true v w s = refl
+digits_number true true false true true true v w s = let bad : false ≡ true = s refl in absurd (cc)
+digits_number true true small least most false v w s = absurd (cc)
+
+other_number : (read whole least most : Bool) (v : ℕ) → whole ≡ false → None ≡ cond read (cond (whole && least && most) (Some v) None) None
+other_number false whole least most v w = refl
+other_number true true least most v w = absurd (cc)
+other_number true false least most v w = refl
+
+whole_if : (b : Bool) (least most end : ℕ) (read : ℕ × ℕ) → whole_number least most end (cond b (Some read) None) ≡ cond b (cond (read.1 == end && nat_le least read.0 && nat_le read.0 most) (Some read.0) None) None
+whole_if true least most end read = refl
+whole_if false least most end read = refl
+
+same_length : (n : ℕ) → (0 + n == n) ≡ true
+same_length n = grind (arith, nat_tests)
+
+other_length : (m n : ℕ) → m < n → (0 + m == n) ≡ false
+other_length m n h = grind (arith, nat_tests)
+
+within : (v most : ℕ) → most < 2 ^ 64 → nat_le v most ≡ true → nat_lt v (2 ^ 64) ≡ true
+within v most h e = grind (arith, nat_tests)
+
+by_digits : (least most : ℕ) (word : Bytes) (all : Bool) → list_all is_ascii_digit word ≡ all → most < 2 ^ 64 → cond (all && nat_le 1 (length word) && nat_le (length word) 20 && nat_le least (value_of word) && nat_le (value_of word) most) (Some (value_of word)) None ≡ whole_number least most (length word) (number_at word 0)
+by_digits least most word true all small =
+    let v = value_of word in
+    let n = length word in
+    rw (run_all is_ascii_digit word all)
+    (digits_number (nat_le 1 n) (nat_le n 20) (nat_lt v (2 ^ 64)) (nat_le least v) (nat_le v most) (0 + n == n) v (same_length n) (within v most small)
+    ∙ sym (whole_if (nat_le 1 n && nat_le n 20 && nat_lt v (2 ^ 64)) least most n (v, 0 + n)))
+by_digits least most word false all small =
+    let run = take_while is_ascii_digit word in
+    let v = value_of run in
+    let n = length run in
+    other_number (nat_le 1 n && nat_le n 20 && nat_lt v (2 ^ 64)) (0 + n == length word) (nat_le least v) (nat_le v most) v (other_length n (length word) (run_less is_ascii_digit word all))
+    ∙ sym (whole_if (nat_le 1 n && nat_le n 20 && nat_lt v (2 ^ 64)) least most (length word) (v, 0 + n))
+
+-- the number within the bounds is the one that was read
+pub number_read : (least most : ℕ) (word : Bytes) → most < 2 ^ 64 → number_within least most word ≡ whole_number least most (length word) (number_at word 0)
+unfolding number_within
+number_read least most word small = by_digits least most word (list_all is_ascii_digit word) refl small

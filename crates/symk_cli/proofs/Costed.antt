@@ -1,0 +1,128 @@
+-- What plans cost, one plan after the other.
+use Rattle.std.proofs.Common.{◌≡◌, ◌∙◌, ap, sym, refl, subst, inl, inr, ℕ, zero, suc, ◌+◌, ◌-◌, ◌*◌, ◌^◌, ◌<◌, ◌≤◌, ◌⊎◌, min, max, List, [], ◌∷◌, ◌++◌, length, map, sum, Contains, All, Some, None, arith}
+use Rattle.std.proofs.lemmas.List.{length_push, map-append, length-map}
+use Rattle.std.proofs.lemmas.List.Elements.{All-push, Contains-append_left, Contains-push}
+use Rattle.std.proofs.lemmas.List.Sums.{sum_by-append}
+use Rattle.symk_task.specs.declared.parts.Mode.TheVariants.{TopK}
+use Rattle.symk_task.specs.declared.parts.TaskParts.{TaskParts}
+use Rattle.symk_task.specs.Plans.{cost_of}
+use Rattle.symk_cli.specs.Listable.{IsListable}
+use Rattle.symk_cli.specs.Lists.{IsListOf}
+use Rattle.symk_cli.specs.Shown.{IsLeast, IsGreatest, HaveCosts, HasPlans}
+
+-- the least and the greatest number, and for none the last u64 and 0
+abbrev pub IsLeastOr : List ℕ → ℕ → Type 0
+IsLeastOr numbers least = ((numbers ≡ []) × (least ≡ 2 ^ 64 - 1)) ⊎ IsLeast numbers least
+
+abbrev pub IsGreatestOr : List ℕ → ℕ → Type 0
+IsGreatestOr numbers greatest = ((numbers ≡ []) × (greatest ≡ 0)) ⊎ IsGreatest numbers greatest
+
+-- So many plans of the task cost this.
+pub record Costed (task : TaskParts) (cheapest dearest total count : ℕ) : Type 0 where
+  pub plans : List (List ℕ)
+  pub promise : IsListOf task TopK plans None
+  pub number : length plans ≡ count
+  pub least : IsLeastOr (map (cost_of task) plans) cheapest
+  pub greatest : IsGreatestOr (map (cost_of task) plans) dearest
+  pub all : total ≡ sum (map (cost_of task) plans)
+  pub bound : total ≤ count * 2 ^ 64
+
+le_or_lt : (a b : ℕ) → (a ≤ b) ⊎ (b < a)
+le_or_lt zero b = inl (omega arith)
+le_or_lt (suc a) zero = inr (omega arith)
+le_or_lt (suc a) (suc b) = elim (le_or_lt a b) [ inl h ↦ inl (omega (arith, h)) | inr h ↦ inr (omega (arith, h)) ]
+
+of_none : (P : ℕ → Type 0) (xs : List ℕ) → xs ≡ [] → All P xs
+of_none P xs e = λ k d lt. let n : length xs ≡ 0 = ap length e in absurd (omega (arith, n, lt))
+
+-- the first number is the least
+first_least : (xs : List ℕ) (x least : ℕ) → xs ≡ [] → least ≡ 2 ^ 64 - 1 → x < 2 ^ 64 → IsLeast (xs ++ x ∷ []) (min least x)
+first_least xs x least none e lt =
+    let same : x ≡ min least x = omega (arith, lt, e) in
+    subst (λ (m : ℕ). IsLeast (xs ++ x ∷ []) m) same (Contains-push xs x, All-push (λ n. x ≤ n) xs x (of_none (λ n. x ≤ n) xs none) (omega arith))
+
+further_least : (xs : List ℕ) (x least : ℕ) → IsLeast xs least → (least ≤ x) ⊎ (x < least) → IsLeast (xs ++ x ∷ []) (min least x)
+further_least xs x least h (inl le) =
+    let same : least ≡ min least x = omega (arith, le) in
+    subst (λ (m : ℕ). IsLeast (xs ++ x ∷ []) m) same (Contains-append_left xs (x ∷ []) least h.0, All-push (λ n. least ≤ n) xs x h.1 le)
+further_least xs x least h (inr lt) =
+    let same : x ≡ min least x = omega (arith, lt) in
+    let others : All (λ n. x ≤ n) xs = λ k d within. omega (arith, h.1 k d within, lt) in
+    subst (λ (m : ℕ). IsLeast (xs ++ x ∷ []) m) same (Contains-push xs x, All-push (λ n. x ≤ n) xs x others (omega arith))
+
+least_push : (xs : List ℕ) (x least : ℕ) → x < 2 ^ 64 → IsLeastOr xs least → IsLeastOr (xs ++ x ∷ []) (min least x)
+least_push xs x least lt (inl h) = inr (first_least xs x least h.0 h.1 lt)
+least_push xs x least lt (inr h) = inr (further_least xs x least h (le_or_lt least x))
+
+-- the first number is the greatest
+first_greatest : (xs : List ℕ) (x greatest : ℕ) → xs ≡ [] → greatest ≡ 0 → IsGreatest (xs ++ x ∷ []) (max greatest x)
+first_greatest xs x greatest none e =
+    let same : x ≡ max greatest x = omega (arith, e) in
+    subst (λ (m : ℕ). IsGreatest (xs ++ x ∷ []) m) same (Contains-push xs x, All-push (λ n. n ≤ x) xs x (of_none (λ n. n ≤ x) xs none) (omega arith))
+
+further_greatest : (xs : List ℕ) (x greatest : ℕ) → IsGreatest xs greatest → (x ≤ greatest) ⊎ (greatest < x) → IsGreatest (xs ++ x ∷ []) (max greatest x)
+further_greatest xs x greatest h (inl le) =
+    let same : greatest ≡ max greatest x = omega (arith, le) in
+    subst (λ (m : ℕ). IsGreatest (xs ++ x ∷ []) m) same (Contains-append_left xs (x ∷ []) greatest h.0, All-push (λ n. n ≤ greatest) xs x h.1 le)
+further_greatest xs x greatest h (inr lt) =
+    let same : x ≡ max greatest x = omega (arith, lt) in
+    let others : All (λ n. n ≤ x) xs = λ k d within. omega (arith, h.1 k d within, lt) in
+    subst (λ (m : ℕ). IsGreatest (xs ++ x ∷ []) m) same (Contains-push xs x, All-push (λ n. n ≤ x) xs x others (omega arith))
+
+greatest_push : (xs : List ℕ) (x greatest : ℕ) → IsGreatestOr xs greatest → IsGreatestOr (xs ++ x ∷ []) (max greatest x)
+greatest_push xs x greatest (inl h) = inr (first_greatest xs x greatest h.0 h.1)
+greatest_push xs x greatest (inr h) = inr (further_greatest xs x greatest h (le_or_lt x greatest))
+
+costs_push : (task : TaskParts) (plans : List (List ℕ)) (plan : List ℕ) → map (cost_of task) (plans ++ plan ∷ []) ≡ map (cost_of task) plans ++ cost_of task plan ∷ []
+costs_push task plans plan = map-append (cost_of task) plans (plan ∷ [])
+
+-- no plan yet
+pub costed_none : (task : TaskParts) → Costed task (2 ^ 64 - 1) 0 0 0
+costed_none task = record {
+  plans = [];
+  promise = λ k d lt. absurd (omega (arith, lt));
+  number = refl;
+  least = inl (refl, refl);
+  greatest = inl (refl, refl);
+  all = refl;
+  bound = omega arith;
+}
+
+-- one plan more
+pub costed_more : (task : TaskParts) (cheapest dearest total count : ℕ) (plan : List ℕ) → Costed task cheapest dearest total count → IsListable task plan → Costed task (min cheapest (cost_of task plan)) (max dearest (cost_of task plan)) (total + cost_of task plan) (count + 1)
+costed_more task cheapest dearest total count plan c listable =
+    let cost = cost_of task plan in
+    let costs = map (cost_of task) c.plans in
+    let more = sym (costs_push task c.plans plan) in
+    let lt = listable.cost in
+    let bound = c.bound in
+    record {
+      plans = c.plans ++ plan ∷ [];
+      promise = All-push (IsListable task) c.plans plan c.promise listable;
+      number = length_push c.plans plan ∙ ap (λ n. n + 1) c.number;
+      least = subst (λ xs. IsLeastOr xs (min cheapest cost)) more (least_push costs cost cheapest lt c.least);
+      greatest = subst (λ xs. IsGreatestOr xs (max dearest cost)) more (greatest_push costs cost dearest c.greatest);
+      all = ap (λ n. n + cost) c.all ∙ sym (sum_by-append (λ x. x) costs (cost ∷ [])) ∙ ap sum more;
+      bound = omega (arith, bound, lt);
+    }
+
+least_of : (xs : List ℕ) (least : ℕ) → 0 < length xs → IsLeastOr xs least → IsLeast xs least
+least_of xs least some (inl h) = let n : length xs ≡ 0 = ap length h.0 in absurd (omega (arith, n, some))
+least_of xs least some (inr h) = h
+
+greatest_of : (xs : List ℕ) (greatest : ℕ) → 0 < length xs → IsGreatestOr xs greatest → IsGreatest xs greatest
+greatest_of xs greatest some (inl h) = let n : length xs ≡ 0 = ap length h.0 in absurd (omega (arith, n, some))
+greatest_of xs greatest some (inr h) = h
+
+-- after 20 plans
+pub costed_all : (task : TaskParts) (cheapest dearest total count : ℕ) → Costed task cheapest dearest total count → count ≡ 20 → HasPlans task cheapest dearest total
+costed_all task cheapest dearest total count c e =
+    let costs = map (cost_of task) c.plans in
+    let many : length costs ≡ 20 = length-map c.plans (cost_of task) ∙ c.number ∙ e in
+    let some : 0 < length costs = omega (arith, many) in
+    record {
+      plans = c.plans;
+      many = c.number ∙ e;
+      promise = c.promise;
+      costs = record { least = least_of costs cheapest some c.least; greatest = greatest_of costs dearest some c.greatest; all = c.all };
+    }

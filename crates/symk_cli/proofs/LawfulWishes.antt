@@ -1,0 +1,105 @@
+-- Lawful words ask for something.
+use Rattle.std.proofs.Common.{◌≡◌, ◌∙◌, ap, sym, refl, subst, ℕ, ◌<◌, ◌≤◌, Bool, true, false, cond, ◌&&◌, ◌==◌, nat_le, List, [], ◌∷◌, length, Option, Some, None, IsSome, codes, option_and_then, option_map, arith}
+use Rattle.std.specs.List.{list_all}
+use Rattle.std.specs.Char.{is_ascii_digit}
+use Rattle.std.specs.Str.{bytes_eq}
+use Rattle.std.proofs.lemmas.Bool.Decides.{nat_tests}
+use Rattle.symk_text.specs.Numbers.{value_of}
+use Rattle.symk_io.specs.View.{Bytes}
+use Rattle.symk_task.specs.declared.parts.Mode.{Mode}
+use Rattle.symk_words.specs.Texts.{Texts, texts_asked, plan, check, demo}
+use Rattle.symk_words.specs.Lawful.{Plain, PlainIfSome, plan_words, check_words, demo_words}
+use Rattle.symk_words.proofs.LawfulWords.{plan_law, check_law, demo_law}
+use Rattle.symk_cli.specs.declared.request.Direction.{Direction}
+use Rattle.symk_cli.specs.Wishes.{Wish, number_within, mode_of, direction_of, lists_if_served, spelled, wish_of}
+use Rattle.symk_cli.specs.LawfulWords.{AreWordsOf, AreLawful}
+
+no_some : {A : Type 0} → IsSome {T = A} None → ⊥
+no_some h = absurd (cc)
+
+-- a digit is no `-`
+digit_plain : (c : ℕ) (more : Bool) → (is_ascii_digit c && more) ≡ true → (c == 45) ≡ false
+digit_plain c more h = grind (arith, nat_tests)
+
+and_first : (a b : Bool) → (a && b) ≡ true → a ≡ true
+and_first true b h = refl
+and_first false b h = absurd (cc)
+
+some_test : (b : Bool) (v : ℕ) → IsSome (cond b (Some v) None) → b ≡ true
+some_test true v h = refl
+some_test false v h = absurd (no_some h)
+
+-- a number's word is plain
+pub plain_number : (least most : ℕ) (word : Bytes) → IsSome (number_within least most word) → Plain word
+unfolding number_within
+plain_number least most [] h = absurd (no_some h)
+plain_number least most (c ∷ cs) h =
+    let word = c ∷ cs in
+    let all = some_test (list_all is_ascii_digit word && nat_le 1 (length word) && nat_le (length word) 20 && nat_le least (value_of word) && nat_le (value_of word) most) (value_of word) h in
+    let digits = and_first (list_all is_ascii_digit word) (nat_le 1 (length word)) (and_first _ _ (and_first _ _ (and_first _ _ all))) in
+    digit_plain c (list_all is_ascii_digit cs) digits
+
+dash_mode : (c : ℕ) (cs : Bytes) → c ≡ 45 → IsSome (mode_of (Some (c ∷ cs))) → ⊥
+unfolding mode_of
+dash_mode c cs e h = no_some (subst (λ (x : ℕ). IsSome (mode_of (Some (x ∷ cs)))) e h)
+
+dash_direction : (c : ℕ) (cs : Bytes) → c ≡ 45 → IsSome (direction_of (Some (c ∷ cs))) → ⊥
+unfolding direction_of
+dash_direction c cs e h = no_some (subst (λ (x : ℕ). IsSome (direction_of (Some (x ∷ cs)))) e h)
+
+is_dash : (c : ℕ) → (c == 45) ≡ true → c ≡ 45
+is_dash c h = grind (arith, nat_tests)
+
+not_dash : (c : ℕ) (b : Bool) → (c == 45) ≡ b → (c ≡ 45 → ⊥) → b ≡ false
+not_dash c true e no = absurd (no (is_dash c e))
+not_dash c false e no = refl
+
+-- so are the words of modes and directions
+pub plain_mode : (word : Option Bytes) → IsSome (mode_of word) → PlainIfSome word
+unfolding mode_of
+plain_mode None h = tt
+plain_mode (Some []) h = absurd (no_some h)
+plain_mode (Some (c ∷ cs)) h = not_dash c (c == 45) refl (λ e. dash_mode c cs e h)
+
+pub plain_direction : (word : Option Bytes) → IsSome (direction_of word) → PlainIfSome word
+unfolding direction_of
+plain_direction None h = tt
+plain_direction (Some []) h = absurd (no_some h)
+plain_direction (Some (c ∷ cs)) h = not_dash c (c == 45) refl (λ e. dash_direction c cs e h)
+
+-- what is there of the parts of something that is there
+then_first : {A B : Type 0} (o : Option A) (f : A → Option B) → IsSome (option_and_then f o) → IsSome o
+then_first None f h = absurd (no_some h)
+then_first (Some a) f h = refl
+
+then_second : {A B C : Type 0} (o : Option A) (q : Option B) (f : A → B → Option C) → IsSome (option_and_then (λ a. option_and_then (f a) q) o) → IsSome q
+then_second None q f h = absurd (no_some h)
+then_second (Some a) q f h = then_first q (f a) h
+
+then_third : {A B C D : Type 0} (o : Option A) (q : Option B) (r : Option C) (f : A → B → C → Option D) → IsSome (option_and_then (λ a. option_and_then (λ b. option_and_then (f a b) r) q) o) → IsSome r
+then_third None q r f h = absurd (no_some h)
+then_third (Some a) q r f h = then_second q r (f a) h
+
+map_first : {A B : Type 0} (f : A → B) (o : Option A) → IsSome (option_map f o) → IsSome o
+map_first f None h = absurd (no_some h)
+map_first f (Some a) h = refl
+
+asked : (words : List Bytes) (texts : Texts) → texts_asked words ≡ Some texts → IsSome (spelled texts) → IsSome (wish_of words)
+unfolding wish_of
+asked words texts e h = subst (λ (o : Option Texts). IsSome (option_and_then spelled o)) (sym e) h
+
+by_texts : (texts : Texts) (words : List Bytes) → AreWordsOf texts words → IsSome (spelled texts) → texts_asked words ≡ Some texts
+unfolding spelled
+by_texts (plan file k mode search) words form h =
+    let number = then_first (number_within 1 1000000000 k) (λ most. option_and_then (λ m. option_and_then (λ d. lists_if_served file most m d) (direction_of search)) (mode_of mode)) h in
+    let m = then_second (number_within 1 1000000000 k) (mode_of mode) (λ most m. option_and_then (λ d. lists_if_served file most m d) (direction_of search)) h in
+    let d = then_third (number_within 1 1000000000 k) (mode_of mode) (direction_of search) (λ most m d. lists_if_served file most m d) h in
+    ap texts_asked form.1 ∙ plan_law form.0 file k mode search form.2 (plain_number 1 1000000000 k number) (plain_mode mode m) (plain_direction search d)
+by_texts (check file plans mode) words form h =
+    ap texts_asked form.1 ∙ check_law form.0 file plans mode form.2 form.3 (plain_mode mode (map_first _ (mode_of mode) h))
+by_texts (demo n) words form h =
+    ap texts_asked form.1 ∙ demo_law form.0 n (plain_number 1 64 n (map_first _ (number_within 1 64 n) h))
+
+-- lawful words ask for something
+pub lawful_asks : (words : List Bytes) → AreLawful words → IsSome (wish_of words)
+lawful_asks words lawful = asked words lawful.texts (by_texts lawful.texts words lawful.form lawful.request) lawful.request

@@ -1,0 +1,37 @@
+-- What comes where nothing stands against it.
+use Rattle.std.specs.Prelude.{◌≡◌, ℕ, ◌⊎◌, ◌<◌, ◌-◌, ◌^◌, ⊤, List, Option, Some, None}
+use Rattle.symk_io.specs.View.{Bytes, Told, FilesView, SinkView}
+use Rattle.symk_task.specs.declared.parts.TaskParts.{TaskParts}
+use Rattle.plan_out.specs.declared.blocks.ReadBlock.{ReadBlock}
+use Rattle.symk_cli.specs.Wishes.{Wish, lists, checks, shows}
+use Rattle.symk_cli.specs.Refusals.{IsTaskText}
+use Rattle.symk_cli.specs.Plans.{IsPlansText}
+use Rattle.symk_cli.specs.declared.status.Status.{Status}
+use Rattle.symk_cli.specs.declared.status.Status.TheVariants.{Reached, Exhausted, CostRange, Good, BadList, Shown, Memory}
+
+-- the text of the name is told, and is this one
+abbrev pub TellsText : Option Told → Bytes → Bytes → Type 0
+TellsText None name text = ⊥
+TellsText (Some told) name text = told.text name ≡ Some text
+
+-- the texts of the files that are asked for are told: that of FILE is a task file, that of PLANS a plan text, and neither is too long
+abbrev pub TellsTexts : Option Told → Wish → Type 0
+TellsTexts told (lists file most mode direction) = (F : Bytes) × (task : TaskParts) × TellsText told file F × IsTaskText F task
+TellsTexts told (checks file plans mode) = ((F : Bytes) × (task : TaskParts) × TellsText told file F × IsTaskText F task) × ((P : Bytes) × (blocks : List ReadBlock) × TellsText told plans P × IsPlansText P blocks)
+TellsTexts told (shows number) = ⊤
+
+-- the statuses of an answer that was not stopped
+abbrev pub Finishes : Wish → Status → Type 0
+Finishes (lists file most mode direction) result = (result ≡ Reached) ⊎ (result ≡ Exhausted) ⊎ (result ≡ CostRange)
+Finishes (checks file plans mode) result = (result ≡ Good) ⊎ (result ≡ BadList)
+Finishes (shows number) result = result ≡ Shown
+
+-- a count of faults stayed, and didn't stand at the last u64
+abbrev pub IsQuiet : ℕ → ℕ → Type 0
+IsQuiet old new = (new ≡ old) × (old < 2 ^ 64 - 1)
+
+-- What is asked for over texts that are told and lawful, where no count of faults rose, comes, unless memory is wanting.
+abbrev pub Complete : Option Wish → FilesView → FilesView → SinkView → SinkView → Status → Type 0
+Complete asked files files' sink sink' result =
+    (wish : Wish) → asked ≡ Some wish → TellsTexts files.told wish → IsQuiet files.faults files'.faults → IsQuiet sink.faults sink'.faults
+    → Finishes wish result ⊎ (result ≡ Memory)

@@ -1,0 +1,18 @@
+-- Texts of names.
+use Rattle.std.specs.Prelude.{◌≡◌, Option}
+use Rattle.symk_io.specs.View.{Bytes, Tells, Grew, Told}
+use Rattle.symk_io.specs.Told.{IsTextOf, Opened, MayOpen}
+use Rattle.symk_cli.specs.Refusals.{unreadable_text}
+use Rattle.symk_cli.specs.declared.reading.Named.{Named}
+use Rattle.symk_cli.specs.declared.status.Status.{Status}
+use Rattle.symk_cli.specs.declared.status.Status.TheVariants.{Unreadable}
+
+-- a text of the name, the told one where it is told, is so
+abbrev pub HasText : Option Told → Bytes → (Bytes → Type 0) → Type 0
+HasText told name IsSo = (text : Bytes) × IsTextOf told name text × IsSo text
+
+-- At most the name was opened; where its text can't be read it was, and the sink took the text that says so.
+pub record StopsAt (named : Named) (name : Bytes) (old new : Option Told) (before after : Option Bytes) (result : Status) : Type 0 where
+  pub names : Tells (MayOpen name) old new
+  pub opened : result ≡ Unreadable → Tells (Opened name) old new
+  pub unreadable : result ≡ Unreadable → Tells (Grew (unreadable_text named)) before after

@@ -1,0 +1,37 @@
+-- Plan texts: why PLANS is refused, and the verdict on it.
+use Rattle.std.specs.Prelude.{◌≡◌, ℕ, ◌≤◌, List, length}
+use Rattle.symk_io.specs.View.{Bytes}
+use Rattle.symk_text.specs.Lines.{lines}
+use Rattle.symk_task.specs.declared.parts.Mode.{Mode}
+use Rattle.symk_task.specs.declared.parts.TaskParts.{TaskParts}
+use Rattle.plan_out.specs.declared.blocks.ReadBlock.{ReadBlock}
+use Rattle.plan_out.specs.declared.read.PlansFault.TheVariants.{Offence}
+use Rattle.plan_out.specs.Plans.{IsPlansOf}
+use Rattle.plan_out.specs.Refused.{PlansRefusedAt}
+use Rattle.symk_cli.specs.Refusals.{TextRefused, plans_offence_text}
+use Rattle.symk_cli.specs.Verdicts.{Verdict}
+use Rattle.symk_cli.specs.declared.TheConstants.{LIMIT}
+use Rattle.symk_cli.specs.declared.reading.Named.TheVariants as named
+use Rattle.symk_cli.specs.declared.status.Status.{Status}
+use Rattle.symk_cli.specs.declared.status.Status.TheVariants as status
+
+-- The text is a plan text that states these blocks, of lawful length.
+pub record IsPlansText (P : Bytes) (blocks : List ReadBlock) : Type 0 where
+  pub short : length P ≤ LIMIT
+  pub plans : IsPlansOf (lines P) blocks
+
+-- The text names the first line of PLANS at which no plan text can go on so.
+pub record PlansOffence (P out : Bytes) : Type 0 where
+  pub short : length P ≤ LIMIT
+  pub line : ℕ
+  pub offends : PlansRefusedAt (lines P) (Offence line)
+  pub text : out ≡ plans_offence_text line
+
+-- PLANS is refused under the status, with the text
+abbrev pub PlansRefused : Bytes → Status → Bytes → Type 0
+PlansRefused P status.Offending out = PlansOffence P out
+PlansRefused P result out = TextRefused named.Plans P result out
+
+-- the blocks that PLANS states are judged
+abbrev pub Judged : TaskParts → Mode → Bytes → Status → Bytes → Type 0
+Judged task mode P result out = (blocks : List ReadBlock) × IsPlansText P blocks × Verdict task mode blocks result out

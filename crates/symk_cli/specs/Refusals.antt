@@ -1,0 +1,54 @@
+-- Why a file is refused, and the text that says so.
+use Rattle.std.specs.Prelude.{◌≡◌, ℕ, ◌<◌, ◌≤◌, ◌++◌, List, length, codes, decimal}
+use Rattle.symk_io.specs.View.{Bytes}
+use Rattle.symk_text.specs.Lines.{lines}
+use Rattle.symk_task.specs.declared.parts.TaskParts.{TaskParts}
+use Rattle.sas_reader.specs.declared.fault.Shape.{Shape}
+use Rattle.sas_reader.specs.declared.fault.ReadFault.TheVariants.{Offence}
+use Rattle.sas_reader.specs.Format.{IsFileOf}
+use Rattle.sas_reader.specs.Refused.{RefusedAt}
+use Rattle.sas_reader.specs.Printed.{printed}
+use Rattle.symk_cli.specs.declared.TheConstants.{LIMIT}
+use Rattle.symk_cli.specs.declared.reading.Named.{Named}
+use Rattle.symk_cli.specs.declared.reading.Named.TheVariants.{File, Plans}
+use Rattle.symk_cli.specs.declared.status.Status.{Status}
+use Rattle.symk_cli.specs.declared.status.Status.TheVariants as status
+
+-- The text is a file of the task, of lawful length.
+pub record IsTaskText (F : Bytes) (task : TaskParts) : Type 0 where
+  pub short : length F ≤ LIMIT
+  pub file : IsFileOf (lines F) task
+
+unfoldable pub unreadable_text : Named → Bytes
+unreadable_text File = codes "file unreadable\n"
+unreadable_text Plans = codes "plans unreadable\n"
+
+unfoldable pub too_long_text : Named → Bytes
+too_long_text File = codes "file too long\n"
+too_long_text Plans = codes "plans too long\n"
+
+-- the line that offends, and what is wanted there
+unfoldable pub offence_text : ℕ → Shape → Bytes
+offence_text line wanted = codes "line " ++ decimal line ++ codes ": wanted " ++ printed wanted ++ codes "\n"
+
+unfoldable pub plans_offence_text : ℕ → Bytes
+plans_offence_text line = codes "plans line " ++ decimal line ++ codes "\n"
+
+-- a text can't be read, or has more than 268,435,456 bytes
+abbrev pub TextRefused : Named → Bytes → Status → Bytes → Type 0
+TextRefused named text status.Unreadable out = out ≡ unreadable_text named
+TextRefused named text status.TooLong out = (LIMIT < length text) × (out ≡ too_long_text named)
+TextRefused named text result out = ⊥
+
+-- The text names the first line of FILE at which no task file can go on so, and what has to stand there.
+pub record FileOffence (F out : Bytes) : Type 0 where
+  pub short : length F ≤ LIMIT
+  pub line : ℕ
+  pub wanted : Shape
+  pub offends : RefusedAt (lines F) (Offence line wanted)
+  pub text : out ≡ offence_text line wanted
+
+-- FILE is refused under the status, with the text
+abbrev pub FileRefused : Bytes → Status → Bytes → Type 0
+FileRefused F status.Offending out = FileOffence F out
+FileRefused F result out = TextRefused File F result out

@@ -2,7 +2,7 @@
 use Rattle.std.proofs.Common.{◌≡◌, ◌∙◌, ap, sym, refl, subst, inl, inr, ℕ, zero, suc, ◌+◌, ◌-◌, ◌*◌, ◌^◌, ◌<◌, ◌≤◌, ◌⊎◌, min, max, List, [], ◌∷◌, ◌++◌, length, map, sum, Contains, All, Some, None, arith}
 use Rattle.std.proofs.lemmas.List.{length_push, map-append, length-map}
 use Rattle.std.proofs.lemmas.List.Elements.{All-push, Contains-append_left, Contains-push}
-use Rattle.std.proofs.lemmas.List.Sums.{sum_by-append}
+use Rattle.std.proofs.lemmas.List.Sums.{fold-append}
 use Rattle.symk_task.specs.declared.parts.Mode.TheVariants.{TopK}
 use Rattle.symk_task.specs.declared.parts.TaskParts.{TaskParts}
 use Rattle.symk_task.specs.Plans.{cost_of}
@@ -76,6 +76,9 @@ greatest_push xs x greatest (inr h) = inr (further_greatest xs x greatest h (le_
 costs_push : (task : TaskParts) (plans : List (List ℕ)) (plan : List ℕ) → map (cost_of task) (plans ++ plan ∷ []) ≡ map (cost_of task) plans ++ cost_of task plan ∷ []
 costs_push task plans plan = map-append (cost_of task) plans (plan ∷ [])
 
+sum_push : (xs : List ℕ) (x : ℕ) → sum (xs ++ x ∷ []) ≡ sum xs + x
+sum_push xs x = fold-append (λ a y. a + y) 0 xs (x ∷ [])
+
 -- no plan yet
 pub costed_none : (task : TaskParts) → Costed task (2 ^ 64 - 1) 0 0 0
 costed_none task = record {
@@ -102,7 +105,7 @@ costed_more task cheapest dearest total count plan c listable =
       number = length_push c.plans plan ∙ ap (λ n. n + 1) c.number;
       least = subst (λ xs. IsLeastOr xs (min cheapest cost)) more (least_push costs cost cheapest lt c.least);
       greatest = subst (λ xs. IsGreatestOr xs (max dearest cost)) more (greatest_push costs cost dearest c.greatest);
-      all = ap (λ n. n + cost) c.all ∙ sym (sum_by-append (λ x. x) costs (cost ∷ [])) ∙ ap sum more;
+      all = ap (λ n. n + cost) c.all ∙ sym (sum_push costs cost) ∙ ap sum more;
       bound = omega (arith, bound, lt);
     }
 
@@ -126,3 +129,15 @@ costed_all task cheapest dearest total count c e =
       promise = c.promise;
       costs = record { least = least_of costs cheapest some c.least; greatest = greatest_of costs dearest some c.greatest; all = c.all };
     }
+
+-- the same costs
+pub costed_as : (task : TaskParts) (cheapest dearest total cheapest' dearest' total' count : ℕ) → cheapest ≡ cheapest' → dearest ≡ dearest' → total ≡ total' → Costed task cheapest dearest total count → Costed task cheapest' dearest' total' count
+costed_as task cheapest dearest total cheapest' dearest' total' count a b d c = record {
+  plans = c.plans;
+  promise = c.promise;
+  number = c.number;
+  least = subst (λ n. IsLeastOr (map (cost_of task) c.plans) n) a c.least;
+  greatest = subst (λ n. IsGreatestOr (map (cost_of task) c.plans) n) b c.greatest;
+  all = sym d ∙ c.all;
+  bound = let le = c.bound in omega (arith, le, d);
+}

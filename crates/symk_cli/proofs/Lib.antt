@@ -7,3 +7,4 @@ pub mod Asked
 pub mod LawfulWishes
 pub mod Costed
 pub mod Answering
+pub mod ReadBack

@@ -18,19 +18,22 @@ IsLeast numbers least = Contains numbers least × All (λ n. least ≤ n) number
 abbrev pub IsGreatest : List ℕ → ℕ → Type 0
 IsGreatest numbers greatest = Contains numbers greatest × All (λ n. n ≤ greatest) numbers
 
--- how many variables, operators and rules the task has
-unfoldable pub counts_line : ℕ → TaskParts → Bytes
-counts_line number task =
-    codes "switches " ++ decimal number ++ codes ": variables " ++ decimal (length task.variables) ++ codes " operators " ++ decimal (length task.operators)
-    ++ codes " rules " ++ decimal (length task.rules) ++ codes "\n"
+-- how many variables, operators and rules there are
+unfoldable pub counts_line : ℕ → ℕ → ℕ → ℕ → Bytes
+counts_line number variables operators rules =
+    (codes "switches " ++ decimal number) ++ (codes ": variables " ++ decimal variables) ++ (codes " operators " ++ decimal operators) ++ (codes " rules " ++ decimal rules) ++ codes "\n"
+
+-- that line for a task
+abbrev pub counts_of : ℕ → TaskParts → Bytes
+counts_of number task = counts_line number (length task.variables) (length task.operators) (length task.rules)
 
 -- how many plans there are, and what they cost
 unfoldable pub costs_line : ℕ → ℕ → ℕ → ℕ → Bytes
 costs_line many cheapest dearest total =
-    codes "plans " ++ decimal many ++ codes ": cheapest " ++ decimal cheapest ++ codes " dearest " ++ decimal dearest ++ codes " total " ++ decimal total ++ codes "\n"
+    (codes "plans " ++ decimal many) ++ (codes ": cheapest " ++ decimal cheapest) ++ (codes " dearest " ++ decimal dearest) ++ (codes " total " ++ decimal total) ++ codes "\n"
 
 unfoldable pub reached_line : ℕ → Bytes
-reached_line many = codes "end reached " ++ decimal many ++ codes "\n"
+reached_line many = (codes "end reached " ++ decimal many) ++ codes "\n"
 
 -- the least and the greatest cost of the plans, and the sum
 pub record HaveCosts (task : TaskParts) (plans : List (List ℕ)) (cheapest dearest total : ℕ) : Type 0 where
@@ -51,7 +54,7 @@ pub record Summary (number : ℕ) (out : Bytes) : Type 0 where
   pub dearest : ℕ
   pub total : ℕ
   pub plans : HasPlans (switches number) cheapest dearest total
-  pub text : out ≡ counts_line number (switches number) ++ costs_line 20 cheapest dearest total ++ reached_line 20
+  pub text : out ≡ counts_of number (switches number) ++ costs_line 20 cheapest dearest total ++ reached_line 20
 
 -- a demonstration ends with its summary
 abbrev pub IsSummary : ℕ → Status → Bytes → Type 0

@@ -1,11 +1,12 @@
 //! The verdict on a list of plans.
 
-ghost use Rattle.std.specs.Prelude.{◌≡◌, ◌++◌, ◌-◌, All, length, IfOk, OnOk, decimal};
+ghost use Rattle.std.specs.Prelude.{◌≡◌, ◌++◌, ◌-◌, All, length, IfOk, OnOk};
 ghost use Rattle.symk_cli.specs.Ends.{HasCauses, OrFront, Puts};
 ghost use Rattle.symk_cli.specs.Verdicts.{Verdict, verdict_text, why_text};
 
 use crate::ending::end_with;
 use crate::status::Status;
+use crate::pieces::{push_cost_after, push_number_after};
 use plan_out::{Blocks, Checked, Why, check_list};
 use std::alloc::Global;
 use symk_io::Sink;
@@ -64,31 +65,13 @@ fn push_why(text: &mut Text, plan: u64, why: Why) -> Result<(), Memory>
     ensures { OnOk result (text.new ≡ text.old ++ why_text plan why) }
 {
     match why {
-        Why::NoSuchOperator { step } => push_step(text, b"no such operator at step ", step),
-        Why::WrongName { step } => push_step(text, b"other name at step ", step),
-        Why::StopsAt { step } => push_step(text, b"does not apply at step ", step),
+        Why::NoSuchOperator { step } => push_number_after(text, b"no such operator at step ", step),
+        Why::WrongName { step } => push_number_after(text, b"other name at step ", step),
+        Why::StopsAt { step } => push_number_after(text, b"does not apply at step ", step),
         Why::MissesGoal => push_bytes(text, b"misses the goal"),
-        Why::WrongCost { cost } => {
-            push_bytes(text, b"costs ")?;
-            push_cost(text, cost)
-        }
-        Why::Repeats { earlier } => push_step(text, b"repeats plan ", earlier),
-        Why::Cheaper => push_step(text, b"cheaper than plan ", plan.saturating_sub(1)),
-        Why::Loops { step } => push_step(text, b"loops at step ", step),
+        Why::WrongCost { cost } => push_cost_after(text, b"costs ", cost),
+        Why::Repeats { earlier } => push_number_after(text, b"repeats plan ", earlier),
+        Why::Cheaper => push_number_after(text, b"cheaper than plan ", plan.saturating_sub(1)),
+        Why::Loops { step } => push_number_after(text, b"loops at step ", step),
     }
-}
-
-fn push_step(text: &mut Text, words: &[u8], number: u64) -> Result<(), Memory>
-    ensures { OnOk result (text.new ≡ text.old ++ (words.now ++ decimal number)) }
-{
-    push_bytes(text, words)?;
-    push_number(text, number)
-}
-
-// A cost may be past 64 bits.
-pub fn push_cost(text: &mut Text, cost: u128) -> Result<(), Memory>
-    ensures { OnOk result (text.new ≡ text.old ++ decimal cost) }
-{
-    let mut buffer = itoa::Buffer::new();
-    push_bytes(text, buffer.format(cost).as_bytes())
 }

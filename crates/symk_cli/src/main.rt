@@ -7,6 +7,7 @@
 
 mod checking;
 mod ending;
+mod pieces;
 mod planning;
 mod reading;
 mod request;

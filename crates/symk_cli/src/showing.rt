@@ -5,16 +5,16 @@ ghost use Rattle.task_gen.specs.Switches.{switches as switches_task};
 ghost use Rattle.symk_cli.specs.Ends.{HasCauses, OrFront, Puts};
 ghost use Rattle.symk_cli.specs.Shown.{HasPlans, IsSummary, Summary, counts_line, costs_line, reached_line};
 
-use crate::checking::push_cost;
 use crate::ending::end_with;
 use crate::search::Search;
 use crate::status::Status;
+use crate::pieces::{push_cost_after, push_number_after};
 use sas_reader::read_task;
 use sas_writer::write_task;
 use std::alloc::{AllocError, Global};
 use symk_io::Sink;
 use symk_task::{Memory, Mode, Task};
-use symk_text::{Text, push_bytes, push_number};
+use symk_text::{Text, push_bytes};
 use task_gen::switches;
 
 // How many plans are listed.
@@ -92,8 +92,15 @@ fn summary(alloc: Global, number: u32) -> Result<Text, Memory>
 {
     let task = task_read_back(alloc, number)?;
     let costs = costs_of(alloc, &task)?;
+    let parts = task.parts();
     let mut text = Text::new(alloc);
-    push_counts(&mut text, number, &task)?;
+    push_counts(
+        &mut text,
+        u64::from(number),
+        parts.variables.len() as u64,
+        parts.operators.len() as u64,
+        parts.rules.len() as u64,
+    )?;
     push_costs(&mut text, costs)?;
     push_reached(&mut text)?;
     Ok(text)
@@ -101,18 +108,19 @@ fn summary(alloc: Global, number: u32) -> Result<Text, Memory>
 
 // `switches N: variables V operators O rules R`
 #[tactic(auto, unfolding(crate::specs::Shown::counts_line))]
-fn push_counts(text: &mut Text, number: u32, task: &Task) -> Result<(), Memory>
-    ensures { OnOk result (text.new ≡ text.old ++ counts_line number task.now) }
+fn push_counts(
+    text: &mut Text,
+    number: u64,
+    variables: u64,
+    operators: u64,
+    rules: u64,
+) -> Result<(), Memory>
+    ensures { OnOk result (text.new ≡ text.old ++ counts_line number variables operators rules) }
 {
-    let parts = task.parts();
-    push_bytes(text, b"switches ")?;
-    push_number(text, u64::from(number))?;
-    push_bytes(text, b": variables ")?;
-    push_number(text, parts.variables.as_slice().len() as u64)?;
-    push_bytes(text, b" operators ")?;
-    push_number(text, parts.operators.as_slice().len() as u64)?;
-    push_bytes(text, b" rules ")?;
-    push_number(text, parts.rules.as_slice().len() as u64)?;
+    push_number_after(text, b"switches ", number)?;
+    push_number_after(text, b": variables ", variables)?;
+    push_number_after(text, b" operators ", operators)?;
+    push_number_after(text, b" rules ", rules)?;
     push_bytes(text, b"\n")
 }
 
@@ -121,14 +129,10 @@ fn push_counts(text: &mut Text, number: u32, task: &Task) -> Result<(), Memory>
 fn push_costs(text: &mut Text, costs: Costs) -> Result<(), Memory>
     ensures { OnOk result (text.new ≡ text.old ++ costs_line 20 costs.cheapest costs.dearest costs.total) }
 {
-    push_bytes(text, b"plans ")?;
-    push_number(text, SHOWN)?;
-    push_bytes(text, b": cheapest ")?;
-    push_number(text, costs.cheapest)?;
-    push_bytes(text, b" dearest ")?;
-    push_number(text, costs.dearest)?;
-    push_bytes(text, b" total ")?;
-    push_cost(text, costs.total)?;
+    push_number_after(text, b"plans ", SHOWN)?;
+    push_number_after(text, b": cheapest ", costs.cheapest)?;
+    push_number_after(text, b" dearest ", costs.dearest)?;
+    push_cost_after(text, b" total ", costs.total)?;
     push_bytes(text, b"\n")
 }
 
@@ -137,7 +141,6 @@ fn push_costs(text: &mut Text, costs: Costs) -> Result<(), Memory>
 fn push_reached(text: &mut Text) -> Result<(), Memory>
     ensures { OnOk result (text.new ≡ text.old ++ reached_line 20) }
 {
-    push_bytes(text, b"end reached ")?;
-    push_number(text, SHOWN)?;
+    push_number_after(text, b"end reached ", SHOWN)?;
     push_bytes(text, b"\n")
 }

@@ -6,7 +6,10 @@ use Rattle.std.proofs.lemmas.List.Sums.{take_while-cons}
 use Rattle.std.proofs.lemmas.Bool.Decides.{nat_tests}
 use Rattle.symk_text.specs.Numbers.{value_of, number_at, run_at}
 use Rattle.symk_io.specs.View.{Bytes}
-use Rattle.symk_cli.specs.Wishes.{number_within}
+use Rattle.symk_task.specs.declared.parts.Mode.{Mode}
+use Rattle.symk_words.specs.Texts.{Texts, plan, check, demo}
+use Rattle.symk_cli.specs.declared.request.Direction.{Direction}
+use Rattle.symk_cli.specs.Wishes.{Wish, lists, checks, shows, number_within, mode_of, direction_of, serves, lists_if_served, spelled}
 
 and_step : (b : Bool) (x : ℕ) (xs rest : List ℕ) (all : Bool) → (b && all) ≡ true → (all ≡ true → rest ≡ xs) → cond b (x ∷ rest) [] ≡ x ∷ xs
 and_step true x xs rest all h r = ap (λ z. x ∷ z) (r h)
@@ -32,10 +35,14 @@ abbrev pub whole_number : ℕ → ℕ → ℕ → Option (ℕ × ℕ) → Option
 whole_number least most end None = None
 whole_number least most end (Some read) = cond (read.1 == end && nat_le least read.0 && nat_le read.0 most) (Some read.0) None
 
+same_if : (b : Bool) (o : Option ℕ) → o ≡ cond b o o
+same_if true o = refl
+same_if false o = refl
+
 digits_number : (some few small least most whole : Bool) (v : ℕ) → whole ≡ true → (most ≡ true → small ≡ true) → cond (true && some && few && least && most) (Some v) None ≡ cond (some && few && small) (cond (whole && least && most) (Some v) None) None
 digits_number false few small least most whole v w s = refl
 digits_number true false small least most whole v w s = refl
-digits_number true true small false most true v w s = elim small as (λ b. None ≡ cond b None None) [ true ↦ refl | false ↦ refl ]
+digits_number true true small false most true v w s = same_if small None
 digits_number true true true true most true v w s = refl
 digits_number true true false true false true v w s = refl
 digits_number true true false true true true v w s = let bad : false ≡ true = s refl in absurd (cc)
@@ -77,3 +84,78 @@ by_digits least most word false all small =
 pub number_read : (least most : ℕ) (word : Bytes) → most < 2 ^ 64 → number_within least most word ≡ whole_number least most (length word) (number_at word 0)
 unfolding number_within
 number_read least most word small = by_digits least most word (list_all is_ascii_digit word) refl small
+
+-- what the texts of a `plan` spell
+pub plan_no_number : (file k : Bytes) (mode search : Option Bytes) → number_within 1 1000000000 k ≡ None → spelled (plan file k mode search) ≡ None
+unfolding spelled
+plan_no_number file k mode search e =
+    ap (λ o. option_and_then (λ most. option_and_then (λ m. option_and_then (λ d. lists_if_served file most m d) (direction_of search)) (mode_of mode)) o) e
+
+plan_number : (file k : Bytes) (most : ℕ) (mode search : Option Bytes) → number_within 1 1000000000 k ≡ Some most → spelled (plan file k mode search) ≡ option_and_then (λ m. option_and_then (λ d. lists_if_served file most m d) (direction_of search)) (mode_of mode)
+unfolding spelled
+plan_number file k most mode search e =
+    ap (λ o. option_and_then (λ n. option_and_then (λ m. option_and_then (λ d. lists_if_served file n m d) (direction_of search)) (mode_of mode)) o) e
+
+pub plan_no_mode : (file k : Bytes) (most : ℕ) (mode search : Option Bytes) → number_within 1 1000000000 k ≡ Some most → mode_of mode ≡ None → spelled (plan file k mode search) ≡ None
+plan_no_mode file k most mode search e m =
+    plan_number file k most mode search e ∙ ap (λ o. option_and_then (λ m. option_and_then (λ d. lists_if_served file most m d) (direction_of search)) o) m
+
+pub plan_direction : (file k : Bytes) (most : ℕ) (m : Mode) (mode search : Option Bytes) → number_within 1 1000000000 k ≡ Some most → mode_of mode ≡ Some m → spelled (plan file k mode search) ≡ option_and_then (λ d. lists_if_served file most m d) (direction_of search)
+plan_direction file k most m mode search e is =
+    plan_number file k most mode search e ∙ ap (λ o. option_and_then (λ m. option_and_then (λ d. lists_if_served file most m d) (direction_of search)) o) is
+
+pub plan_no_direction : (file k : Bytes) (most : ℕ) (m : Mode) (mode search : Option Bytes) → number_within 1 1000000000 k ≡ Some most → mode_of mode ≡ Some m → direction_of search ≡ None → spelled (plan file k mode search) ≡ None
+plan_no_direction file k most m mode search e is d = plan_direction file k most m mode search e is ∙ ap (λ o. option_and_then (λ d. lists_if_served file most m d) o) d
+
+pub plan_spelled : (file k : Bytes) (most : ℕ) (m : Mode) (d : Direction) (mode search : Option Bytes) (served : Bool) → number_within 1 1000000000 k ≡ Some most → mode_of mode ≡ Some m → direction_of search ≡ Some d → serves m d ≡ served → spelled (plan file k mode search) ≡ cond served (Some (lists file most m d)) None
+plan_spelled file k most m d mode search served e is dir s =
+    plan_direction file k most m mode search e is ∙ ap (λ o. option_and_then (λ d. lists_if_served file most m d) o) dir ∙ ap (λ b. cond b (Some (lists file most m d)) None) s
+
+-- those of a `check`, and of a `demo`
+pub check_spelled : (file plans : Bytes) (mode : Option Bytes) (o : Option Mode) → mode_of mode ≡ o → spelled (check file plans mode) ≡ option_map (λ m. checks file plans m) o
+unfolding spelled
+check_spelled file plans mode o e = ap (λ x. option_map (λ m. checks file plans m) x) e
+
+pub demo_spelled : (n : Bytes) (o : Option ℕ) → number_within 1 64 n ≡ o → spelled (demo n) ≡ option_map (λ number. shows number) o
+unfolding spelled
+demo_spelled n o e = ap (λ x. option_map (λ number. shows number) x) e
+
+is_equal : (m n : ℕ) → m ≡ n → (m == n) ≡ true
+is_equal m n e = grind (arith, nat_tests)
+
+equal_is : (m n : ℕ) → (m == n) ≡ true → m ≡ n
+equal_is m n e = grind (arith, nat_tests)
+
+is_le : (m n : ℕ) → m ≤ n → nat_le m n ≡ true
+is_le m n h = grind (arith, nat_tests)
+
+le_is : (m n : ℕ) → nat_le m n ≡ true → m ≤ n
+le_is m n e = grind (arith, nat_tests)
+
+all_true : (a b c : Bool) (v : ℕ) → a ≡ true → b ≡ true → c ≡ true → cond (a && b && c) (Some v) None ≡ Some v
+all_true true true true v p q r = refl
+all_true true true false v p q r = absurd (cc)
+all_true true false c v p q r = absurd (cc)
+all_true false b c v p q r = absurd (cc)
+
+not_all : (a b c : Bool) (v : ℕ) → (a ≡ true → b ≡ true → c ≡ true → ⊥) → cond (a && b && c) (Some v) None ≡ None
+not_all true true true v never = absurd (never refl refl refl)
+not_all true true false v never = refl
+not_all true false c v never = refl
+not_all false b c v never = refl
+
+-- no number was read
+pub read_none : (least most : ℕ) (word : Bytes) → most < 2 ^ 64 → number_at word 0 ≡ None → number_within least most word ≡ None
+read_none least most word small e = number_read least most word small ∙ ap (whole_number least most (length word)) e
+
+-- one was read, and is so
+pub read_some : (least most : ℕ) (word : Bytes) (value end : ℕ) → most < 2 ^ 64 → number_at word 0 ≡ Some (value, end) → end ≡ length word → least ≤ value → value ≤ most → number_within least most word ≡ Some value
+read_some least most word value end small e whole low high =
+    number_read least most word small ∙ ap (whole_number least most (length word)) e
+    ∙ all_true (end == length word) (nat_le least value) (nat_le value most) value (is_equal end (length word) whole) (is_le least value low) (is_le value most high)
+
+-- one was read, and is not so
+pub read_other : (least most : ℕ) (word : Bytes) (value end : ℕ) → most < 2 ^ 64 → number_at word 0 ≡ Some (value, end) → (end ≡ length word → least ≤ value → value ≤ most → ⊥) → number_within least most word ≡ None
+read_other least most word value end small e never =
+    number_read least most word small ∙ ap (whole_number least most (length word)) e
+    ∙ not_all (end == length word) (nat_le least value) (nat_le value most) value (λ a b c. never (equal_is end (length word) a) (le_is least value b) (le_is value most c))

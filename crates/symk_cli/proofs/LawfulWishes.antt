@@ -11,7 +11,7 @@ use Rattle.symk_words.specs.Texts.{Texts, texts_asked, plan, check, demo}
 use Rattle.symk_words.specs.Lawful.{Plain, PlainIfSome, plan_words, check_words, demo_words}
 use Rattle.symk_words.proofs.LawfulWords.{plan_law, check_law, demo_law}
 use Rattle.symk_cli.specs.declared.request.Direction.{Direction}
-use Rattle.symk_cli.specs.Wishes.{Wish, number_within, mode_of, direction_of, lists_if_served, spelled, wish_of}
+use Rattle.symk_cli.specs.Wishes.{Wish, number_within, mode_named, mode_of, direction_named, direction_of, lists_if_served, spelled, wish_of}
 use Rattle.symk_cli.specs.LawfulWords.{AreWordsOf, AreLawful}
 
 no_some : {A : Type 0} → IsSome {T = A} None → ⊥
@@ -39,13 +39,13 @@ plain_number least most (c ∷ cs) h =
     let digits = and_first (list_all is_ascii_digit word) (nat_le 1 (length word)) (and_first _ _ (and_first _ _ (and_first _ _ all))) in
     digit_plain c (list_all is_ascii_digit cs) digits
 
-dash_mode : (c : ℕ) (cs : Bytes) → c ≡ 45 → IsSome (mode_of (Some (c ∷ cs))) → ⊥
-unfolding mode_of
-dash_mode c cs e h = no_some (subst (λ (x : ℕ). IsSome (mode_of (Some (x ∷ cs)))) e h)
+dash_mode : (c : ℕ) (cs : Bytes) → c ≡ 45 → IsSome (mode_named (c ∷ cs)) → ⊥
+unfolding mode_named
+dash_mode c cs e h = no_some (subst (λ (x : ℕ). IsSome (mode_named (x ∷ cs))) e h)
 
-dash_direction : (c : ℕ) (cs : Bytes) → c ≡ 45 → IsSome (direction_of (Some (c ∷ cs))) → ⊥
-unfolding direction_of
-dash_direction c cs e h = no_some (subst (λ (x : ℕ). IsSome (direction_of (Some (x ∷ cs)))) e h)
+dash_direction : (c : ℕ) (cs : Bytes) → c ≡ 45 → IsSome (direction_named (c ∷ cs)) → ⊥
+unfolding direction_named
+dash_direction c cs e h = no_some (subst (λ (x : ℕ). IsSome (direction_named (x ∷ cs))) e h)
 
 is_dash : (c : ℕ) → (c == 45) ≡ true → c ≡ 45
 is_dash c h = grind (arith, nat_tests)
@@ -56,13 +56,13 @@ not_dash c false e no = refl
 
 -- so are the words of modes and directions
 pub plain_mode : (word : Option Bytes) → IsSome (mode_of word) → PlainIfSome word
-unfolding mode_of
+unfolding mode_named
 plain_mode None h = tt
 plain_mode (Some []) h = absurd (no_some h)
 plain_mode (Some (c ∷ cs)) h = not_dash c (c == 45) refl (λ e. dash_mode c cs e h)
 
 pub plain_direction : (word : Option Bytes) → IsSome (direction_of word) → PlainIfSome word
-unfolding direction_of
+unfolding direction_named
 plain_direction None h = tt
 plain_direction (Some []) h = absurd (no_some h)
 plain_direction (Some (c ∷ cs)) h = not_dash c (c == 45) refl (λ e. dash_direction c cs e h)

@@ -1,6 +1,5 @@
 pub mod Members
 pub mod Causes
-pub mod Texts
 pub mod Puts
 pub mod Listed
 pub mod Asked
@@ -8,3 +7,5 @@ pub mod LawfulWishes
 pub mod Costed
 pub mod Answering
 pub mod ReadBack
+pub mod Refusing
+pub mod Opening

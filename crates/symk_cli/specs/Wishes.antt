@@ -23,20 +23,28 @@ number_within least most word =
     if list_all is_ascii_digit word && nat_le 1 (length word) && nat_le (length word) 20 && nat_le least (value_of word) && nat_le (value_of word) most
     then Some (value_of word) else None
 
--- the mode that a word names, or the first where there is none
-unfoldable pub mode_of : Option Bytes → Option Mode
-mode_of None = Some TopK
-mode_of (Some word) = if bytes_eq word (codes "topk") then Some TopK
+-- the mode that a word names
+unfoldable pub mode_named : Bytes → Option Mode
+mode_named word = if bytes_eq word (codes "topk") then Some TopK
     else (if bytes_eq word (codes "loopless") then Some Loopless
     else (if bytes_eq word (codes "unordered") then Some Unordered else None))
 
--- the direction that a word names, or the first where there is none
-unfoldable pub direction_of : Option Bytes → Option Direction
-direction_of None = Some Auto
-direction_of (Some word) = if bytes_eq word (codes "auto") then Some Auto
+-- all plans, where no word is given
+abbrev pub mode_of : Option Bytes → Option Mode
+mode_of None = Some TopK
+mode_of (Some word) = mode_named word
+
+-- the direction that a word names
+unfoldable pub direction_named : Bytes → Option Direction
+direction_named word = if bytes_eq word (codes "auto") then Some Auto
     else (if bytes_eq word (codes "forward") then Some Forward
     else (if bytes_eq word (codes "backward") then Some Backward
     else (if bytes_eq word (codes "bidirectional") then Some Bidirectional else None)))
+
+-- the program's own choice, where no word is given
+abbrev pub direction_of : Option Bytes → Option Direction
+direction_of None = Some Auto
+direction_of (Some word) = direction_named word
 
 -- loopless plans are not found forward, nor from both sides
 abbrev pub serves : Mode → Direction → Bool

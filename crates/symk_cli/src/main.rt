@@ -20,7 +20,7 @@ pub use status::Status;
 use std::env;
 use std::process::ExitCode;
 use symk_io::{HostFiles, HostSink};
-pub use top::run;
+pub use top::{run, run_in_memory};
 
 /// The greatest number of bytes of a file or a plan text.
 pub const LIMIT: u64 = 268_435_456;

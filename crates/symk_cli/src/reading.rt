@@ -3,8 +3,10 @@
 ghost use Rattle.std.specs.Prelude.{◌≡◌, ◌≤◌, All, length, IfOk, IfErr, OnOk};
 ghost use Rattle.symk_io.specs.View.{Tells};
 ghost use Rattle.symk_io.specs.Told.{IsTextOf, Opened};
-ghost use Rattle.symk_cli.specs.Ends.{HasCauses};
-ghost use Rattle.symk_cli.specs.Lengths.{IsShort, StopsText, StopsTask, StopsPlans};
+ghost use Rattle.symk_cli.specs.Ends.{HasCauses, OrFront, Puts};
+ghost use Rattle.symk_cli.specs.Refusals.{IsTaskText, TextRefused, FileRefused, unreadable_text, too_long_text, offence_text, plans_offence_text};
+ghost use Rattle.symk_cli.specs.Plans.{IsPlansText, PlansRefused};
+ghost use Rattle.symk_cli.specs.Named.{HasText, StopsAt};
 
 use crate::LIMIT;
 use crate::ending::{end, end_with};
@@ -24,14 +26,20 @@ pub enum Named {
 }
 
 impl Named {
-    fn unreadable(self) -> &'static [u8] {
+    #[tactic(auto, unfolding(crate::specs::Refusals::unreadable_text))]
+    fn unreadable(self) -> &'static [u8]
+        ensures { result.now ≡ unreadable_text self }
+    {
         match self {
             Named::File => b"file unreadable\n",
             Named::Plans => b"plans unreadable\n",
         }
     }
 
-    fn too_long(self) -> &'static [u8] {
+    #[tactic(auto, unfolding(crate::specs::Refusals::too_long_text))]
+    fn too_long(self) -> &'static [u8]
+        ensures { result.now ≡ too_long_text self }
+    {
         match self {
             Named::File => b"file too long\n",
             Named::Plans => b"plans too long\n",
@@ -51,7 +59,10 @@ pub fn text_of<F: Files, K: Sink>(
     ensures within { IfOk result (λ text. length text.items ≤ LIMIT) }
     ensures opened { OnOk result (Tells (Opened name.now) (F.view files.old).told (F.view files.new).told) }
     ensures quiet { OnOk result (((F.view files.new).faults ≡ (F.view files.old).faults) × ((K.view sink.new).faults ≡ (K.view sink.old).faults)) }
-    ensures stops { IfErr result (StopsText (F.view files.old).told name.now) }
+    ensures untouched { OnOk result (K.view sink.new ≡ K.view sink.old) }
+    ensures refused { IfErr result (λ status. HasText (F.view files.old).told name.now
+        (λ text. Puts (OrFront (TextRefused named text)) (K.view sink.old).taken (K.view sink.new).taken status)) }
+    ensures stops { IfErr result (StopsAt named name.now (F.view files.old).told (F.view files.new).told (K.view sink.old).taken (K.view sink.new).taken) }
     ensures causes { IfErr result (λ status. HasCauses status (F.view files.old).faults (F.view files.new).faults (K.view sink.old).faults (K.view sink.new).faults) }
 {
     match read_all(alloc, files, name, LIMIT) {
@@ -69,10 +80,13 @@ pub fn task_of<F: Files, K: Sink>(
     sink: &mut K,
     name: &str,
 ) -> Result<Task, Status>
-    ensures short { OnOk result (IsShort (F.view files.old).told name.now) }
+    ensures task { IfOk result (λ task. HasText (F.view files.old).told name.now (λ text. IsTaskText text task)) }
     ensures opened { OnOk result (Tells (Opened name.now) (F.view files.old).told (F.view files.new).told) }
     ensures quiet { OnOk result (((F.view files.new).faults ≡ (F.view files.old).faults) × ((K.view sink.new).faults ≡ (K.view sink.old).faults)) }
-    ensures stops { IfErr result (StopsTask (F.view files.old).told name.now) }
+    ensures untouched { OnOk result (K.view sink.new ≡ K.view sink.old) }
+    ensures refused { IfErr result (λ status. HasText (F.view files.old).told name.now
+        (λ text. Puts (OrFront (FileRefused text)) (K.view sink.old).taken (K.view sink.new).taken status)) }
+    ensures stops { IfErr result (StopsAt Named.File name.now (F.view files.old).told (F.view files.new).told (K.view sink.old).taken (K.view sink.new).taken) }
     ensures causes { IfErr result (λ status. HasCauses status (F.view files.old).faults (F.view files.new).faults (K.view sink.old).faults (K.view sink.new).faults) }
 {
     let text = text_of(alloc, files, sink, Named::File, name)?;
@@ -95,9 +109,13 @@ pub fn plans_of<F: Files, K: Sink>(
     name: &str,
 ) -> Result<Blocks, Status>
     ensures names { IfOk result (λ blocks. All (λ block. length block.names ≡ length block.ops) blocks.list) }
-    ensures short { OnOk result (IsShort (F.view files.old).told name.now) }
+    ensures blocks { IfOk result (λ blocks. HasText (F.view files.old).told name.now (λ text. IsPlansText text blocks.list)) }
+    ensures opened { OnOk result (Tells (Opened name.now) (F.view files.old).told (F.view files.new).told) }
     ensures quiet { OnOk result (((F.view files.new).faults ≡ (F.view files.old).faults) × ((K.view sink.new).faults ≡ (K.view sink.old).faults)) }
-    ensures stops { IfErr result (StopsPlans (F.view files.old).told name.now) }
+    ensures untouched { OnOk result (K.view sink.new ≡ K.view sink.old) }
+    ensures refused { IfErr result (λ status. HasText (F.view files.old).told name.now
+        (λ text. Puts (OrFront (PlansRefused text)) (K.view sink.old).taken (K.view sink.new).taken status)) }
+    ensures stops { IfErr result (StopsAt Named.Plans name.now (F.view files.old).told (F.view files.new).told (K.view sink.old).taken (K.view sink.new).taken) }
     ensures causes { IfErr result (λ status. HasCauses status (F.view files.old).faults (F.view files.new).faults (K.view sink.old).faults (K.view sink.new).faults) }
 {
     let text = text_of(alloc, files, sink, Named::Plans, name)?;
@@ -113,7 +131,10 @@ pub fn plans_of<F: Files, K: Sink>(
 }
 
 // `line N: wanted SHAPE`
-fn offence_text(alloc: Global, line: u64, wanted: Shape) -> Result<Text, Memory> {
+#[tactic(auto, unfolding(crate::specs::Refusals::offence_text))]
+fn offence_text(alloc: Global, line: u64, wanted: Shape) -> Result<Text, Memory>
+    ensures { IfOk result (λ text. text ≡ offence_text line wanted) }
+{
     let mut text = Text::new(alloc);
     push_bytes(&mut text, b"line ")?;
     push_number(&mut text, line)?;
@@ -124,7 +145,10 @@ fn offence_text(alloc: Global, line: u64, wanted: Shape) -> Result<Text, Memory>
 }
 
 // `plans line N`
-fn plans_offence_text(alloc: Global, line: u64) -> Result<Text, Memory> {
+#[tactic(auto, unfolding(crate::specs::Refusals::plans_offence_text))]
+fn plans_offence_text(alloc: Global, line: u64) -> Result<Text, Memory>
+    ensures { IfOk result (λ text. text ≡ plans_offence_text line) }
+{
     let mut text = Text::new(alloc);
     push_bytes(&mut text, b"plans line ")?;
     push_number(&mut text, line)?;

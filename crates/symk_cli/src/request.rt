@@ -2,7 +2,7 @@
 
 ghost use Rattle.std.specs.Prelude.{◌≡◌, ◌≤◌, IfSome, option_map};
 ghost use Rattle.symk_words.specs.Texts.{view_of};
-ghost use Rattle.symk_cli.specs.Wishes.{number_within, mode_of, direction_of, serves, spelled};
+ghost use Rattle.symk_cli.specs.Wishes.{number_within, mode_named, mode_of, direction_named, direction_of, serves, spelled};
 ghost use Rattle.symk_cli.specs.Requests.{wished, HasSwitches};
 
 use symk_task::Mode;
@@ -87,26 +87,48 @@ fn number_within(word: &str, least: u64, most: u64) -> Option<u64>
     }
 }
 
+// The mode that a word names, top-k plans where there is none.
 fn mode_of(word: Option<&str>) -> Option<Mode>
     ensures { result ≡ mode_of (option_map (λ s. s.now) word.entry) }
 {
     match word {
-        None | Some("topk") => Some(Mode::TopK),
-        Some("loopless") => Some(Mode::Loopless),
-        Some("unordered") => Some(Mode::Unordered),
-        Some(_) => None,
+        Some(word) => mode_named(word),
+        None => Some(Mode::TopK),
     }
 }
 
+#[tactic(auto, unfolding(crate::specs::Wishes::mode_named))]
+fn mode_named(word: &str) -> Option<Mode>
+    ensures { result ≡ mode_named word.now }
+{
+    match word {
+        "topk" => Some(Mode::TopK),
+        "loopless" => Some(Mode::Loopless),
+        "unordered" => Some(Mode::Unordered),
+        _ => None,
+    }
+}
+
+// The direction that a word names, the program's own choice where there is none.
 fn direction_of(word: Option<&str>) -> Option<Direction>
     ensures { result ≡ direction_of (option_map (λ s. s.now) word.entry) }
 {
     match word {
-        None | Some("auto") => Some(Direction::Auto),
-        Some("forward") => Some(Direction::Forward),
-        Some("backward") => Some(Direction::Backward),
-        Some("bidirectional") => Some(Direction::Bidirectional),
-        Some(_) => None,
+        Some(word) => direction_named(word),
+        None => Some(Direction::Auto),
+    }
+}
+
+#[tactic(auto, unfolding(crate::specs::Wishes::direction_named))]
+fn direction_named(word: &str) -> Option<Direction>
+    ensures { result ≡ direction_named word.now }
+{
+    match word {
+        "auto" => Some(Direction::Auto),
+        "forward" => Some(Direction::Forward),
+        "backward" => Some(Direction::Backward),
+        "bidirectional" => Some(Direction::Bidirectional),
+        _ => None,
     }
 }
 

@@ -1,9 +1,14 @@
 //! The top call.
 
-ghost use Rattle.std.specs.Prelude.{◌≡◌, map, string_bytes};
-ghost use Rattle.symk_words.specs.Texts.{texts_asked};
+ghost use Rattle.std.specs.Prelude.{◌≡◌, ◌≢◌, [], ◌∷◌, Some, None, IfOk, IsErrOf, map, string_bytes};
+ghost use Rattle.symk_cli.specs.declared.request.Direction.{Direction as DirectionOf};
 ghost use Rattle.symk_cli.specs.Ends.{HasCauses};
-ghost use Rattle.symk_cli.specs.Lengths.{Lengths, PlanLengths, CheckLengths};
+ghost use Rattle.symk_cli.specs.Wishes.{wish_of, names_of, lists, checks};
+ghost use Rattle.symk_cli.specs.Requests.{wished, HasSwitches};
+ghost use Rattle.symk_cli.specs.LawfulWords.{AreLawful};
+ghost use Rattle.symk_cli.specs.Answer.{Answered, usage_text};
+ghost use Rattle.symk_cli.specs.Opens.{Opens};
+ghost use Rattle.symk_cli.specs.Complete.{Complete};
 
 use crate::checking::judge;
 use crate::ending::end;
@@ -13,7 +18,7 @@ use crate::request::{Request, request_of};
 use crate::showing::show;
 use crate::status::Status;
 use std::alloc::Global;
-use symk_io::{Files, Sink};
+use symk_io::{Files, NoFaultFiles, NoFaultSink, Sink};
 use symk_task::Mode;
 use symk_words::{WordsFault, read_words};
 
@@ -32,32 +37,86 @@ pub fn run<F: Files, K: Sink>(
     files: &mut F,
     sink: &mut K,
 ) -> Status
+    // The bytes and the status answer the words, for the texts of the files.
+    ensures answer { Answered (wish_of (map (λ w. string_bytes w) words.now)) (F.view files.old).told (K.view sink.old).taken (K.view sink.new).taken result }
+    // A fault is answered only where one was counted, and where one was, no other status comes but want of memory.
     ensures causes { HasCauses result (F.view files.old).faults (F.view files.new).faults (K.view sink.old).faults (K.view sink.new).faults }
-    ensures lengths { Lengths (texts_asked (map (λ w. string_bytes w) words.now)) (F.view files.old).told result }
+    // The files are opened in their order, and none but those asked for.
+    ensures opened { Opens (names_of (wish_of (map (λ w. string_bytes w) words.now))) (F.view files.old).told (F.view files.new).told (K.view sink.old).taken (K.view sink.new).taken result }
+    ensures lawful { AreLawful (map (λ w. string_bytes w) words.now) → result ≢ Status.Usage }
+    ensures complete { Complete (wish_of (map (λ w. string_bytes w) words.now)) (F.view files.old) (F.view files.new) (K.view sink.old) (K.view sink.new) result }
 {
-    let asked = match read_words(alloc, words) {
-        Ok(asked) => asked,
-        Err(WordsFault::Usage) => return end(sink, USAGE, Status::Usage),
-        Err(WordsFault::Memory) => return Status::Memory,
-    };
-    match request_of(&asked) {
-        Some(
-            Request::Plan {
-                file,
-                most,
-                mode,
-                ..
-            },
-        ) => plan(alloc, files, sink, file, mode, most),
-        Some(Request::Check { file, plans, mode }) => {
-            check(alloc, files, sink, file, plans, mode)
-        }
-        Some(Request::Demo { switches }) => show(alloc, switches, sink),
-        None => end(sink, USAGE, Status::Usage),
+    answer(alloc, words, files, sink)
+}
+
+/// Where nothing can fail, no fault is answered.
+pub fn run_in_memory(
+    alloc: Global,
+    words: &[String],
+    files: &mut NoFaultFiles,
+    sink: &mut NoFaultSink,
+) -> Status
+    ensures unreadable { result ≢ Status.Unreadable }
+    ensures write { result ≢ Status.WriteFault }
+{
+    run(alloc, words, files, sink)
+}
+
+// Answers the words.
+fn answer<F: Files, K: Sink>(
+    alloc: Global,
+    words: &[String],
+    files: &mut F,
+    sink: &mut K,
+) -> Status
+    ensures answer { Answered (wish_of (map (λ w. string_bytes w) words.now)) (F.view files.old).told (K.view sink.old).taken (K.view sink.new).taken result }
+    ensures causes { HasCauses result (F.view files.old).faults (F.view files.new).faults (K.view sink.old).faults (K.view sink.new).faults }
+    ensures opened { Opens (names_of (wish_of (map (λ w. string_bytes w) words.now))) (F.view files.old).told (F.view files.new).told (K.view sink.old).taken (K.view sink.new).taken result }
+{
+    match request_in(alloc, words) {
+        Ok(request) => serve(alloc, request, files, sink),
+        Err(WordsFault::Usage) => end(sink, USAGE, Status::Usage),
+        Err(WordsFault::Memory) => Status::Memory,
     }
 }
 
-// `plan`
+// What the words ask for.
+fn request_in<'a>(alloc: Global, words: &'a [String]) -> Result<Request<'a>, WordsFault>
+    ensures ok { IfOk result (λ request. wish_of (map (λ w. string_bytes w) words.now) ≡ Some (wished request)) }
+    ensures switches { IfOk result HasSwitches }
+    ensures usage { IsErrOf result WordsFault.Usage → wish_of (map (λ w. string_bytes w) words.now) ≡ None }
+{
+    match read_words(alloc, words) {
+        Ok(asked) => match request_of(&asked) {
+            Some(request) => Ok(request),
+            None => Err(WordsFault::Usage),
+        },
+        Err(fault) => Err(fault),
+    }
+}
+
+// Does what is asked for.
+fn serve<F: Files, K: Sink>(
+    alloc: Global,
+    request: Request<'_>,
+    files: &mut F,
+    sink: &mut K,
+) -> Status
+    requires { HasSwitches request }
+    ensures answer { Answered (Some (wished request.entry)) (F.view files.old).told (K.view sink.old).taken (K.view sink.new).taken result }
+    ensures causes { HasCauses result (F.view files.old).faults (F.view files.new).faults (K.view sink.old).faults (K.view sink.new).faults }
+    ensures opened { Opens (names_of (Some (wished request.entry))) (F.view files.old).told (F.view files.new).told (K.view sink.old).taken (K.view sink.new).taken result }
+{
+    match request {
+        Request::Plan {
+            file, most, mode, ..
+        } => plan(alloc, files, sink, file, mode, most),
+        Request::Check { file, plans, mode } => check(alloc, files, sink, file, plans, mode),
+        Request::Demo { switches } => show(alloc, switches, sink),
+    }
+}
+
+// `plan`, in whichever direction
 fn plan<F: Files, K: Sink>(
     alloc: Global,
     files: &mut F,
@@ -66,8 +125,9 @@ fn plan<F: Files, K: Sink>(
     mode: Mode,
     most: u64,
 ) -> Status
+    ensures answer { (direction : DirectionOf) → Answered (Some (lists file.now most mode direction)) (F.view files.old).told (K.view sink.old).taken (K.view sink.new).taken result }
     ensures causes { HasCauses result (F.view files.old).faults (F.view files.new).faults (K.view sink.old).faults (K.view sink.new).faults }
-    ensures lengths { PlanLengths (F.view files.old).told file.now result }
+    ensures opened { Opens (file.now ∷ []) (F.view files.old).told (F.view files.new).told (K.view sink.old).taken (K.view sink.new).taken result }
 {
     match task_of(alloc, files, sink, file) {
         Ok(task) => list_plans(alloc, &task, mode, most, sink),
@@ -84,8 +144,9 @@ fn check<F: Files, K: Sink>(
     plans: &str,
     mode: Mode,
 ) -> Status
+    ensures answer { Answered (Some (checks file.now plans.now mode)) (F.view files.old).told (K.view sink.old).taken (K.view sink.new).taken result }
     ensures causes { HasCauses result (F.view files.old).faults (F.view files.new).faults (K.view sink.old).faults (K.view sink.new).faults }
-    ensures lengths { CheckLengths (F.view files.old).told file.now plans.now result }
+    ensures opened { Opens (file.now ∷ plans.now ∷ []) (F.view files.old).told (F.view files.new).told (K.view sink.old).taken (K.view sink.new).taken result }
 {
     let task = match task_of(alloc, files, sink, file) {
         Ok(task) => task,

@@ -1,0 +1,127 @@
+-- Which files are opened, from what each part of a run opens.
+use Rattle.std.proofs.Common.{◌≡◌, ◌∙◌, ap, sym, refl, subst, inl, inr, ℕ, ◌+◌, ◌⊎◌, List, [], ◌∷◌, ◌++◌, length, take, Option, Some, None, IfSome, Result, Ok, Err, MatchResult, arith, append_assoc}
+use Rattle.std.proofs.lemmas.List.{append-nil, length_push}
+use Rattle.symk_io.specs.View.{Bytes, Tells, Grew, GrewByPart, SinkView, Told}
+use Rattle.symk_io.specs.Told.{IsTextOf, Opened, MayOpen}
+use Rattle.symk_io.specs.Causes.{Rose}
+use Rattle.symk_cli.specs.declared.reading.Named.{Named}
+use Rattle.symk_cli.specs.declared.reading.Named.TheVariants.{File, Plans}
+use Rattle.symk_cli.specs.declared.status.Status.{Status}
+use Rattle.symk_cli.specs.declared.status.Status.TheVariants as status
+use Rattle.symk_cli.specs.Ends.{Ends, HasCauses}
+use Rattle.symk_cli.specs.Refusals.{unreadable_text}
+use Rattle.symk_cli.specs.Named.{HasText, StopsAt}
+use Rattle.symk_cli.specs.Opens.{OpensFirst, Opens}
+
+-- reading a file leaves the texts
+pub text_before : (name other : Bytes) (old new : Option Told) (text : Bytes) → Tells (Opened name) old new → IsTextOf new other text → IsTextOf old other text
+text_before name other None None text t h = tt
+text_before name other None (Some b) text t h = absurd t
+text_before name other (Some a) None text t h = absurd t
+text_before name other (Some a) (Some b) text t h = subst (λ (f : Bytes → Option Bytes). IfSome (f other) (λ x. x ≡ text)) t.texts h
+
+-- an end of another status is not unreadable
+pub end_readable : (wanted : Status) (text : Bytes) (old new : SinkView) (result : Status) → (wanted ≡ status.Unreadable → ⊥) → Ends wanted text old new result → result ≡ status.Unreadable → ⊥
+end_readable wanted text old new result other (inl h) e = other (sym h.0 ∙ e)
+end_readable wanted text old new result other (inr (inl h)) e = let bad : status.WriteFault ≡ status.Unreadable = sym h.0 ∙ e in cc
+end_readable wanted text old new result other (inr (inr h)) e = let bad : status.Memory ≡ status.Unreadable = sym h.0 ∙ e in cc
+
+pub made_readable : {E : Type 0} (wanted : Status) (made : Result Bytes E) (old new : SinkView) (result : Status) → (wanted ≡ status.Unreadable → ⊥) → MatchResult made (λ text. Ends wanted text old new result) (λ _. (result ≡ status.Memory) × (new ≡ old)) → result ≡ status.Unreadable → ⊥
+made_readable wanted (Ok text) old new result other h e = end_readable wanted text old new result other h e
+made_readable wanted (Err x) old new result other h e = let bad : status.Memory ≡ status.Unreadable = sym h.0 ∙ e in cc
+
+-- nor is what only the sink caused
+pub sink_readable : (result : Status) (sink sink' : ℕ) → HasCauses result 0 0 sink sink' → result ≡ status.Unreadable → ⊥
+sink_readable result sink sink' c e = let never : Rose 0 0 = c.unreadable e in absurd (omega (arith, never))
+
+-- the text can't be read
+took_all : (text : Bytes) (old new : SinkView) (result : Status) → Ends status.Unreadable text old new result → result ≡ status.Unreadable → Tells (Grew text) old.taken new.taken
+took_all text old new result (inl h) e = h.1
+took_all text old new result (inr (inl h)) e = let bad : status.WriteFault ≡ status.Unreadable = sym h.0 ∙ e in absurd (cc)
+took_all text old new result (inr (inr h)) e = let bad : status.Memory ≡ status.Unreadable = sym h.0 ∙ e in absurd (cc)
+
+pub stops_unreadable : (named : Named) (name : Bytes) (told told' : Option Told) (text : Bytes) (old new : SinkView) (result : Status) → Tells (MayOpen name) told told' → Tells (Opened name) told told' → text ≡ unreadable_text named → Ends status.Unreadable text old new result → StopsAt named name told told' old.taken new.taken result
+stops_unreadable named name told told' text old new result may opened e ends =
+    record { names = may; opened = λ _. opened; unreadable = λ is. subst (λ (t : Bytes). Tells (Grew t) old.taken new.taken) e (took_all text old new result ends is) }
+
+-- it stops for another cause
+pub stops_readable : (named : Named) (name : Bytes) (told told' : Option Told) (old new : Option Bytes) (result : Status) → Tells (MayOpen name) told told' → (result ≡ status.Unreadable → ⊥) → StopsAt named name told told' old new result
+stops_readable named name told told' old new result may other = record { names = may; opened = λ e. absurd (other e); unreadable = λ e. absurd (other e) }
+
+-- what was opened may have been
+pub may_open : (name : Bytes) (old new : Option Told) → Tells (Opened name) old new → Tells (MayOpen name) old new
+may_open name None None t = tt
+may_open name None (Some b) t = t
+may_open name (Some a) None t = t
+may_open name (Some a) (Some b) t = record { texts = t.texts; names = inr t.names }
+
+same_names : (a b : List Bytes) (name : Bytes) → b ≡ a → b ≡ a ++ (name ∷ []) → ⊥
+same_names a b name e f =
+    let m : length b ≡ length a = ap length e in
+    let n : length b ≡ length a + 1 = ap length f ∙ length_push a name in
+    omega (arith, m, n)
+
+-- nothing was opened
+pub none_opened : (names : List Bytes) (told : Option Told) (old new : Option Bytes) (result : Status) → (result ≡ status.Unreadable → ⊥) → Opens names told told old new result
+none_opened names None old new result other = record { count = 0; first = tt; last = λ e. absurd (other e) }
+none_opened names (Some a) old new result other = record { count = 0; first = record { texts = refl; opened = sym (append-nil a.opened) }; last = λ e. absurd (other e) }
+
+-- FILE was
+pub file_opened : (file : Bytes) (others : List Bytes) (told told' : Option Told) (old new : Option Bytes) (result : Status) → Tells (Opened file) told told' → (result ≡ status.Unreadable → ⊥) → Opens (file ∷ others) told told' old new result
+file_opened file others None None old new result t other = record { count = 1; first = tt; last = λ e. absurd (other e) }
+file_opened file others None (Some b) old new result t other = absurd t
+file_opened file others (Some a) None old new result t other = absurd t
+file_opened file others (Some a) (Some b) old new result t other = record { count = 1; first = record { texts = t.texts; opened = t.names }; last = λ e. absurd (other e) }
+
+may_by : (file : Bytes) (others : List Bytes) (a b : Told) (old new : Option Bytes) (result : Status) → StopsAt File file (Some a) (Some b) old new result → (b.opened ≡ a.opened) ⊎ (b.opened ≡ a.opened ++ (file ∷ [])) → Opens (file ∷ others) (Some a) (Some b) old new result
+may_by file others a b old new result s (inl e) = record {
+  count = 0;
+  first = record { texts = s.names.texts; opened = e ∙ sym (append-nil a.opened) };
+  last = λ is. absurd (same_names a.opened b.opened file e (s.opened is).names);
+}
+may_by file others a b old new result s (inr e) = record {
+  count = 1;
+  first = record { texts = s.names.texts; opened = e };
+  last = λ is. inl (refl, s.unreadable is);
+}
+
+-- FILE was, if anything, and its text is refused
+pub file_stops : (file : Bytes) (others : List Bytes) (told told' : Option Told) (old new : Option Bytes) (result : Status) → StopsAt File file told told' old new result → Opens (file ∷ others) told told' old new result
+file_stops file others None None old new result s = record { count = 1; first = tt; last = λ is. inl (refl, s.unreadable is) }
+file_stops file others None (Some b) old new result s = absurd s.names
+file_stops file others (Some a) None old new result s = absurd s.names
+file_stops file others (Some a) (Some b) old new result s = may_by file others a b old new result s s.names.names
+
+-- FILE was, and PLANS after it
+two_names : (a b c : List Bytes) (file plans : Bytes) → b ≡ a ++ (file ∷ []) → c ≡ b ++ (plans ∷ []) → c ≡ a ++ (file ∷ plans ∷ [])
+two_names a b c file plans e f = f ∙ ap (λ x. x ++ (plans ∷ [])) e ∙ append_assoc a (file ∷ []) (plans ∷ [])
+
+pub both_opened : (file plans : Bytes) (told mid told' : Option Told) (old new : Option Bytes) (result : Status) → Tells (Opened file) told mid → Tells (Opened plans) mid told' → (result ≡ status.Unreadable → ⊥) → Opens (file ∷ plans ∷ []) told told' old new result
+both_opened file plans None None None old new result t u other = record { count = 2; first = tt; last = λ e. absurd (other e) }
+both_opened file plans None None (Some c) old new result t u other = absurd u
+both_opened file plans None (Some b) c old new result t u other = absurd t
+both_opened file plans (Some a) None c old new result t u other = absurd t
+both_opened file plans (Some a) (Some b) None old new result t u other = absurd u
+both_opened file plans (Some a) (Some b) (Some c) old new result t u other =
+    record { count = 2; first = record { texts = u.texts ∙ t.texts; opened = two_names a.opened b.opened c.opened file plans t.names u.names }; last = λ e. absurd (other e) }
+
+plans_by : (file plans : Bytes) (a b c : Told) (old new : Option Bytes) (result : Status) → Opened file a b → StopsAt Plans plans (Some b) (Some c) old new result → (c.opened ≡ b.opened) ⊎ (c.opened ≡ b.opened ++ (plans ∷ [])) → Opens (file ∷ plans ∷ []) (Some a) (Some c) old new result
+plans_by file plans a b c old new result t s (inl e) = record {
+  count = 1;
+  first = record { texts = s.names.texts ∙ t.texts; opened = e ∙ t.names };
+  last = λ is. absurd (same_names b.opened c.opened plans e (s.opened is).names);
+}
+plans_by file plans a b c old new result t s (inr e) = record {
+  count = 2;
+  first = record { texts = s.names.texts ∙ t.texts; opened = two_names a.opened b.opened c.opened file plans t.names e };
+  last = λ is. inr (refl, s.unreadable is);
+}
+
+-- FILE was, and PLANS after it, if anything, and its text is refused
+pub plans_stop : (file plans : Bytes) (told mid told' : Option Told) (old new : Option Bytes) (result : Status) → Tells (Opened file) told mid → StopsAt Plans plans mid told' old new result → Opens (file ∷ plans ∷ []) told told' old new result
+plans_stop file plans None None None old new result t s = record { count = 2; first = tt; last = λ is. inr (refl, s.unreadable is) }
+plans_stop file plans None None (Some c) old new result t s = absurd s.names
+plans_stop file plans None (Some b) c old new result t s = absurd t
+plans_stop file plans (Some a) None c old new result t s = absurd t
+plans_stop file plans (Some a) (Some b) None old new result t s = absurd s.names
+plans_stop file plans (Some a) (Some b) (Some c) old new result t s = plans_by file plans a b c old new result t s s.names.names

@@ -78,12 +78,12 @@ pub plans_memory_refused : (told : Option Told) (name P : Bytes) (old : Option B
 plans_memory_refused told name P old text = (P, text, nothing_puts (PlansRefused P) old)
 
 -- a line that offends
-pub file_offends : {E : Type 0} (told : Option Told) (name F : Bytes) (line : ℕ) (wanted : Shape) (made : Result Bytes E) (old new : SinkView) (result : Status) → IsTextOf told name F → length F ≤ LIMIT → RefusedAt (lines F) (read.Offence line wanted) → IfOk made (λ text. text ≡ offence_text line wanted)
-    → MatchResult made (λ text. Ends status.Offending text old new result) (λ _. (result ≡ status.Memory) × (new ≡ old)) → HasText told name (λ F. Puts (OrFront (FileRefused F)) old.taken new.taken result)
-file_offends told name F line wanted made old new result text short refused is ends =
-    (F, text, text_puts (FileRefused F) status.Offending made (offence_text line wanted) old new result is (record { short = short; line = line; wanted = wanted; offends = refused; text = refl }) ends)
+pub file_offends : {E : Type 0} (told : Option Told) (name F : Bytes) (line : ℕ) (wanted : Shape) (made : Result Bytes E) (old mid new : SinkView) (result : Status) → mid ≡ old → IsTextOf told name F → length F ≤ LIMIT → RefusedAt (lines F) (read.Offence line wanted) → IfOk made (λ text. text ≡ offence_text line wanted)
+    → MatchResult made (λ text. Ends status.Offending text mid new result) (λ _. (result ≡ status.Memory) × (new ≡ mid)) → HasText told name (λ F. Puts (OrFront (FileRefused F)) old.taken new.taken result)
+file_offends told name F line wanted made old mid new result same text short refused is ends =
+    (F, text, subst (λ (v : SinkView). Puts (OrFront (FileRefused F)) v.taken new.taken result) same (text_puts (FileRefused F) status.Offending made (offence_text line wanted) mid new result is (record { short = short; line = line; wanted = wanted; offends = refused; text = refl }) ends))
 
-pub plans_offend : {E : Type 0} (told : Option Told) (name P : Bytes) (line : ℕ) (made : Result Bytes E) (old new : SinkView) (result : Status) → IsTextOf told name P → length P ≤ LIMIT → PlansRefusedAt (lines P) (plans.Offence line) → IfOk made (λ text. text ≡ plans_offence_text line)
-    → MatchResult made (λ text. Ends status.Offending text old new result) (λ _. (result ≡ status.Memory) × (new ≡ old)) → HasText told name (λ P. Puts (OrFront (PlansRefused P)) old.taken new.taken result)
-plans_offend told name P line made old new result text short refused is ends =
-    (P, text, text_puts (PlansRefused P) status.Offending made (plans_offence_text line) old new result is (record { short = short; line = line; offends = refused; text = refl }) ends)
+pub plans_offend : {E : Type 0} (told : Option Told) (name P : Bytes) (line : ℕ) (made : Result Bytes E) (old mid new : SinkView) (result : Status) → mid ≡ old → IsTextOf told name P → length P ≤ LIMIT → PlansRefusedAt (lines P) (plans.Offence line) → IfOk made (λ text. text ≡ plans_offence_text line)
+    → MatchResult made (λ text. Ends status.Offending text mid new result) (λ _. (result ≡ status.Memory) × (new ≡ mid)) → HasText told name (λ P. Puts (OrFront (PlansRefused P)) old.taken new.taken result)
+plans_offend told name P line made old mid new result same text short refused is ends =
+    (P, text, subst (λ (v : SinkView). Puts (OrFront (PlansRefused P)) v.taken new.taken result) same (text_puts (PlansRefused P) status.Offending made (plans_offence_text line) mid new result is (record { short = short; line = line; offends = refused; text = refl }) ends))

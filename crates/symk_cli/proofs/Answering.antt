@@ -9,6 +9,7 @@ use Rattle.plan_out.specs.declared.end.End.{End}
 use Rattle.plan_out.specs.declared.end.End.TheVariants as end
 use Rattle.plan_out.specs.declared.check.Checked.{Checked}
 use Rattle.plan_out.specs.declared.check.Checked.TheVariants as checked
+use Rattle.symk_cli.specs.declared.top.TheConstants.{USAGE}
 use Rattle.symk_cli.specs.declared.request.Direction.{Direction}
 use Rattle.symk_cli.specs.declared.status.Status.{Status}
 use Rattle.symk_cli.specs.declared.status.Status.TheVariants as status
@@ -175,3 +176,8 @@ summary_whole number result out m = absurd m
 
 pub shows_answered : (told : Option Told) (number : ℕ) (old new : Option Bytes) (result : Status) → Puts (OrFront (IsSummary number)) old new result → Answered (Some (shows number)) told old new result
 shows_answered told number old new result p = front_answered (Some (shows number)) told [] [] (IsSummary number) old new result (summary_whole number) tt p
+
+-- the text that the program puts is the usage text
+pub usage_is : USAGE.now ≡ usage_text
+unfolding usage_text
+usage_is = refl

@@ -7,9 +7,9 @@ use Rattle.std.proofs.lemmas.Bool.Decides.{nat_tests}
 use Rattle.symk_text.specs.Numbers.{value_of, number_at, run_at}
 use Rattle.symk_io.specs.View.{Bytes}
 use Rattle.symk_task.specs.declared.parts.Mode.{Mode}
-use Rattle.symk_words.specs.Texts.{Texts, plan, check, demo}
+use Rattle.symk_words.specs.Texts.{Texts, texts_asked, plan, check, demo}
 use Rattle.symk_cli.specs.declared.request.Direction.{Direction}
-use Rattle.symk_cli.specs.Wishes.{Wish, lists, checks, shows, number_within, mode_of, direction_of, serves, lists_if_served, spelled}
+use Rattle.symk_cli.specs.Wishes.{Wish, lists, checks, shows, number_within, mode_of, direction_of, serves, lists_if_served, spelled, wish_of}
 
 and_step : (b : Bool) (x : ℕ) (xs rest : List ℕ) (all : Bool) → (b && all) ≡ true → (all ≡ true → rest ≡ xs) → cond b (x ∷ rest) [] ≡ x ∷ xs
 and_step true x xs rest all h r = ap (λ z. x ∷ z) (r h)
@@ -159,3 +159,12 @@ pub read_other : (least most : ℕ) (word : Bytes) (value end : ℕ) → most < 
 read_other least most word value end small e never =
     number_read least most word small ∙ ap (whole_number least most (length word)) e
     ∙ not_all (end == length word) (nat_le least value) (nat_le value most) value (λ a b c. never (equal_is end (length word) a) (le_is least value b) (le_is value most c))
+
+-- what the words ask for, from the texts that they give
+pub asks : (words : List Bytes) (texts : Texts) (o : Option Wish) → texts_asked words ≡ Some texts → o ≡ spelled texts → wish_of words ≡ o
+unfolding wish_of
+asks words texts o e is = ap (λ x. option_and_then spelled x) e ∙ sym is
+
+pub asks_none : (words : List Bytes) → texts_asked words ≡ None → wish_of words ≡ None
+unfolding wish_of
+asks_none words e = ap (λ x. option_and_then spelled x) e

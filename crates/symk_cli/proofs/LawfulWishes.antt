@@ -14,8 +14,8 @@ use Rattle.symk_cli.specs.declared.request.Direction.{Direction}
 use Rattle.symk_cli.specs.Wishes.{Wish, number_within, mode_named, mode_of, direction_named, direction_of, lists_if_served, spelled, wish_of}
 use Rattle.symk_cli.specs.LawfulWords.{AreWordsOf, AreLawful}
 
-no_some : {A : Type 0} → IsSome {T = A} None → ⊥
-no_some h = absurd (cc)
+no_some : (A : Type 0) → IsSome {T = A} None → ⊥
+no_some A h = absurd (cc)
 
 -- a digit is no `-`
 digit_plain : (c : ℕ) (more : Bool) → (is_ascii_digit c && more) ≡ true → (c == 45) ≡ false
@@ -27,12 +27,12 @@ and_first false b h = absurd (cc)
 
 some_test : (b : Bool) (v : ℕ) → IsSome (cond b (Some v) None) → b ≡ true
 some_test true v h = refl
-some_test false v h = absurd (no_some h)
+some_test false v h = absurd (no_some ℕ h)
 
 -- a number's word is plain
 pub plain_number : (least most : ℕ) (word : Bytes) → IsSome (number_within least most word) → Plain word
 unfolding number_within
-plain_number least most [] h = absurd (no_some h)
+plain_number least most [] h = absurd (no_some ℕ h)
 plain_number least most (c ∷ cs) h =
     let word = c ∷ cs in
     let all = some_test (list_all is_ascii_digit word && nat_le 1 (length word) && nat_le (length word) 20 && nat_le least (value_of word) && nat_le (value_of word) most) (value_of word) h in
@@ -41,47 +41,47 @@ plain_number least most (c ∷ cs) h =
 
 dash_mode : (c : ℕ) (cs : Bytes) → c ≡ 45 → IsSome (mode_named (c ∷ cs)) → ⊥
 unfolding mode_named
-dash_mode c cs e h = no_some (subst (λ (x : ℕ). IsSome (mode_named (x ∷ cs))) e h)
+dash_mode c cs e h = no_some Mode (subst (λ (x : ℕ). IsSome (mode_named (x ∷ cs))) e h)
 
 dash_direction : (c : ℕ) (cs : Bytes) → c ≡ 45 → IsSome (direction_named (c ∷ cs)) → ⊥
 unfolding direction_named
-dash_direction c cs e h = no_some (subst (λ (x : ℕ). IsSome (direction_named (x ∷ cs))) e h)
+dash_direction c cs e h = no_some Direction (subst (λ (x : ℕ). IsSome (direction_named (x ∷ cs))) e h)
 
 is_dash : (c : ℕ) → (c == 45) ≡ true → c ≡ 45
 is_dash c h = grind (arith, nat_tests)
 
 not_dash : (c : ℕ) (b : Bool) → (c == 45) ≡ b → (c ≡ 45 → ⊥) → b ≡ false
-not_dash c true e no = absurd (no (is_dash c e))
-not_dash c false e no = refl
+not_dash c true e never = absurd (never (is_dash c e))
+not_dash c false e never = refl
 
 -- so are the words of modes and directions
 pub plain_mode : (word : Option Bytes) → IsSome (mode_of word) → PlainIfSome word
 unfolding mode_named
 plain_mode None h = tt
-plain_mode (Some []) h = absurd (no_some h)
+plain_mode (Some []) h = absurd (no_some Mode h)
 plain_mode (Some (c ∷ cs)) h = not_dash c (c == 45) refl (λ e. dash_mode c cs e h)
 
 pub plain_direction : (word : Option Bytes) → IsSome (direction_of word) → PlainIfSome word
 unfolding direction_named
 plain_direction None h = tt
-plain_direction (Some []) h = absurd (no_some h)
+plain_direction (Some []) h = absurd (no_some Direction h)
 plain_direction (Some (c ∷ cs)) h = not_dash c (c == 45) refl (λ e. dash_direction c cs e h)
 
 -- what is there of the parts of something that is there
 then_first : {A B : Type 0} (o : Option A) (f : A → Option B) → IsSome (option_and_then f o) → IsSome o
-then_first None f h = absurd (no_some h)
+then_first {B = B} None f h = absurd (no_some B h)
 then_first (Some a) f h = refl
 
 then_second : {A B C : Type 0} (o : Option A) (q : Option B) (f : A → B → Option C) → IsSome (option_and_then (λ a. option_and_then (f a) q) o) → IsSome q
-then_second None q f h = absurd (no_some h)
+then_second {C = C} None q f h = absurd (no_some C h)
 then_second (Some a) q f h = then_first q (f a) h
 
 then_third : {A B C D : Type 0} (o : Option A) (q : Option B) (r : Option C) (f : A → B → C → Option D) → IsSome (option_and_then (λ a. option_and_then (λ b. option_and_then (f a b) r) q) o) → IsSome r
-then_third None q r f h = absurd (no_some h)
+then_third {D = D} None q r f h = absurd (no_some D h)
 then_third (Some a) q r f h = then_second q r (f a) h
 
 map_first : {A B : Type 0} (f : A → B) (o : Option A) → IsSome (option_map f o) → IsSome o
-map_first f None h = absurd (no_some h)
+map_first {B = B} f None h = absurd (no_some B h)
 map_first f (Some a) h = refl
 
 asked : (words : List Bytes) (texts : Texts) → texts_asked words ≡ Some texts → IsSome (spelled texts) → IsSome (wish_of words)

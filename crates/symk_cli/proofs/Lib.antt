@@ -9,3 +9,4 @@ pub mod Answering
 pub mod ReadBack
 pub mod Refusing
 pub mod Opening
+pub mod Completed

@@ -8,7 +8,8 @@ use Rattle.symk_cli.specs.declared.reading.Named.{Named}
 use Rattle.symk_cli.specs.declared.reading.Named.TheVariants.{File, Plans}
 use Rattle.symk_cli.specs.declared.status.Status.{Status}
 use Rattle.symk_cli.specs.declared.status.Status.TheVariants as status
-use Rattle.symk_cli.specs.Ends.{Ends, HasCauses}
+use Rattle.symk_cli.specs.Ends.{Ends, HasCauses, OrFront, Puts}
+use Rattle.symk_cli.specs.Plans.{PlansRefused}
 use Rattle.symk_cli.specs.Refusals.{unreadable_text}
 use Rattle.symk_cli.specs.Named.{HasText, StopsAt}
 use Rattle.symk_cli.specs.Opens.{OpensFirst, Opens}
@@ -125,3 +126,16 @@ plans_stop file plans None (Some b) c old new result t s = absurd t
 plans_stop file plans (Some a) None c old new result t s = absurd t
 plans_stop file plans (Some a) (Some b) None old new result t s = absurd s.names
 plans_stop file plans (Some a) (Some b) (Some c) old new result t s = plans_by file plans a b c old new result t s s.names.names
+
+-- what is so of a text that is told after a file was opened is so of the one told before
+pub text_of_before : (IsSo : Bytes → Type 0) (name other : Bytes) (old new : Option Told) → Tells (Opened name) old new → HasText new other IsSo → HasText old other IsSo
+text_of_before IsSo name other old new t h = (h.0, text_before name other old new h.0 t h.1, h.2)
+
+-- a stop after a sink that wasn't touched
+pub stops_after : (named : Named) (name : Bytes) (told told' : Option Told) (old mid new : SinkView) (result : Status) → mid ≡ old → StopsAt named name told told' mid.taken new.taken result → StopsAt named name told told' old.taken new.taken result
+stops_after named name told told' old mid new result same s = subst (λ (v : SinkView). StopsAt named name told told' v.taken new.taken result) same s
+
+pub plans_refused_before : (told mid : Option Told) (file plans : Bytes) (old then new : SinkView) (result : Status) → Tells (Opened file) told mid → then ≡ old → HasText mid plans (λ P. Puts (OrFront (PlansRefused P)) then.taken new.taken result) → HasText told plans (λ P. Puts (OrFront (PlansRefused P)) old.taken new.taken result)
+plans_refused_before told mid file plans old then new result t same h =
+    let h' : HasText told plans (λ P. Puts (OrFront (PlansRefused P)) then.taken new.taken result) = text_of_before (λ P. Puts (OrFront (PlansRefused P)) then.taken new.taken result) file plans told mid t h in
+    subst (λ (v : SinkView). HasText told plans (λ P. Puts (OrFront (PlansRefused P)) v.taken new.taken result)) same h'

@@ -67,3 +67,7 @@ made_puts May status (Err e) old new result m h =
 pub text_puts : {E : Type 0} (May : Status → Bytes → Type 0) (status : Status) (made : Result Bytes E) (whole : Bytes) (old new : SinkView) (result : Status) → IfOk made (λ text. text ≡ whole) → May status whole → MatchResult made (λ text. Ends status text old new result) (λ _. (result ≡ Memory) × (new ≡ old)) → Puts (OrFront May) old.taken new.taken result
 text_puts May status (Ok text) whole old new result e m h = end_puts May status text old new result (subst (λ t. May status t) (sym e) m) h
 text_puts May status (Err e') whole old new result e m h = made_puts May status (Err e') old new result tt h
+
+-- what went out after a sink that wasn't touched
+pub puts_after : (May : Status → Bytes → Type 0) (old mid new : SinkView) (result : Status) → mid ≡ old → Puts May mid.taken new.taken result → Puts May old.taken new.taken result
+puts_after May old mid new result same p = subst (λ (v : SinkView). Puts May v.taken new.taken result) same p

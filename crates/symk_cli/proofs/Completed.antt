@@ -1,0 +1,130 @@
+-- From the answer and the causes: what can't come.
+use Rattle.std.proofs.Common.{◌≡◌, ◌≢◌, ◌∙◌, ap, sym, refl, subst, inl, inr, ℕ, ◌+◌, ◌-◌, ◌^◌, ◌<◌, ◌≤◌, ◌⊎◌, List, ◌++◌, length, take, drop, Option, Some, None, IsSome, IfSome, arith, min}
+use Rattle.std.proofs.lemmas.List.{take-append-drop}
+use Rattle.symk_io.specs.View.{Bytes, FilesView, SinkView, Told}
+use Rattle.symk_io.specs.Told.{IsTextOf}
+use Rattle.symk_io.specs.Causes.{Rose}
+use Rattle.symk_task.specs.declared.parts.Mode.{Mode}
+use Rattle.symk_task.specs.declared.parts.TaskParts.{TaskParts}
+use Rattle.sas_reader.specs.Format.{IsFileOf}
+use Rattle.plan_out.specs.declared.blocks.ReadBlock.{ReadBlock}
+use Rattle.plan_out.specs.Plans.{IsPlansOf}
+use Rattle.symk_text.specs.Lines.{lines}
+use Rattle.symk_cli.specs.declared.TheConstants.{LIMIT}
+use Rattle.symk_cli.specs.declared.request.Direction.{Direction}
+use Rattle.symk_cli.specs.declared.status.Status.{Status}
+use Rattle.symk_cli.specs.declared.status.Status.TheVariants as status
+use Rattle.symk_cli.specs.Ends.{HasCauses}
+use Rattle.symk_cli.specs.Wishes.{Wish, lists, checks, shows, wish_of}
+use Rattle.symk_cli.specs.LawfulWords.{AreLawful}
+use Rattle.symk_cli.specs.Refusals.{IsTaskText, FileOffence}
+use Rattle.symk_cli.specs.Plans.{IsPlansText, PlansOffence}
+use Rattle.symk_cli.specs.Answer.{Answer, AreTexts, Answered}
+use Rattle.symk_cli.specs.Complete.{TellsText, TellsTexts, Finishes, IsQuiet, Complete}
+use Rattle.symk_cli.proofs.LawfulWishes.{lawful_asks}
+
+-- a whole text does not offend
+not_offending : {A : Type 0} (Whole : List (List ℕ) → A → Type 0) (ls : List (List ℕ)) (a : A) (n : ℕ) → Whole ls a
+    → ((n ≤ length ls) × (((more : List (List ℕ)) × (b : A) × Whole (take n ls ++ more) b) → ⊥)) ⊎ ((n ≡ length ls + 1) × ((b : A) → Whole ls b → ⊥)) → ⊥
+not_offending Whole ls a n w (inl h) = h.1 (drop n ls, a, subst (λ l. Whole l a) (sym (take-append-drop n ls)) w)
+not_offending Whole ls a n w (inr h) = h.1 a w
+
+file_offends_not : (F out : Bytes) (task : TaskParts) → IsFileOf (lines F) task → FileOffence F out → ⊥
+file_offends_not F out task file o = let offends = o.offends.0 in not_offending IsFileOf (lines F) task o.line file offends.stuck
+
+plans_offend_not : (P out : Bytes) (blocks : List ReadBlock) → IsPlansOf (lines P) blocks → PlansOffence P out → ⊥
+plans_offend_not P out blocks plans o = let offends = o.offends in not_offending IsPlansOf (lines P) blocks o.line plans offends.stuck
+
+did_not_rise : (before now : ℕ) → IsQuiet before now → Rose before now → ⊥
+did_not_rise before now q rose = let same = q.0 in let below = q.1 in omega (arith, same, below, rose)
+
+-- the text is the one told
+told_text : (told : Option Told) (name F G : Bytes) → TellsText told name F → IsTextOf told name G → F ≡ G
+told_text None name F G t h = absurd t
+told_text (Some t) name F G is h = subst (λ o. IfSome o (λ x. x ≡ G)) is h
+
+task_text : (told : Option Told) (name F G : Bytes) (task : TaskParts) → TellsText told name F → IsTextOf told name G → IsTaskText F task → IsTaskText G task
+task_text told name F G task is text t = subst (λ (x : Bytes). IsTaskText x task) (told_text told name F G is text) t
+
+plans_text : (told : Option Told) (name P G : Bytes) (blocks : List ReadBlock) → TellsText told name P → IsTextOf told name G → IsPlansText P blocks → IsPlansText G blocks
+plans_text told name P G blocks is text t = subst (λ (x : Bytes). IsPlansText x blocks) (told_text told name P G is text) t
+
+not_both : (wish : Option Wish) → IsSome wish → wish ≡ None → ⊥
+not_both wish some none = let h = subst (λ o. IsSome o) none some in cc
+
+-- usage comes of no lawful words
+pub never_usage : (words : List Bytes) (told : Option Told) (old new : Option Bytes) (result : Status) → Answered (wish_of words) told old new result → AreLawful words → result ≢ status.Usage
+never_usage words told old new result a lawful e =
+    not_both (wish_of words) (lawful_asks words lawful) (subst (λ s. Answer (wish_of words) a.F a.P s a.out) e a.answer).0
+
+some_none : (wish : Wish) → Some wish ≡ None → ⊥
+some_none wish e = cc
+
+too_long : (F : Bytes) → length F ≤ LIMIT → LIMIT < length F → ⊥
+too_long F short long = omega (arith, short, long)
+
+-- what is asked for over a text that is a task file
+lists_finish : (told : Option Told) (file : Bytes) (most : ℕ) (mode : Mode) (direction : Direction) (old new : Option Bytes) (result : Status) → TellsTexts told (lists file most mode direction)
+    → (result ≡ status.Unreadable → ⊥) → (result ≡ status.WriteFault → ⊥) → Answered (Some (lists file most mode direction)) told old new result → Finishes (lists file most mode direction) result ⊎ (result ≡ status.Memory)
+lists_finish told file most mode direction old new status.Reached t u w a = inl (inl refl)
+lists_finish told file most mode direction old new status.Exhausted t u w a = inl (inr (inl refl))
+lists_finish told file most mode direction old new status.CostRange t u w a = inl (inr (inr refl))
+lists_finish told file most mode direction old new status.Memory t u w a = inr refl
+lists_finish told file most mode direction old new status.Unreadable t u w a = absurd (u refl)
+lists_finish told file most mode direction old new status.WriteFault t u w a = absurd (w refl)
+lists_finish told file most mode direction old new status.Usage t u w a = absurd (some_none (lists file most mode direction) a.answer.0)
+lists_finish told file most mode direction old new status.TooLong t u w a =
+    let is = task_text told file t.0 a.F t.1 t.2 a.texts t.3 in absurd (too_long a.F is.short a.answer.0)
+lists_finish told file most mode direction old new status.Offending t u w a =
+    let is = task_text told file t.0 a.F t.1 t.2 a.texts t.3 in absurd (file_offends_not a.F a.out t.1 is.file a.answer)
+lists_finish told file most mode direction old new status.Good t u w a = absurd a.answer
+lists_finish told file most mode direction old new status.BadList t u w a = absurd a.answer
+lists_finish told file most mode direction old new status.Shown t u w a = absurd a.answer
+
+-- a text of the two that is too long, or offends
+checks_short : (F P : Bytes) (task : TaskParts) (blocks : List ReadBlock) (A B : Type 0) → IsTaskText F task → IsPlansText P blocks → ((LIMIT < length F) × A) ⊎ ((other : TaskParts) × IsTaskText F other × ((LIMIT < length P) × B)) → ⊥
+checks_short F P task blocks A B f p (inl h) = too_long F f.short h.0
+checks_short F P task blocks A B f p (inr h) = let long = h.2.0 in too_long P p.short long
+
+checks_lawful : (F P out : Bytes) (task : TaskParts) (blocks : List ReadBlock) → IsTaskText F task → IsPlansText P blocks → FileOffence F out ⊎ ((other : TaskParts) × IsTaskText F other × PlansOffence P out) → ⊥
+checks_lawful F P out task blocks f p (inl h) = file_offends_not F out task f.file h
+checks_lawful F P out task blocks f p (inr h) = plans_offend_not P out blocks p.plans h.2
+
+-- and over one that is a plan text
+checks_finish : (told : Option Told) (file plans : Bytes) (mode : Mode) (old new : Option Bytes) (result : Status) → TellsTexts told (checks file plans mode)
+    → (result ≡ status.Unreadable → ⊥) → (result ≡ status.WriteFault → ⊥) → Answered (Some (checks file plans mode)) told old new result → Finishes (checks file plans mode) result ⊎ (result ≡ status.Memory)
+checks_finish told file plans mode old new status.Good t u w a = inl (inl refl)
+checks_finish told file plans mode old new status.BadList t u w a = inl (inr refl)
+checks_finish told file plans mode old new status.Memory t u w a = inr refl
+checks_finish told file plans mode old new status.Unreadable t u w a = absurd (u refl)
+checks_finish told file plans mode old new status.WriteFault t u w a = absurd (w refl)
+checks_finish told file plans mode old new status.Usage t u w a = absurd (some_none (checks file plans mode) a.answer.0)
+checks_finish told file plans mode old new status.TooLong t u w a =
+    let f = task_text told file t.0.0 a.F t.0.1 t.0.2 a.texts.0 t.0.3 in
+    let p = plans_text told plans t.1.0 a.P t.1.1 t.1.2 a.texts.1 t.1.3 in
+    absurd (checks_short a.F a.P t.0.1 t.1.1 _ _ f p a.answer)
+checks_finish told file plans mode old new status.Offending t u w a =
+    let f = task_text told file t.0.0 a.F t.0.1 t.0.2 a.texts.0 t.0.3 in
+    let p = plans_text told plans t.1.0 a.P t.1.1 t.1.2 a.texts.1 t.1.3 in
+    absurd (checks_lawful a.F a.P a.out t.0.1 t.1.1 f p a.answer)
+checks_finish told file plans mode old new status.Reached t u w a = absurd a.answer
+checks_finish told file plans mode old new status.Exhausted t u w a = absurd a.answer
+checks_finish told file plans mode old new status.CostRange t u w a = absurd a.answer
+checks_finish told file plans mode old new status.Shown t u w a = absurd a.answer
+
+shows_finish : (told : Option Told) (number : ℕ) (old new : Option Bytes) (result : Status) → (result ≡ status.WriteFault → ⊥) → Answered (Some (shows number)) told old new result → (result ≡ status.Shown) ⊎ (result ≡ status.Memory)
+shows_finish told number old new status.Shown w a = inl refl
+shows_finish told number old new status.Memory w a = inr refl
+shows_finish told number old new status.WriteFault w a = absurd (w refl)
+shows_finish told number old new status.Usage w a = absurd (some_none (shows number) a.answer.0)
+shows_finish told number old new result w a = absurd a.answer
+
+finish : (told : Option Told) (wish : Wish) (old new : Option Bytes) (result : Status) → TellsTexts told wish → (result ≡ status.Unreadable → ⊥) → (result ≡ status.WriteFault → ⊥) → Answered (Some wish) told old new result → Finishes wish result ⊎ (result ≡ status.Memory)
+finish told (lists file most mode direction) old new result t u w a = lists_finish told file most mode direction old new result t u w a
+finish told (checks file plans mode) old new result t u w a = checks_finish told file plans mode old new result t u w a
+finish told (shows number) old new result t u w a = shows_finish told number old new result w a
+
+pub completed : (asked : Option Wish) (files files' : FilesView) (sink sink' : SinkView) (result : Status) → Answered asked files.told sink.taken sink'.taken result → HasCauses result files.faults files'.faults sink.faults sink'.faults → Complete asked files files' sink sink' result
+completed asked files files' sink sink' result a causes wish e t quiet silent =
+    finish files.told wish sink.taken sink'.taken result t (λ u. did_not_rise _ _ quiet (causes.unreadable u)) (λ w. did_not_rise _ _ silent (causes.write w))
+    (subst (λ o. Answered o files.told sink.taken sink'.taken result) e a)

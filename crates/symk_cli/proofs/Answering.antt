@@ -1,7 +1,6 @@
 -- From the bytes that went out to the answer.
 use Rattle.std.proofs.Common.{◌≡◌, ◌∙◌, ap, sym, refl, subst, inl, inr, ℕ, ◌⊎◌, List, [], Option, Some, None, IfSome}
 use Rattle.symk_io.specs.View.{Bytes, Tells, Grew, SinkView, Told}
-use Rattle.symk_io.specs.Told.{IsTextOf, Opened}
 use Rattle.symk_task.specs.declared.parts.Mode.{Mode}
 use Rattle.symk_task.specs.declared.parts.TaskParts.{TaskParts}
 use Rattle.plan_out.specs.declared.blocks.ReadBlock.{ReadBlock}
@@ -20,12 +19,12 @@ use Rattle.symk_cli.specs.Lists.{Listing, PartListing, OrPart, end_status}
 use Rattle.symk_cli.specs.Verdicts.{Verdict, verdict_status}
 use Rattle.symk_cli.specs.Plans.{IsPlansText, PlansRefused}
 use Rattle.symk_cli.specs.Shown.{IsSummary}
-use Rattle.symk_cli.specs.Named.{HasText}
+use Rattle.symk_cli.specs.Named.{HasText, HasRead}
 use Rattle.symk_cli.specs.Answer.{Whole, Part, Answer, AreTexts, Answered, usage_text}
 use Rattle.symk_cli.proofs.Puts.{no_bytes, end_puts, nothing_puts}
 
 -- a text, or a front of one, answers where each that may come does
-front_answers : (wish : Option Wish) (F P : Bytes) (May : Status → Bytes → Type 0) → ((result : Status) (out : Bytes) → May result out → Whole wish F P result out) → (result : Status) (out : Bytes) → OrFront May result out → Answer wish F P result out
+front_answers : (wish : Option Wish) (F P : Option Bytes) (May : Status → Bytes → Type 0) → ((result : Status) (out : Bytes) → May result out → Whole wish F P result out) → (result : Status) (out : Bytes) → OrFront May result out → Answer wish F P result out
 front_answers wish F P May whole status.WriteFault out (inl none) = inl none
 front_answers wish F P May whole status.WriteFault out (inr f) = inr (inl (f.0, f.1, whole f.0 f.1 f.2, f.3))
 front_answers wish F P May whole status.Memory out (inl none) = inl none
@@ -41,73 +40,64 @@ front_answers wish F P May whole status.TooLong out m = whole status.TooLong out
 front_answers wish F P May whole status.Unreadable out m = whole status.Unreadable out m
 front_answers wish F P May whole status.CostRange out m = whole status.CostRange out m
 
-front_answered : (wish : Option Wish) (told : Option Told) (F P : Bytes) (May : Status → Bytes → Type 0) (old new : Option Bytes) (result : Status) → ((result : Status) (out : Bytes) → May result out → Whole wish F P result out) → AreTexts told wish F P → Puts (OrFront May) old new result → Answered wish told old new result
+front_answered : (wish : Option Wish) (told : Option Told) (F P : Option Bytes) (May : Status → Bytes → Type 0) (old new : Option Bytes) (result : Status) → ((result : Status) (out : Bytes) → May result out → Whole wish F P result out) → AreTexts told wish F P → Puts (OrFront May) old new result → Answered wish told old new result
 front_answered wish told F P May old new result whole texts p = record { F = F; P = P; texts = texts; out = p.0; taken = p.1; answer = front_answers wish F P May whole result p.0 p.2 }
 
--- a text of a name, told or not
-some_told : (t : Option Bytes) → (F : Bytes) × IfSome t (λ x. x ≡ F)
-some_told None = ([], tt)
-some_told (Some t) = (t, refl)
-
-pub some_text : (told : Option Told) (name : Bytes) → (F : Bytes) × IsTextOf told name F
-some_text None name = ([], tt)
-some_text (Some t) name = some_told (t.text name)
-
-some_texts : (told : Option Told) (wish : Option Wish) → (F : Bytes) × (P : Bytes) × AreTexts told wish F P
-some_texts told None = ([], [], tt)
-some_texts told (Some (lists file most mode direction)) = let F = some_text told file in (F.0, [], F.1)
-some_texts told (Some (checks file plans mode)) = let F = some_text told file in let P = some_text told plans in (F.0, P.0, (F.1, P.1))
-some_texts told (Some (shows number)) = ([], [], tt)
+-- nothing was read
+nothing_read : (told : Option Told) (wish : Option Wish) → AreTexts told wish None None
+nothing_read told None = tt
+nothing_read told (Some (lists file most mode direction)) = tt
+nothing_read told (Some (checks file plans mode)) = (tt, tt)
+nothing_read told (Some (shows number)) = tt
 
 -- want of memory, before anything is put
 pub memory_answered : (wish : Option Wish) (told : Option Told) (old : Option Bytes) → Answered wish told old old status.Memory
-memory_answered wish told old = let t = some_texts told wish in record { F = t.0; P = t.1; texts = t.2; out = []; taken = no_bytes old; answer = inl refl }
+memory_answered wish told old = record { F = None; P = None; texts = nothing_read told wish; out = []; taken = no_bytes old; answer = inl refl }
 
 -- usage
 abbrev IsUsage : Option Wish → Status → Bytes → Type 0
 IsUsage wish status.Usage out = (wish ≡ None) × (out ≡ usage_text)
 IsUsage wish result out = ⊥
 
-usage_whole : (wish : Option Wish) (result : Status) (out : Bytes) → IsUsage wish result out → Whole wish [] [] result out
+usage_whole : (wish : Option Wish) (result : Status) (out : Bytes) → IsUsage wish result out → Whole wish None None result out
 usage_whole wish status.Usage out m = m
 usage_whole wish result out m = absurd m
 
 pub usage_answered : (wish : Option Wish) (told : Option Told) (text : Bytes) (old new : SinkView) (result : Status) → wish ≡ None → text ≡ usage_text → Ends status.Usage text old new result → Answered wish told old.taken new.taken result
 usage_answered wish told text old new result none e ends =
-    front_answered wish told [] [] (IsUsage wish) old.taken new.taken result (usage_whole wish) (subst (λ w. AreTexts told w [] []) (sym none) tt) (end_puts (IsUsage wish) status.Usage text old new result (none, e) ends)
+    front_answered wish told None None (IsUsage wish) old.taken new.taken result (usage_whole wish) (nothing_read told wish) (end_puts (IsUsage wish) status.Usage text old new result (none, e) ends)
 
 -- FILE is refused
-refused_lists : (file : Bytes) (most : ℕ) (mode : Mode) (direction : Direction) (F P : Bytes) (result : Status) (out : Bytes) → FileRefused F result out → Whole (Some (lists file most mode direction)) F P result out
+refused_lists : (file : Bytes) (most : ℕ) (mode : Mode) (direction : Direction) (F P : Option Bytes) (result : Status) (out : Bytes) → FileRefused F result out → Whole (Some (lists file most mode direction)) F P result out
 refused_lists file most mode direction F P status.Unreadable out m = m
 refused_lists file most mode direction F P status.TooLong out m = m
 refused_lists file most mode direction F P status.Offending out m = m
 refused_lists file most mode direction F P result out m = absurd m
 
-pub lists_refused : (told : Option Told) (file : Bytes) (most : ℕ) (mode : Mode) (direction : Direction) (old new : Option Bytes) (result : Status) → HasText told file (λ F. Puts (OrFront (FileRefused F)) old new result) → Answered (Some (lists file most mode direction)) told old new result
+pub lists_refused : (told : Option Told) (file : Bytes) (most : ℕ) (mode : Mode) (direction : Direction) (old new : Option Bytes) (result : Status) → HasRead told file (λ F. Puts (OrFront (FileRefused F)) old new result) → Answered (Some (lists file most mode direction)) told old new result
 lists_refused told file most mode direction old new result h =
-    front_answered (Some (lists file most mode direction)) told h.0 [] (FileRefused h.0) old new result (refused_lists file most mode direction h.0 []) h.1 h.2
+    front_answered (Some (lists file most mode direction)) told h.0 None (FileRefused h.0) old new result (refused_lists file most mode direction h.0 None) h.1 h.2
 
-refused_checks : (file plans : Bytes) (mode : Mode) (F P : Bytes) (result : Status) (out : Bytes) → FileRefused F result out → Whole (Some (checks file plans mode)) F P result out
+refused_checks : (file plans : Bytes) (mode : Mode) (F P : Option Bytes) (result : Status) (out : Bytes) → FileRefused F result out → Whole (Some (checks file plans mode)) F P result out
 refused_checks file plans mode F P status.Unreadable out m = inl m
 refused_checks file plans mode F P status.TooLong out m = inl m
 refused_checks file plans mode F P status.Offending out m = inl m
 refused_checks file plans mode F P result out m = absurd m
 
-pub checks_refused : (told : Option Told) (file plans : Bytes) (mode : Mode) (old new : Option Bytes) (result : Status) → HasText told file (λ F. Puts (OrFront (FileRefused F)) old new result) → Answered (Some (checks file plans mode)) told old new result
+pub checks_refused : (told : Option Told) (file plans : Bytes) (mode : Mode) (old new : Option Bytes) (result : Status) → HasRead told file (λ F. Puts (OrFront (FileRefused F)) old new result) → Answered (Some (checks file plans mode)) told old new result
 checks_refused told file plans mode old new result h =
-    let P = some_text told plans in
-    front_answered (Some (checks file plans mode)) told h.0 P.0 (FileRefused h.0) old new result (refused_checks file plans mode h.0 P.0) (h.1, P.1) h.2
+    front_answered (Some (checks file plans mode)) told h.0 None (FileRefused h.0) old new result (refused_checks file plans mode h.0 None) (h.1, tt) h.2
 
 -- PLANS is refused
-plans_whole : (file plans : Bytes) (mode : Mode) (F P : Bytes) (task : TaskParts) → IsTaskText F task → (result : Status) (out : Bytes) → PlansRefused P result out → Whole (Some (checks file plans mode)) F P result out
-plans_whole file plans mode F P task t status.Unreadable out m = inr (task, t, m)
-plans_whole file plans mode F P task t status.TooLong out m = inr (task, t, m)
-plans_whole file plans mode F P task t status.Offending out m = inr (task, t, m)
+plans_whole : (file plans : Bytes) (mode : Mode) (F : Bytes) (P : Option Bytes) (task : TaskParts) → IsTaskText F task → (result : Status) (out : Bytes) → PlansRefused P result out → Whole (Some (checks file plans mode)) (Some F) P result out
+plans_whole file plans mode F P task t status.Unreadable out m = inr ((task, t), m)
+plans_whole file plans mode F P task t status.TooLong out m = inr ((task, t), m)
+plans_whole file plans mode F P task t status.Offending out m = inr ((task, t), m)
 plans_whole file plans mode F P task t result out m = absurd m
 
-pub plans_refused : (told : Option Told) (file plans : Bytes) (mode : Mode) (task : TaskParts) (old new : Option Bytes) (result : Status) → HasText told file (λ F. IsTaskText F task) → HasText told plans (λ P. Puts (OrFront (PlansRefused P)) old new result) → Answered (Some (checks file plans mode)) told old new result
+pub plans_refused : (told : Option Told) (file plans : Bytes) (mode : Mode) (task : TaskParts) (old new : Option Bytes) (result : Status) → HasText told file (λ F. IsTaskText F task) → HasRead told plans (λ P. Puts (OrFront (PlansRefused P)) old new result) → Answered (Some (checks file plans mode)) told old new result
 plans_refused told file plans mode task old new result f p =
-    front_answered (Some (checks file plans mode)) told f.0 p.0 (PlansRefused p.0) old new result (plans_whole file plans mode f.0 p.0 task f.2) (f.1, p.1) p.2
+    front_answered (Some (checks file plans mode)) told (Some f.0) p.0 (PlansRefused p.0) old new result (plans_whole file plans mode f.0 p.0 task f.2) (f.1, p.1) p.2
 
 -- plans are listed
 abbrev IsListing : Status → Type 0
@@ -124,18 +114,18 @@ is_listing end.CostRange = tt
 listing_status : (task : TaskParts) (most : ℕ) (mode : Mode) (result : Status) (out : Bytes) → Listing task most mode result out → IsListing result
 listing_status task most mode result out l = subst IsListing (sym l.says) (is_listing l.ended)
 
-listing_whole : (file : Bytes) (most : ℕ) (mode : Mode) (direction : Direction) (F P : Bytes) (task : TaskParts) → IsTaskText F task → (result : Status) (out : Bytes) → Listing task most mode result out → Whole (Some (lists file most mode direction)) F P result out
+listing_whole : (file : Bytes) (most : ℕ) (mode : Mode) (direction : Direction) (F : Bytes) (P : Option Bytes) (task : TaskParts) → IsTaskText F task → (result : Status) (out : Bytes) → Listing task most mode result out → Whole (Some (lists file most mode direction)) (Some F) P result out
 listing_whole file most mode direction F P task t status.Reached out l = (task, t, l)
 listing_whole file most mode direction F P task t status.Exhausted out l = (task, t, l)
 listing_whole file most mode direction F P task t status.CostRange out l = (task, t, l)
 listing_whole file most mode direction F P task t result out l = absurd (listing_status task most mode result out l)
 
-part_answers : (file : Bytes) (most : ℕ) (mode : Mode) (direction : Direction) (F P : Bytes) (task : TaskParts) → IsTaskText F task → (out : Bytes) → FrontOf (Listing task most mode) out ⊎ PartListing task most mode out → Part (Some (lists file most mode direction)) F P out
+part_answers : (file : Bytes) (most : ℕ) (mode : Mode) (direction : Direction) (F : Bytes) (P : Option Bytes) (task : TaskParts) → IsTaskText F task → (out : Bytes) → FrontOf (Listing task most mode) out ⊎ PartListing task most mode out → Part (Some (lists file most mode direction)) (Some F) P out
 part_answers file most mode direction F P task t out (inl (inl none)) = inl none
 part_answers file most mode direction F P task t out (inl (inr f)) = inr (inl (f.0, f.1, listing_whole file most mode direction F P task t f.0 f.1 f.2, f.3))
 part_answers file most mode direction F P task t out (inr p) = inr (inr (task, t, p))
 
-list_answers : (file : Bytes) (most : ℕ) (mode : Mode) (direction : Direction) (F P : Bytes) (task : TaskParts) → IsTaskText F task → (result : Status) (out : Bytes) → OrPart task most mode result out → Answer (Some (lists file most mode direction)) F P result out
+list_answers : (file : Bytes) (most : ℕ) (mode : Mode) (direction : Direction) (F : Bytes) (P : Option Bytes) (task : TaskParts) → IsTaskText F task → (result : Status) (out : Bytes) → OrPart task most mode result out → Answer (Some (lists file most mode direction)) (Some F) P result out
 list_answers file most mode direction F P task t status.WriteFault out l = part_answers file most mode direction F P task t out l
 list_answers file most mode direction F P task t status.Memory out l = part_answers file most mode direction F P task t out l
 list_answers file most mode direction F P task t status.Reached out l = (task, t, l)
@@ -145,7 +135,7 @@ list_answers file most mode direction F P task t result out l = absurd (listing_
 
 pub lists_answered : (told : Option Told) (file : Bytes) (most : ℕ) (mode : Mode) (direction : Direction) (task : TaskParts) (old new : Option Bytes) (result : Status) → HasText told file (λ F. IsTaskText F task) → Puts (OrPart task most mode) old new result → Answered (Some (lists file most mode direction)) told old new result
 lists_answered told file most mode direction task old new result h p =
-    record { F = h.0; P = []; texts = h.1; out = p.0; taken = p.1; answer = list_answers file most mode direction h.0 [] task h.2 result p.0 p.2 }
+    record { F = Some h.0; P = None; texts = h.1; out = p.0; taken = p.1; answer = list_answers file most mode direction h.0 None task h.2 result p.0 p.2 }
 
 -- a list is judged
 abbrev IsVerdict : Status → Type 0
@@ -160,22 +150,22 @@ is_verdict (checked.Bad plan why) = tt
 verdict_is : (task : TaskParts) (mode : Mode) (blocks : List ReadBlock) (result : Status) (out : Bytes) → Verdict task mode blocks result out → IsVerdict result
 verdict_is task mode blocks result out v = subst IsVerdict (sym v.says) (is_verdict v.found)
 
-verdict_whole : (file plans : Bytes) (mode : Mode) (F P : Bytes) (task : TaskParts) (blocks : List ReadBlock) → IsTaskText F task → IsPlansText P blocks → (result : Status) (out : Bytes) → Verdict task mode blocks result out → Whole (Some (checks file plans mode)) F P result out
+verdict_whole : (file plans : Bytes) (mode : Mode) (F P : Bytes) (task : TaskParts) (blocks : List ReadBlock) → IsTaskText F task → IsPlansText P blocks → (result : Status) (out : Bytes) → Verdict task mode blocks result out → Whole (Some (checks file plans mode)) (Some F) (Some P) result out
 verdict_whole file plans mode F P task blocks t p status.Good out v = (task, t, (blocks, p, v))
 verdict_whole file plans mode F P task blocks t p status.BadList out v = (task, t, (blocks, p, v))
 verdict_whole file plans mode F P task blocks t p result out v = absurd (verdict_is task mode blocks result out v)
 
 pub checks_answered : (told : Option Told) (file plans : Bytes) (mode : Mode) (task : TaskParts) (blocks : List ReadBlock) (old new : Option Bytes) (result : Status) → HasText told file (λ F. IsTaskText F task) → HasText told plans (λ P. IsPlansText P blocks) → Puts (OrFront (Verdict task mode blocks)) old new result → Answered (Some (checks file plans mode)) told old new result
 checks_answered told file plans mode task blocks old new result f p v =
-    front_answered (Some (checks file plans mode)) told f.0 p.0 (Verdict task mode blocks) old new result (verdict_whole file plans mode f.0 p.0 task blocks f.2 p.2) (f.1, p.1) v
+    front_answered (Some (checks file plans mode)) told (Some f.0) (Some p.0) (Verdict task mode blocks) old new result (verdict_whole file plans mode f.0 p.0 task blocks f.2 p.2) (f.1, p.1) v
 
 -- a demonstration is shown
-summary_whole : (number : ℕ) (result : Status) (out : Bytes) → IsSummary number result out → Whole (Some (shows number)) [] [] result out
+summary_whole : (number : ℕ) (result : Status) (out : Bytes) → IsSummary number result out → Whole (Some (shows number)) None None result out
 summary_whole number status.Shown out m = m
 summary_whole number result out m = absurd m
 
 pub shows_answered : (told : Option Told) (number : ℕ) (old new : Option Bytes) (result : Status) → Puts (OrFront (IsSummary number)) old new result → Answered (Some (shows number)) told old new result
-shows_answered told number old new result p = front_answered (Some (shows number)) told [] [] (IsSummary number) old new result (summary_whole number) tt p
+shows_answered told number old new result p = front_answered (Some (shows number)) told None None (IsSummary number) old new result (summary_whole number) tt p
 
 -- the text that the program puts is the usage text
 pub usage_is : USAGE.now ≡ usage_text

@@ -1,8 +1,7 @@
 -- From the answer and the causes: what can't come.
-use Rattle.std.proofs.Common.{◌≡◌, ◌≢◌, ◌∙◌, ap, sym, refl, subst, inl, inr, ℕ, ◌+◌, ◌-◌, ◌^◌, ◌<◌, ◌≤◌, ◌⊎◌, List, ◌++◌, length, take, drop, Option, Some, None, IsSome, IfSome, arith, min}
+use Rattle.std.proofs.Common.{◌≡◌, ◌≢◌, ◌∙◌, ap, sym, refl, subst, inl, inr, ℕ, ◌+◌, ◌-◌, ◌^◌, ◌<◌, ◌≤◌, ◌⊎◌, List, ◌++◌, length, take, drop, Option, Some, None, IsSome, IfSome, IsSomeAnd, arith, min}
 use Rattle.std.proofs.lemmas.List.{take-append-drop}
 use Rattle.symk_io.specs.View.{Bytes, FilesView, SinkView, Told}
-use Rattle.symk_io.specs.Told.{IsTextOf}
 use Rattle.symk_io.specs.Causes.{Rose}
 use Rattle.symk_task.specs.declared.parts.Mode.{Mode}
 use Rattle.symk_task.specs.declared.parts.TaskParts.{TaskParts}
@@ -17,6 +16,7 @@ use Rattle.symk_cli.specs.declared.status.Status.TheVariants as status
 use Rattle.symk_cli.specs.Ends.{HasCauses}
 use Rattle.symk_cli.specs.Wishes.{Wish, lists, checks, shows, wish_of}
 use Rattle.symk_cli.specs.LawfulWords.{AreLawful}
+use Rattle.symk_cli.specs.Named.{IsToldText}
 use Rattle.symk_cli.specs.Refusals.{IsTaskText, FileOffence}
 use Rattle.symk_cli.specs.Plans.{IsPlansText, PlansOffence}
 use Rattle.symk_cli.specs.Answer.{Answer, AreTexts, Answered}
@@ -38,16 +38,38 @@ plans_offend_not P out blocks plans o = let offends = o.offends in not_offending
 did_not_rise : (before now : ℕ) → IsQuiet before now → Rose before now → ⊥
 did_not_rise before now q rose = let same = q.0 in let below = q.1 in omega (arith, same, below, rose)
 
--- the text is the one told
-told_text : (told : Option Told) (name F G : Bytes) → TellsText told name F → IsTextOf told name G → F ≡ G
-told_text None name F G t h = absurd t
-told_text (Some t) name F G is h = subst (λ o. IfSome o (λ x. x ≡ G)) is h
+-- the text that was read is the one told
+told_same : (told : Option Told) (name F G : Bytes) → TellsText told name F → IsToldText told name G → F ≡ G
+told_same None name F G is other = absurd is
+told_same (Some t) name F G is other = let same : Some F ≡ Some G = sym is ∙ other in cc
 
-task_text : (told : Option Told) (name F G : Bytes) (task : TaskParts) → TellsText told name F → IsTextOf told name G → IsTaskText F task → IsTaskText G task
-task_text told name F G task is text t = subst (λ (x : Bytes). IsTaskText x task) (told_text told name F G is text) t
+read_task : (told : Option Told) (name F : Bytes) (task : TaskParts) (read : Option Bytes) → TellsText told name F → IsTaskText F task → IfSome read (IsToldText told name) → IfSome read (λ text. IsTaskText text task)
+read_task told name F task None is t texts = tt
+read_task told name F task (Some G) is t texts = subst (λ (x : Bytes). IsTaskText x task) (told_same told name F G is texts) t
 
-plans_text : (told : Option Told) (name P G : Bytes) (blocks : List ReadBlock) → TellsText told name P → IsTextOf told name G → IsPlansText P blocks → IsPlansText G blocks
-plans_text told name P G blocks is text t = subst (λ (x : Bytes). IsPlansText x blocks) (told_text told name P G is text) t
+read_plans : (told : Option Told) (name P : Bytes) (blocks : List ReadBlock) (read : Option Bytes) → TellsText told name P → IsPlansText P blocks → IfSome read (IsToldText told name) → IfSome read (λ text. IsPlansText text blocks)
+read_plans told name P blocks None is t texts = tt
+read_plans told name P blocks (Some G) is t texts = subst (λ (x : Bytes). IsPlansText x blocks) (told_same told name P G is texts) t
+
+-- so it is not too long, and no line of it offends
+too_long : (F : Bytes) → length F ≤ LIMIT → LIMIT < length F → ⊥
+too_long F short long = omega (arith, short, long)
+
+task_short : (task : TaskParts) (read : Option Bytes) → IfSome read (λ text. IsTaskText text task) → IsSomeAnd read (λ text. LIMIT < length text) → ⊥
+task_short task None t long = long
+task_short task (Some F) t long = too_long F t.short long
+
+task_lawful : (task : TaskParts) (out : Bytes) (read : Option Bytes) → IfSome read (λ text. IsTaskText text task) → IsSomeAnd read (λ text. FileOffence text out) → ⊥
+task_lawful task out None t offence = offence
+task_lawful task out (Some F) t offence = file_offends_not F out task t.file offence
+
+plans_short : (blocks : List ReadBlock) (read : Option Bytes) → IfSome read (λ text. IsPlansText text blocks) → IsSomeAnd read (λ text. LIMIT < length text) → ⊥
+plans_short blocks None t long = long
+plans_short blocks (Some P) t long = too_long P t.short long
+
+plans_lawful : (blocks : List ReadBlock) (out : Bytes) (read : Option Bytes) → IfSome read (λ text. IsPlansText text blocks) → IsSomeAnd read (λ text. PlansOffence text out) → ⊥
+plans_lawful blocks out None t offence = offence
+plans_lawful blocks out (Some P) t offence = plans_offend_not P out blocks t.plans offence
 
 not_both : (wish : Option Wish) → IsSome wish → wish ≡ None → ⊥
 not_both wish some none = let h = subst (λ o. IsSome o) none some in cc
@@ -60,9 +82,6 @@ never_usage words told old new result a lawful e =
 some_none : (wish : Wish) → Some wish ≡ None → ⊥
 some_none wish e = cc
 
-too_long : (F : Bytes) → length F ≤ LIMIT → LIMIT < length F → ⊥
-too_long F short long = omega (arith, short, long)
-
 -- what is asked for over a text that is a task file
 lists_finish : (told : Option Told) (file : Bytes) (most : ℕ) (mode : Mode) (direction : Direction) (old new : Option Bytes) (result : Status) → TellsTexts told (lists file most mode direction)
     → (result ≡ status.Unreadable → ⊥) → (result ≡ status.WriteFault → ⊥) → Answered (Some (lists file most mode direction)) told old new result → Finishes (lists file most mode direction) result ⊎ (result ≡ status.Memory)
@@ -74,21 +93,17 @@ lists_finish told file most mode direction old new status.Unreadable t u w a = a
 lists_finish told file most mode direction old new status.WriteFault t u w a = absurd (w refl)
 lists_finish told file most mode direction old new status.Usage t u w a = absurd (some_none (lists file most mode direction) a.answer.0)
 lists_finish told file most mode direction old new status.TooLong t u w a =
-    let is = task_text told file t.0 a.F t.1 t.2 a.texts t.3 in absurd (too_long a.F is.short a.answer.0)
+    absurd (task_short t.1 a.F (read_task told file t.0 t.1 a.F t.2 t.3 a.texts) a.answer.0)
 lists_finish told file most mode direction old new status.Offending t u w a =
-    let is = task_text told file t.0 a.F t.1 t.2 a.texts t.3 in absurd (file_offends_not a.F a.out t.1 is.file a.answer)
+    absurd (task_lawful t.1 a.out a.F (read_task told file t.0 t.1 a.F t.2 t.3 a.texts) a.answer)
 lists_finish told file most mode direction old new status.Good t u w a = absurd a.answer
 lists_finish told file most mode direction old new status.BadList t u w a = absurd a.answer
 lists_finish told file most mode direction old new status.Shown t u w a = absurd a.answer
 
--- a text of the two that is too long, or offends
-checks_short : (F P : Bytes) (task : TaskParts) (blocks : List ReadBlock) (A B : Type 0) → IsTaskText F task → IsPlansText P blocks → ((LIMIT < length F) × A) ⊎ ((other : TaskParts) × IsTaskText F other × ((LIMIT < length P) × B)) → ⊥
-checks_short F P task blocks A B f p (inl h) = too_long F f.short h.0
-checks_short F P task blocks A B f p (inr h) = let long = h.2.0 in too_long P p.short long
-
-checks_lawful : (F P out : Bytes) (task : TaskParts) (blocks : List ReadBlock) → IsTaskText F task → IsPlansText P blocks → FileOffence F out ⊎ ((other : TaskParts) × IsTaskText F other × PlansOffence P out) → ⊥
-checks_lawful F P out task blocks f p (inl h) = file_offends_not F out task f.file h
-checks_lawful F P out task blocks f p (inr h) = plans_offend_not P out blocks p.plans h.2
+-- one of the two texts is too long, or offends
+either : (A B C : Type 0) → (A → ⊥) → (C → ⊥) → A ⊎ (B × C) → ⊥
+either A B C f g (inl a) = f a
+either A B C f g (inr h) = g h.1
 
 -- and over one that is a plan text
 checks_finish : (told : Option Told) (file plans : Bytes) (mode : Mode) (old new : Option Bytes) (result : Status) → TellsTexts told (checks file plans mode)
@@ -100,13 +115,9 @@ checks_finish told file plans mode old new status.Unreadable t u w a = absurd (u
 checks_finish told file plans mode old new status.WriteFault t u w a = absurd (w refl)
 checks_finish told file plans mode old new status.Usage t u w a = absurd (some_none (checks file plans mode) a.answer.0)
 checks_finish told file plans mode old new status.TooLong t u w a =
-    let f = task_text told file t.0.0 a.F t.0.1 t.0.2 a.texts.0 t.0.3 in
-    let p = plans_text told plans t.1.0 a.P t.1.1 t.1.2 a.texts.1 t.1.3 in
-    absurd (checks_short a.F a.P t.0.1 t.1.1 _ _ f p a.answer)
+    absurd (either _ _ _ (λ h. task_short t.0.1 a.F (read_task told file t.0.0 t.0.1 a.F t.0.2 t.0.3 a.texts.0) h.0) (λ h. plans_short t.1.1 a.P (read_plans told plans t.1.0 t.1.1 a.P t.1.2 t.1.3 a.texts.1) h.0) a.answer)
 checks_finish told file plans mode old new status.Offending t u w a =
-    let f = task_text told file t.0.0 a.F t.0.1 t.0.2 a.texts.0 t.0.3 in
-    let p = plans_text told plans t.1.0 a.P t.1.1 t.1.2 a.texts.1 t.1.3 in
-    absurd (checks_lawful a.F a.P a.out t.0.1 t.1.1 f p a.answer)
+    absurd (either _ _ _ (λ h. task_lawful t.0.1 a.out a.F (read_task told file t.0.0 t.0.1 a.F t.0.2 t.0.3 a.texts.0) h) (λ h. plans_lawful t.1.1 a.out a.P (read_plans told plans t.1.0 t.1.1 a.P t.1.2 t.1.3 a.texts.1) h) a.answer)
 checks_finish told file plans mode old new status.Reached t u w a = absurd a.answer
 checks_finish told file plans mode old new status.Exhausted t u w a = absurd a.answer
 checks_finish told file plans mode old new status.CostRange t u w a = absurd a.answer

@@ -10,3 +10,4 @@ pub mod ReadBack
 pub mod Refusing
 pub mod Opening
 pub mod Completed
+pub mod Long

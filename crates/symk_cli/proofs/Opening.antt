@@ -2,7 +2,7 @@
 use Rattle.std.proofs.Common.{◌≡◌, ◌∙◌, ap, sym, refl, subst, inl, inr, ℕ, ◌+◌, ◌⊎◌, List, [], ◌∷◌, ◌++◌, length, take, Option, Some, None, IfSome, Result, Ok, Err, MatchResult, arith, append_assoc}
 use Rattle.std.proofs.lemmas.List.{append-nil, length_push}
 use Rattle.symk_io.specs.View.{Bytes, Tells, Grew, GrewByPart, SinkView, Told}
-use Rattle.symk_io.specs.Told.{IsTextOf, Opened, MayOpen}
+use Rattle.symk_io.specs.Told.{Opened, MayOpen}
 use Rattle.symk_io.specs.Causes.{Rose}
 use Rattle.symk_cli.specs.declared.reading.Named.{Named}
 use Rattle.symk_cli.specs.declared.reading.Named.TheVariants.{File, Plans}
@@ -11,15 +11,19 @@ use Rattle.symk_cli.specs.declared.status.Status.TheVariants as status
 use Rattle.symk_cli.specs.Ends.{Ends, HasCauses, OrFront, Puts}
 use Rattle.symk_cli.specs.Plans.{PlansRefused}
 use Rattle.symk_cli.specs.Refusals.{unreadable_text}
-use Rattle.symk_cli.specs.Named.{HasText, StopsAt}
+use Rattle.symk_cli.specs.Named.{IsToldText, HasText, HasRead, StopsAt}
 use Rattle.symk_cli.specs.Opens.{OpensFirst, Opens}
 
 -- reading a file leaves the texts
-pub text_before : (name other : Bytes) (old new : Option Told) (text : Bytes) → Tells (Opened name) old new → IsTextOf new other text → IsTextOf old other text
+pub text_before : (name other : Bytes) (old new : Option Told) (text : Bytes) → Tells (Opened name) old new → IsToldText new other text → IsToldText old other text
 text_before name other None None text t h = tt
 text_before name other None (Some b) text t h = absurd t
 text_before name other (Some a) None text t h = absurd t
-text_before name other (Some a) (Some b) text t h = subst (λ (f : Bytes → Option Bytes). IfSome (f other) (λ x. x ≡ text)) t.texts h
+text_before name other (Some a) (Some b) text t h = subst (λ (f : Bytes → Option Bytes). f other ≡ Some text) t.texts h
+
+read_before : (name other : Bytes) (old new : Option Told) (read : Option Bytes) → Tells (Opened name) old new → IfSome read (IsToldText new other) → IfSome read (IsToldText old other)
+read_before name other old new None t h = tt
+read_before name other old new (Some text) t h = text_before name other old new text t h
 
 -- an end of another status is not unreadable
 pub end_readable : (wanted : Status) (text : Bytes) (old new : SinkView) (result : Status) → (wanted ≡ status.Unreadable → ⊥) → Ends wanted text old new result → result ≡ status.Unreadable → ⊥
@@ -135,7 +139,7 @@ text_of_before IsSo name other old new t h = (h.0, text_before name other old ne
 pub stops_after : (named : Named) (name : Bytes) (told told' : Option Told) (old mid new : SinkView) (result : Status) → mid ≡ old → StopsAt named name told told' mid.taken new.taken result → StopsAt named name told told' old.taken new.taken result
 stops_after named name told told' old mid new result same s = subst (λ (v : SinkView). StopsAt named name told told' v.taken new.taken result) same s
 
-pub plans_refused_before : (told mid : Option Told) (file plans : Bytes) (old then new : SinkView) (result : Status) → Tells (Opened file) told mid → then ≡ old → HasText mid plans (λ P. Puts (OrFront (PlansRefused P)) then.taken new.taken result) → HasText told plans (λ P. Puts (OrFront (PlansRefused P)) old.taken new.taken result)
+pub plans_refused_before : (told mid : Option Told) (file plans : Bytes) (old then new : SinkView) (result : Status) → Tells (Opened file) told mid → then ≡ old → HasRead mid plans (λ P. Puts (OrFront (PlansRefused P)) then.taken new.taken result) → HasRead told plans (λ P. Puts (OrFront (PlansRefused P)) old.taken new.taken result)
 plans_refused_before told mid file plans old then new result t same h =
-    let h' : HasText told plans (λ P. Puts (OrFront (PlansRefused P)) then.taken new.taken result) = text_of_before (λ P. Puts (OrFront (PlansRefused P)) then.taken new.taken result) file plans told mid t h in
-    subst (λ (v : SinkView). HasText told plans (λ P. Puts (OrFront (PlansRefused P)) v.taken new.taken result)) same h'
+    let p = h.2 in
+    (h.0, read_before file plans told mid h.0 t h.1, subst (λ (v : SinkView). Puts (OrFront (PlansRefused h.0)) v.taken new.taken result) same p)

@@ -1,10 +1,10 @@
 -- The answer of the program.
-use Rattle.std.specs.Prelude.{◌≡◌, ℕ, ◌⊎◌, ◌++◌, ⊤, List, [], codes, Option, Some, None}
+use Rattle.std.specs.Prelude.{◌≡◌, ℕ, ◌⊎◌, ◌++◌, ⊤, List, [], codes, Option, Some, None, IfSome, IsSomeAnd}
 use Rattle.symk_io.specs.View.{Bytes, Tells, Grew, Told}
-use Rattle.symk_io.specs.Told.{IsTextOf}
 use Rattle.symk_task.specs.declared.parts.TaskParts.{TaskParts}
 use Rattle.symk_cli.specs.Wishes.{Wish, lists, checks, shows}
-use Rattle.symk_cli.specs.Refusals.{IsTaskText, FileRefused}
+use Rattle.symk_cli.specs.Named.{IsToldText}
+use Rattle.symk_cli.specs.Refusals.{IsTaskText, IsTask, FileRefused}
 use Rattle.symk_cli.specs.Plans.{PlansRefused, Judged}
 use Rattle.symk_cli.specs.Ends.{IsFront}
 use Rattle.symk_cli.specs.Lists.{Listing, PartListing}
@@ -20,25 +20,25 @@ usage_text =
     ++ codes "       symk demo N\n"
 
 -- a file that is asked for is refused: FILE, or PLANS after a FILE that is a task file
-abbrev pub Refused : Option Wish → Bytes → Bytes → Status → Bytes → Type 0
+abbrev pub Refused : Option Wish → Option Bytes → Option Bytes → Status → Bytes → Type 0
 Refused (Some (lists file most mode direction)) F P result out = FileRefused F result out
-Refused (Some (checks file plans mode)) F P result out = FileRefused F result out ⊎ ((task : TaskParts) × IsTaskText F task × PlansRefused P result out)
+Refused (Some (checks file plans mode)) F P result out = FileRefused F result out ⊎ (IsTask F × PlansRefused P result out)
 Refused (Some (shows number)) F P result out = ⊥
 Refused None F P result out = ⊥
 
 -- plans of the task that FILE states are listed
-abbrev pub Lists : Option Wish → Bytes → Status → Bytes → Type 0
-Lists (Some (lists file most mode direction)) F result out = (task : TaskParts) × IsTaskText F task × Listing task most mode result out
+abbrev pub Lists : Option Wish → Option Bytes → Status → Bytes → Type 0
+Lists (Some (lists file most mode direction)) F result out = IsSomeAnd F (λ text. (task : TaskParts) × IsTaskText text task × Listing task most mode result out)
 Lists wish F result out = ⊥
 
 -- a front of a list goes out
-abbrev pub PartLists : Option Wish → Bytes → Bytes → Type 0
-PartLists (Some (lists file most mode direction)) F out = (task : TaskParts) × IsTaskText F task × PartListing task most mode out
+abbrev pub PartLists : Option Wish → Option Bytes → Bytes → Type 0
+PartLists (Some (lists file most mode direction)) F out = IsSomeAnd F (λ text. (task : TaskParts) × IsTaskText text task × PartListing task most mode out)
 PartLists wish F out = ⊥
 
 -- the blocks that PLANS states are judged by the task that FILE states
-abbrev pub Judges : Option Wish → Bytes → Bytes → Status → Bytes → Type 0
-Judges (Some (checks file plans mode)) F P result out = (task : TaskParts) × IsTaskText F task × Judged task mode P result out
+abbrev pub Judges : Option Wish → Option Bytes → Option Bytes → Status → Bytes → Type 0
+Judges (Some (checks file plans mode)) F P result out = IsSomeAnd F (λ text. (task : TaskParts) × IsTaskText text task × Judged task mode P result out)
 Judges wish F P result out = ⊥
 
 -- a demonstration is summed up
@@ -47,7 +47,7 @@ Shows (Some (shows number)) result out = IsSummary number result out
 Shows wish result out = ⊥
 
 -- the whole text that a status comes with
-abbrev pub Whole : Option Wish → Bytes → Bytes → Status → Bytes → Type 0
+abbrev pub Whole : Option Wish → Option Bytes → Option Bytes → Status → Bytes → Type 0
 Whole wish F P status.Usage out = (wish ≡ None) × (out ≡ usage_text)
 Whole wish F P status.Unreadable out = Refused wish F P status.Unreadable out
 Whole wish F P status.TooLong out = Refused wish F P status.TooLong out
@@ -62,26 +62,28 @@ Whole wish F P status.WriteFault out = ⊥
 Whole wish F P status.Memory out = ⊥
 
 -- nothing, a front of a whole text, or a front of a list that goes on
-abbrev pub Part : Option Wish → Bytes → Bytes → Bytes → Type 0
+abbrev pub Part : Option Wish → Option Bytes → Option Bytes → Bytes → Type 0
 Part wish F P out = (out ≡ []) ⊎ ((result : Status) × (whole : Bytes) × Whole wish F P result whole × IsFront out whole) ⊎ PartLists wish F out
 
--- What the sink took, given what is asked for and the texts of FILE and PLANS: a whole text, or a part where the sink failed or memory was wanting.
-abbrev pub Answer : Option Wish → Bytes → Bytes → Status → Bytes → Type 0
+-- What the sink took under a status, given what is asked for and the texts that were read of FILE and PLANS: a whole text, or a
+-- part of one where the sink failed or memory was wanting.
+abbrev pub Answer : Option Wish → Option Bytes → Option Bytes → Status → Bytes → Type 0
 Answer wish F P status.WriteFault out = Part wish F P out
 Answer wish F P status.Memory out = Part wish F P out
 Answer wish F P result out = Whole wish F P result out
 
--- the texts of the files that are asked for, where they are told
-abbrev pub AreTexts : Option Told → Option Wish → Bytes → Bytes → Type 0
+-- what was read of the files that are asked for are their texts, those told where texts are told
+abbrev pub AreTexts : Option Told → Option Wish → Option Bytes → Option Bytes → Type 0
 AreTexts told None F P = ⊤
-AreTexts told (Some (lists file most mode direction)) F P = IsTextOf told file F
-AreTexts told (Some (checks file plans mode)) F P = IsTextOf told file F × IsTextOf told plans P
+AreTexts told (Some (lists file most mode direction)) F P = IfSome F (IsToldText told file)
+AreTexts told (Some (checks file plans mode)) F P = IfSome F (IsToldText told file) × IfSome P (IsToldText told plans)
 AreTexts told (Some (shows number)) F P = ⊤
 
--- There are texts of FILE and PLANS, which are those told, and bytes, which are those taken, and they answer what is asked for.
+-- There are texts that were read of FILE and PLANS, which are those told, and bytes, which are those taken, and they answer what
+-- is asked for.
 pub record Answered (wish : Option Wish) (told : Option Told) (old new : Option Bytes) (result : Status) : Type 0 where
-  pub F : Bytes
-  pub P : Bytes
+  pub F : Option Bytes
+  pub P : Option Bytes
   pub texts : AreTexts told wish F P
   pub out : Bytes
   pub taken : Tells (Grew out) old new

@@ -1,5 +1,5 @@
 -- Plan texts: why PLANS is refused, and the verdict on it.
-use Rattle.std.specs.Prelude.{◌≡◌, ℕ, ◌≤◌, List, length}
+use Rattle.std.specs.Prelude.{◌≡◌, ℕ, ◌≤◌, List, length, Option, IsSomeAnd}
 use Rattle.symk_io.specs.View.{Bytes}
 use Rattle.symk_text.specs.Lines.{lines}
 use Rattle.symk_task.specs.declared.parts.Mode.{Mode}
@@ -28,10 +28,10 @@ pub record PlansOffence (P out : Bytes) : Type 0 where
   pub text : out ≡ plans_offence_text line
 
 -- PLANS is refused under the status, with the text
-abbrev pub PlansRefused : Bytes → Status → Bytes → Type 0
-PlansRefused P status.Offending out = PlansOffence P out
+abbrev pub PlansRefused : Option Bytes → Status → Bytes → Type 0
+PlansRefused P status.Offending out = IsSomeAnd P (λ text. PlansOffence text out)
 PlansRefused P result out = TextRefused named.Plans P result out
 
 -- the blocks that PLANS states are judged
-abbrev pub Judged : TaskParts → Mode → Bytes → Status → Bytes → Type 0
-Judged task mode P result out = (blocks : List ReadBlock) × IsPlansText P blocks × Verdict task mode blocks result out
+abbrev pub Judged : TaskParts → Mode → Option Bytes → Status → Bytes → Type 0
+Judged task mode P result out = IsSomeAnd P (λ text. (blocks : List ReadBlock) × IsPlansText text blocks × Verdict task mode blocks result out)

@@ -1,5 +1,5 @@
 -- Why a file is refused, and the text that says so.
-use Rattle.std.specs.Prelude.{◌≡◌, ℕ, ◌<◌, ◌≤◌, ◌++◌, List, length, codes, decimal}
+use Rattle.std.specs.Prelude.{◌≡◌, ℕ, ◌<◌, ◌≤◌, ◌++◌, List, length, Option, IsSomeAnd, codes, decimal}
 use Rattle.symk_io.specs.View.{Bytes}
 use Rattle.symk_text.specs.Lines.{lines}
 use Rattle.symk_task.specs.declared.parts.TaskParts.{TaskParts}
@@ -35,10 +35,10 @@ unfoldable pub plans_offence_text : ℕ → Bytes
 plans_offence_text line = codes "plans line " ++ decimal line ++ codes "\n"
 
 -- a text can't be read, or has more than 268,435,456 bytes
-abbrev pub TextRefused : Named → Bytes → Status → Bytes → Type 0
-TextRefused named text status.Unreadable out = out ≡ unreadable_text named
-TextRefused named text status.TooLong out = (LIMIT < length text) × (out ≡ too_long_text named)
-TextRefused named text result out = ⊥
+abbrev pub TextRefused : Named → Option Bytes → Status → Bytes → Type 0
+TextRefused named read status.Unreadable out = out ≡ unreadable_text named
+TextRefused named read status.TooLong out = IsSomeAnd read (λ text. LIMIT < length text) × (out ≡ too_long_text named)
+TextRefused named read result out = ⊥
 
 -- The text names the first line of FILE at which no task file can go on so, and what has to stand there.
 pub record FileOffence (F out : Bytes) : Type 0 where
@@ -49,6 +49,10 @@ pub record FileOffence (F out : Bytes) : Type 0 where
   pub text : out ≡ offence_text line wanted
 
 -- FILE is refused under the status, with the text
-abbrev pub FileRefused : Bytes → Status → Bytes → Type 0
-FileRefused F status.Offending out = FileOffence F out
+abbrev pub FileRefused : Option Bytes → Status → Bytes → Type 0
+FileRefused F status.Offending out = IsSomeAnd F (λ text. FileOffence text out)
 FileRefused F result out = TextRefused File F result out
+
+-- FILE is a task file of lawful length
+abbrev pub IsTask : Option Bytes → Type 0
+IsTask F = IsSomeAnd F (λ text. (task : TaskParts) × IsTaskText text task)

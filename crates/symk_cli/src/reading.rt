@@ -2,11 +2,11 @@
 
 ghost use Rattle.std.specs.Prelude.{◌≡◌, ◌≤◌, All, length, IfOk, IfErr, OnOk};
 ghost use Rattle.symk_io.specs.View.{Tells};
-ghost use Rattle.symk_io.specs.Told.{IsTextOf, Opened};
+ghost use Rattle.symk_io.specs.Told.{Opened};
 ghost use Rattle.symk_cli.specs.Ends.{HasCauses, OrFront, Puts};
 ghost use Rattle.symk_cli.specs.Refusals.{IsTaskText, TextRefused, FileRefused, unreadable_text, too_long_text, offence_text, plans_offence_text};
 ghost use Rattle.symk_cli.specs.Plans.{IsPlansText, PlansRefused};
-ghost use Rattle.symk_cli.specs.Named.{HasText, StopsAt};
+ghost use Rattle.symk_cli.specs.Named.{IsToldText, HasText, HasRead, StopsAt};
 
 use crate::LIMIT;
 use crate::ending::{end, end_with};
@@ -55,13 +55,13 @@ pub fn text_of<F: Files, K: Sink>(
     named: Named,
     name: &str,
 ) -> Result<Vec<u8>, Status>
-    ensures text { IfOk result (λ text. IsTextOf (F.view files.old).told name.now text.items) }
+    ensures text { IfOk result (λ text. IsToldText (F.view files.old).told name.now text.items) }
     ensures within { IfOk result (λ text. length text.items ≤ LIMIT) }
     ensures opened { OnOk result (Tells (Opened name.now) (F.view files.old).told (F.view files.new).told) }
     ensures quiet { OnOk result (((F.view files.new).faults ≡ (F.view files.old).faults) × ((K.view sink.new).faults ≡ (K.view sink.old).faults)) }
     ensures untouched { OnOk result (K.view sink.new ≡ K.view sink.old) }
-    ensures refused { IfErr result (λ status. HasText (F.view files.old).told name.now
-        (λ text. Puts (OrFront (TextRefused named text)) (K.view sink.old).taken (K.view sink.new).taken status)) }
+    ensures refused { IfErr result (λ status. HasRead (F.view files.old).told name.now
+        (λ read. Puts (OrFront (TextRefused named read)) (K.view sink.old).taken (K.view sink.new).taken status)) }
     ensures stops { IfErr result (StopsAt named name.now (F.view files.old).told (F.view files.new).told (K.view sink.old).taken (K.view sink.new).taken) }
     ensures causes { IfErr result (λ status. HasCauses status (F.view files.old).faults (F.view files.new).faults (K.view sink.old).faults (K.view sink.new).faults) }
 {
@@ -84,8 +84,8 @@ pub fn task_of<F: Files, K: Sink>(
     ensures opened { OnOk result (Tells (Opened name.now) (F.view files.old).told (F.view files.new).told) }
     ensures quiet { OnOk result (((F.view files.new).faults ≡ (F.view files.old).faults) × ((K.view sink.new).faults ≡ (K.view sink.old).faults)) }
     ensures untouched { OnOk result (K.view sink.new ≡ K.view sink.old) }
-    ensures refused { IfErr result (λ status. HasText (F.view files.old).told name.now
-        (λ text. Puts (OrFront (FileRefused text)) (K.view sink.old).taken (K.view sink.new).taken status)) }
+    ensures refused { IfErr result (λ status. HasRead (F.view files.old).told name.now
+        (λ read. Puts (OrFront (FileRefused read)) (K.view sink.old).taken (K.view sink.new).taken status)) }
     ensures stops { IfErr result (StopsAt Named.File name.now (F.view files.old).told (F.view files.new).told (K.view sink.old).taken (K.view sink.new).taken) }
     ensures causes { IfErr result (λ status. HasCauses status (F.view files.old).faults (F.view files.new).faults (K.view sink.old).faults (K.view sink.new).faults) }
 {
@@ -113,8 +113,8 @@ pub fn plans_of<F: Files, K: Sink>(
     ensures opened { OnOk result (Tells (Opened name.now) (F.view files.old).told (F.view files.new).told) }
     ensures quiet { OnOk result (((F.view files.new).faults ≡ (F.view files.old).faults) × ((K.view sink.new).faults ≡ (K.view sink.old).faults)) }
     ensures untouched { OnOk result (K.view sink.new ≡ K.view sink.old) }
-    ensures refused { IfErr result (λ status. HasText (F.view files.old).told name.now
-        (λ text. Puts (OrFront (PlansRefused text)) (K.view sink.old).taken (K.view sink.new).taken status)) }
+    ensures refused { IfErr result (λ status. HasRead (F.view files.old).told name.now
+        (λ read. Puts (OrFront (PlansRefused read)) (K.view sink.old).taken (K.view sink.new).taken status)) }
     ensures stops { IfErr result (StopsAt Named.Plans name.now (F.view files.old).told (F.view files.new).told (K.view sink.old).taken (K.view sink.new).taken) }
     ensures causes { IfErr result (λ status. HasCauses status (F.view files.old).faults (F.view files.new).faults (K.view sink.old).faults (K.view sink.new).faults) }
 {

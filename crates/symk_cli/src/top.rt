@@ -9,6 +9,7 @@ ghost use Rattle.symk_cli.specs.LawfulWords.{AreLawful};
 ghost use Rattle.symk_cli.specs.Answer.{Answered, usage_text};
 ghost use Rattle.symk_cli.specs.Opens.{Opens};
 ghost use Rattle.symk_cli.specs.Complete.{Complete};
+ghost use Rattle.symk_cli.specs.Lengths.{Lengths};
 
 use crate::checking::judge;
 use crate::ending::end;
@@ -43,7 +44,10 @@ pub fn run<F: Files, K: Sink>(
     ensures causes { HasCauses result (F.view files.old).faults (F.view files.new).faults (K.view sink.old).faults (K.view sink.new).faults }
     // The files are opened in their order, and none but those asked for.
     ensures opened { Opens (names_of (wish_of (map (λ w. string_bytes w) words.now))) (F.view files.old).told (F.view files.new).told (K.view sink.old).taken (K.view sink.new).taken result }
+    // Usage comes of no lawful words, and too long of no text that isn't.
     ensures lawful { AreLawful (map (λ w. string_bytes w) words.now) → result ≢ Status.Usage }
+    ensures lengths { Lengths (wish_of (map (λ w. string_bytes w) words.now)) (F.view files.old).told result }
+    // Where nothing stands against it, what is asked for comes, unless memory is wanting.
     ensures complete { Complete (wish_of (map (λ w. string_bytes w) words.now)) (F.view files.old) (F.view files.new) (K.view sink.old) (K.view sink.new) result }
 {
     answer(alloc, words, files, sink)

@@ -1,4 +1,5 @@
 use Rattle.symk_cli.proofs.Completed.{never_usage, completed}
+use Rattle.symk_cli.proofs.Long.{lengths_of}
 use Rattle.symk_cli.proofs.top.run.Goals as goal
 
 pub returns-clause-lawful : goal.returns-clause-lawful
@@ -6,3 +7,6 @@ returns-clause-lawful g c = never_usage _ _ _ _ _ c.answer.ensures.answer
 
 pub returns-clause-complete : goal.returns-clause-complete
 returns-clause-complete g c = completed _ (g.F.Files.view c.args.files.now) (g.F.Files.view c.answer.new.files) (g.K.Sink.view c.args.sink.now) (g.K.Sink.view c.answer.new.sink) _ c.answer.ensures.answer c.answer.ensures.causes
+
+pub returns-clause-lengths : goal.returns-clause-lengths
+returns-clause-lengths g c = lengths_of _ _ _ _ _ c.answer.ensures.answer

@@ -1,0 +1,92 @@
+-- Which texts are too long, from the answer.
+use Rattle.std.proofs.Common.{◌≡◌, subst, inl, inr, ℕ, ◌<◌, ◌≤◌, ◌⊎◌, List, length, Option, Some, None, IfSome, IsSomeAnd}
+use Rattle.symk_io.specs.View.{Bytes, Told}
+use Rattle.symk_task.specs.declared.parts.Mode.{Mode}
+use Rattle.symk_task.specs.declared.parts.TaskParts.{TaskParts}
+use Rattle.plan_out.specs.declared.blocks.ReadBlock.{ReadBlock}
+use Rattle.symk_cli.specs.declared.request.Direction.{Direction}
+use Rattle.symk_cli.specs.declared.status.Status.{Status}
+use Rattle.symk_cli.specs.declared.status.Status.TheVariants as status
+use Rattle.symk_cli.specs.Wishes.{Wish, lists, checks, shows}
+use Rattle.symk_cli.specs.Named.{IsToldText, HasText}
+use Rattle.symk_cli.specs.Refusals.{IsTaskText, IsTask, FileOffence}
+use Rattle.symk_cli.specs.Plans.{IsPlansText, PlansOffence}
+use Rattle.symk_cli.specs.Verdicts.{Verdict}
+use Rattle.symk_cli.specs.Lists.{Listing}
+use Rattle.symk_cli.specs.Answer.{Answer, Answered}
+use Rattle.symk_cli.specs.Lengths.{IsShort, IsLong, IsOffending, PlanLengths, CheckLengths, Lengths}
+use Rattle.symk_cli.specs.declared.TheConstants.{LIMIT}
+
+-- a text that was read is so, and what follows of it
+has_text : (told : Option Told) (name : Bytes) (IsSo Other : Bytes → Type 0) (read : Option Bytes) → ((text : Bytes) → IsSo text → Other text) → IfSome read (IsToldText told name) → IsSomeAnd read IsSo → HasText told name Other
+has_text told name IsSo Other None f t so = absurd so
+has_text told name IsSo Other (Some text) f t so = (text, t, f text so)
+
+long_text : (told : Option Told) (name : Bytes) (read : Option Bytes) → IfSome read (IsToldText told name) → IsSomeAnd read (λ text. LIMIT < length text) → IsLong told name
+long_text told name read t so = has_text told name (λ text. LIMIT < length text) (λ text. LIMIT < length text) read (λ text h. h) t so
+
+offending_text : (told : Option Told) (name out : Bytes) (read : Option Bytes) → IfSome read (IsToldText told name) → IsSomeAnd read (λ text. FileOffence text out) → IsOffending told name
+offending_text told name out read t so = has_text told name (λ text. FileOffence text out) (λ text. (out : Bytes) × FileOffence text out) read (λ text h. (out, h)) t so
+
+short_task : (told : Option Told) (name : Bytes) (read : Option Bytes) → IfSome read (IsToldText told name) → IsTask read → IsShort told name
+short_task told name read t so = has_text told name (λ text. (task : TaskParts) × IsTaskText text task) (λ text. length text ≤ LIMIT) read (λ text h. h.1.short) t so
+
+short_listed : (told : Option Told) (name : Bytes) (More : TaskParts → Type 0) (read : Option Bytes) → IfSome read (IsToldText told name) → IsSomeAnd read (λ text. (task : TaskParts) × IsTaskText text task × More task) → IsShort told name
+short_listed told name More read t so = has_text told name (λ text. (task : TaskParts) × IsTaskText text task × More task) (λ text. length text ≤ LIMIT) read (λ text h. h.1.short) t so
+
+short_offence : (told : Option Told) (name out : Bytes) (read : Option Bytes) → IfSome read (IsToldText told name) → IsSomeAnd read (λ text. PlansOffence text out) → IsShort told name
+short_offence told name out read t so = has_text told name (λ text. PlansOffence text out) (λ text. length text ≤ LIMIT) read (λ text h. h.short) t so
+
+short_plans : (told : Option Told) (name : Bytes) (More : List ReadBlock → Type 0) (read : Option Bytes) → IfSome read (IsToldText told name) → IsSomeAnd read (λ text. (blocks : List ReadBlock) × IsPlansText text blocks × More blocks) → IsShort told name
+short_plans told name More read t so = has_text told name (λ text. (blocks : List ReadBlock) × IsPlansText text blocks × More blocks) (λ text. length text ≤ LIMIT) read (λ text h. h.1.short) t so
+
+short_judged : (told : Option Told) (file plans : Bytes) (mode : Mode) (result : Status) (out : Bytes) (F P : Option Bytes) → IfSome F (IsToldText told file) → IfSome P (IsToldText told plans)
+    → IsSomeAnd F (λ text. (task : TaskParts) × IsTaskText text task × IsSomeAnd P (λ other. (blocks : List ReadBlock) × IsPlansText other blocks × Verdict task mode blocks result out)) → IsShort told file × IsShort told plans
+short_judged told file plans mode result out None P f p so = absurd so
+short_judged told file plans mode result out (Some text) P f p so =
+    ((text, f, so.1.short), short_plans told plans (λ blocks. Verdict so.0 mode blocks result out) P p so.2)
+
+plan_lengths : (told : Option Told) (file : Bytes) (most : ℕ) (mode : Mode) (direction : Direction) (old new : Option Bytes) (result : Status) → Answered (Some (lists file most mode direction)) told old new result → PlanLengths told file result
+plan_lengths told file most mode direction old new status.TooLong a = long_text told file a.F a.texts a.answer.0
+plan_lengths told file most mode direction old new status.Offending a = offending_text told file a.out a.F a.texts a.answer
+plan_lengths told file most mode direction old new status.Reached a = short_listed told file (λ task. Listing task most mode status.Reached a.out) a.F a.texts a.answer
+plan_lengths told file most mode direction old new status.Exhausted a = short_listed told file (λ task. Listing task most mode status.Exhausted a.out) a.F a.texts a.answer
+plan_lengths told file most mode direction old new status.CostRange a = short_listed told file (λ task. Listing task most mode status.CostRange a.out) a.F a.texts a.answer
+plan_lengths told file most mode direction old new status.Usage a = tt
+plan_lengths told file most mode direction old new status.Unreadable a = tt
+plan_lengths told file most mode direction old new status.WriteFault a = tt
+plan_lengths told file most mode direction old new status.Memory a = tt
+plan_lengths told file most mode direction old new status.Good a = absurd a.answer
+plan_lengths told file most mode direction old new status.BadList a = absurd a.answer
+plan_lengths told file most mode direction old new status.Shown a = absurd a.answer
+
+long_of_two : (told : Option Told) (file plans : Bytes) (A B : Type 0) (F P : Option Bytes) → IfSome F (IsToldText told file) → IfSome P (IsToldText told plans)
+    → (IsSomeAnd F (λ text. LIMIT < length text) × A) ⊎ (IsTask F × (IsSomeAnd P (λ text. LIMIT < length text) × B)) → IsLong told file ⊎ (IsShort told file × IsLong told plans)
+long_of_two told file plans A B F P f p (inl h) = inl (long_text told file F f h.0)
+long_of_two told file plans A B F P f p (inr h) = let long = h.1.0 in inr (short_task told file F f h.0, long_text told plans P p long)
+
+offence_of_two : (told : Option Told) (file plans out : Bytes) (F P : Option Bytes) → IfSome F (IsToldText told file) → IfSome P (IsToldText told plans)
+    → IsSomeAnd F (λ text. FileOffence text out) ⊎ (IsTask F × IsSomeAnd P (λ text. PlansOffence text out)) → IsOffending told file ⊎ (IsShort told file × IsShort told plans)
+offence_of_two told file plans out F P f p (inl h) = inl (offending_text told file out F f h)
+offence_of_two told file plans out F P f p (inr h) = inr (short_task told file F f h.0, short_offence told plans out P p h.1)
+
+check_lengths : (told : Option Told) (file plans : Bytes) (mode : Mode) (old new : Option Bytes) (result : Status) → Answered (Some (checks file plans mode)) told old new result → CheckLengths told file plans result
+check_lengths told file plans mode old new status.TooLong a = long_of_two told file plans _ _ a.F a.P a.texts.0 a.texts.1 a.answer
+check_lengths told file plans mode old new status.Offending a = offence_of_two told file plans a.out a.F a.P a.texts.0 a.texts.1 a.answer
+check_lengths told file plans mode old new status.Good a = short_judged told file plans mode status.Good a.out a.F a.P a.texts.0 a.texts.1 a.answer
+check_lengths told file plans mode old new status.BadList a = short_judged told file plans mode status.BadList a.out a.F a.P a.texts.0 a.texts.1 a.answer
+check_lengths told file plans mode old new status.Usage a = tt
+check_lengths told file plans mode old new status.Unreadable a = tt
+check_lengths told file plans mode old new status.WriteFault a = tt
+check_lengths told file plans mode old new status.Memory a = tt
+check_lengths told file plans mode old new status.Reached a = absurd a.answer
+check_lengths told file plans mode old new status.Exhausted a = absurd a.answer
+check_lengths told file plans mode old new status.CostRange a = absurd a.answer
+check_lengths told file plans mode old new status.Shown a = absurd a.answer
+
+-- what the answer says of lengths
+pub lengths_of : (asked : Option Wish) (told : Option Told) (old new : Option Bytes) (result : Status) → Answered asked told old new result → Lengths asked told result
+lengths_of None told old new result a = λ e. subst (λ s. Answer None a.F a.P s a.out) e a.answer
+lengths_of (Some (lists file most mode direction)) told old new result a = plan_lengths told file most mode direction old new result a
+lengths_of (Some (checks file plans mode)) told old new result a = check_lengths told file plans mode old new result a
+lengths_of (Some (shows number)) told old new result a = λ e. subst (λ s. Answer (Some (shows number)) a.F a.P s a.out) e a.answer

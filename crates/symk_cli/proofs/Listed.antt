@@ -42,11 +42,6 @@ grew_and_part x y (Some a) (Some b) None p q = q
 grew_and_part x y (Some a) (Some b) (Some c) p q =
     (length x + q.0, q.1 ∙ ap (λ z. z ++ take q.0 y) p ∙ append_assoc a x (take q.0 y) ∙ ap (λ z. a ++ z) (sym (take-append-add x y q.0)))
 
--- nothing of a text went out
-pub no_part : (text : Bytes) (old : Option Bytes) → Tells (GrewByPart text) old old
-no_part text None = tt
-no_part text (Some a) = (0, sym (append-nil a))
-
 all_part : (x : Bytes) (old new : Option Bytes) → Tells (Grew x) old new → Tells (GrewByPart x) old new
 all_part x None None p = tt
 all_part x None (Some b) p = p

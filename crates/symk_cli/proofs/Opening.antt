@@ -31,10 +31,6 @@ end_readable wanted text old new result other (inl h) e = other (sym h.0 ∙ e)
 end_readable wanted text old new result other (inr (inl h)) e = let bad : status.WriteFault ≡ status.Unreadable = sym h.0 ∙ e in cc
 end_readable wanted text old new result other (inr (inr h)) e = let bad : status.Memory ≡ status.Unreadable = sym h.0 ∙ e in cc
 
-pub made_readable : {E : Type 0} (wanted : Status) (made : Result Bytes E) (old new : SinkView) (result : Status) → (wanted ≡ status.Unreadable → ⊥) → MatchResult made (λ text. Ends wanted text old new result) (λ _. (result ≡ status.Memory) × (new ≡ old)) → result ≡ status.Unreadable → ⊥
-made_readable wanted (Ok text) old new result other h e = end_readable wanted text old new result other h e
-made_readable wanted (Err x) old new result other h e = let bad : status.Memory ≡ status.Unreadable = sym h.0 ∙ e in cc
-
 -- nor is what only the sink caused
 pub sink_readable : (result : Status) (sink sink' : ℕ) → HasCauses result 0 0 sink sink' → result ≡ status.Unreadable → ⊥
 sink_readable result sink sink' c e = let never : Rose 0 0 = c.unreadable e in absurd (omega (arith, never))
@@ -52,13 +48,6 @@ stops_unreadable named name told told' text old new result may opened e ends =
 -- it stops for another cause
 pub stops_readable : (named : Named) (name : Bytes) (told told' : Option Told) (old new : Option Bytes) (result : Status) → Tells (MayOpen name) told told' → (result ≡ status.Unreadable → ⊥) → StopsAt named name told told' old new result
 stops_readable named name told told' old new result may other = record { names = may; opened = λ e. absurd (other e); unreadable = λ e. absurd (other e) }
-
--- what was opened may have been
-pub may_open : (name : Bytes) (old new : Option Told) → Tells (Opened name) old new → Tells (MayOpen name) old new
-may_open name None None t = tt
-may_open name None (Some b) t = t
-may_open name (Some a) None t = t
-may_open name (Some a) (Some b) t = record { texts = t.texts; names = inr t.names }
 
 same_names : (a b : List Bytes) (name : Bytes) → b ≡ a → b ≡ a ++ (name ∷ []) → ⊥
 same_names a b name e f =

@@ -159,14 +159,6 @@ pub checks_answered : (told : Option Told) (file plans : Bytes) (mode : Mode) (t
 checks_answered told file plans mode task blocks old new result f p v =
     front_answered (Some (checks file plans mode)) told (Some f.0) (Some p.0) (Verdict task mode blocks) old new result (verdict_whole file plans mode f.0 p.0 task blocks f.2 p.2) (f.1, p.1) v
 
--- a demonstration is shown
-summary_whole : (number : ℕ) (result : Status) (out : Bytes) → IsSummary number result out → Whole (Some (shows number)) None None result out
-summary_whole number status.Shown out m = m
-summary_whole number result out m = absurd m
-
-pub shows_answered : (told : Option Told) (number : ℕ) (old new : Option Bytes) (result : Status) → Puts (OrFront (IsSummary number)) old new result → Answered (Some (shows number)) told old new result
-shows_answered told number old new result p = front_answered (Some (shows number)) told None None (IsSummary number) old new result (summary_whole number) tt p
-
 -- the text that the program puts is the usage text
 pub usage_is : USAGE.now ≡ usage_text
 unfolding usage_text

@@ -79,18 +79,6 @@ costs_push task plans plan = map-append (cost_of task) plans (plan ∷ [])
 sum_push : (xs : List ℕ) (x : ℕ) → sum (xs ++ x ∷ []) ≡ sum xs + x
 sum_push xs x = fold-append (λ a y. a + y) 0 xs (x ∷ [])
 
--- no plan yet
-pub costed_none : (task : TaskParts) → Costed task (2 ^ 64 - 1) 0 0 0
-costed_none task = record {
-  plans = [];
-  promise = λ k d lt. absurd (omega (arith, lt));
-  number = refl;
-  least = inl (refl, refl);
-  greatest = inl (refl, refl);
-  all = refl;
-  bound = omega arith;
-}
-
 -- one plan more
 pub costed_more : (task : TaskParts) (cheapest dearest total count : ℕ) (plan : List ℕ) → Costed task cheapest dearest total count → IsListable task plan → Costed task (min cheapest (cost_of task plan)) (max dearest (cost_of task plan)) (total + cost_of task plan) (count + 1)
 costed_more task cheapest dearest total count plan c listable =
@@ -107,27 +95,6 @@ costed_more task cheapest dearest total count plan c listable =
       greatest = subst (λ xs. IsGreatestOr xs (max dearest cost)) more (greatest_push costs cost dearest c.greatest);
       all = ap (λ n. n + cost) c.all ∙ sym (sum_push costs cost) ∙ ap sum more;
       bound = omega (arith, bound, lt);
-    }
-
-least_of : (xs : List ℕ) (least : ℕ) → 0 < length xs → IsLeastOr xs least → IsLeast xs least
-least_of xs least some (inl h) = let n : length xs ≡ 0 = ap length h.0 in absurd (omega (arith, n, some))
-least_of xs least some (inr h) = h
-
-greatest_of : (xs : List ℕ) (greatest : ℕ) → 0 < length xs → IsGreatestOr xs greatest → IsGreatest xs greatest
-greatest_of xs greatest some (inl h) = let n : length xs ≡ 0 = ap length h.0 in absurd (omega (arith, n, some))
-greatest_of xs greatest some (inr h) = h
-
--- after 20 plans
-pub costed_all : (task : TaskParts) (cheapest dearest total count : ℕ) → Costed task cheapest dearest total count → count ≡ 20 → HasPlans task cheapest dearest total
-costed_all task cheapest dearest total count c e =
-    let costs = map (cost_of task) c.plans in
-    let many : length costs ≡ 20 = length-map c.plans (cost_of task) ∙ c.number ∙ e in
-    let some : 0 < length costs = omega (arith, many) in
-    record {
-      plans = c.plans;
-      many = c.number ∙ e;
-      promise = c.promise;
-      costs = record { least = least_of costs cheapest some c.least; greatest = greatest_of costs dearest some c.greatest; all = c.all };
     }
 
 -- the same costs

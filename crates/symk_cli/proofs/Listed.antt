@@ -121,8 +121,10 @@ ending_stops task most mode count why old mid new result stop l fits grew =
 
 -- the line that ends the list
 pub list_ends : (task : TaskParts) (most : ℕ) (mode : Mode) (count : ℕ) (why : End) (old : Option Bytes) (mid new : SinkView) (result : Status) → Listed task mode old mid.taken count → IsEndOf most count why → Ends (end_status why) (end_line why) mid new result → Puts (OrPart task most mode) old new.taken result
-list_ends task most mode count why old mid new result l fits (inl h) =
-    (list_text task l.plans ++ end_line why, grew_twice (list_text task l.plans) (end_line why) old mid.taken new.taken l.taken h.1,
-     subst (λ s. OrPart task most mode s (list_text task l.plans ++ end_line why)) (sym h.0) (whole_lists task most mode why _ (listing_of task most mode count why old mid.taken l fits)))
+list_ends task most mode count why old mid new result l fits (inl h) = (
+  list_text task l.plans ++ end_line why,
+  grew_twice (list_text task l.plans) (end_line why) old mid.taken new.taken l.taken h.1,
+  subst (λ s. OrPart task most mode s (list_text task l.plans ++ end_line why)) (sym h.0) (whole_lists task most mode why _ (listing_of task most mode count why old mid.taken l fits)),
+)
 list_ends task most mode count why old mid new result l fits (inr (inl h)) = ending_stops task most mode count why old mid.taken new.taken result (inl h.0) l fits h.1
 list_ends task most mode count why old mid new result l fits (inr (inr h)) = ending_stops task most mode count why old mid.taken new.taken result (inr h.0) l fits h.1

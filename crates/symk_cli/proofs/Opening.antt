@@ -25,40 +25,15 @@ read_before : (name other : Bytes) (old new : Option Told) (read : Option Bytes)
 read_before name other old new None t h = tt
 read_before name other old new (Some text) t h = text_before name other old new text t h
 
--- an end of another status is not unreadable
-pub end_readable : (wanted : Status) (text : Bytes) (old new : SinkView) (result : Status) → (wanted ≡ status.Unreadable → ⊥) → Ends wanted text old new result → result ≡ status.Unreadable → ⊥
-end_readable wanted text old new result other (inl h) e = other (sym h.0 ∙ e)
-end_readable wanted text old new result other (inr (inl h)) e = let bad : status.WriteFault ≡ status.Unreadable = sym h.0 ∙ e in cc
-end_readable wanted text old new result other (inr (inr h)) e = let bad : status.Memory ≡ status.Unreadable = sym h.0 ∙ e in cc
-
 -- nor is what only the sink caused
 pub sink_readable : (result : Status) (sink sink' : ℕ) → HasCauses result 0 0 sink sink' → result ≡ status.Unreadable → ⊥
 sink_readable result sink sink' c e = let never : Rose 0 0 = c.unreadable e in absurd (omega (arith, never))
-
--- the text can't be read
-took_all : (text : Bytes) (old new : SinkView) (result : Status) → Ends status.Unreadable text old new result → result ≡ status.Unreadable → Tells (Grew text) old.taken new.taken
-took_all text old new result (inl h) e = h.1
-took_all text old new result (inr (inl h)) e = let bad : status.WriteFault ≡ status.Unreadable = sym h.0 ∙ e in absurd (cc)
-took_all text old new result (inr (inr h)) e = let bad : status.Memory ≡ status.Unreadable = sym h.0 ∙ e in absurd (cc)
-
-pub stops_unreadable : (named : Named) (name : Bytes) (told told' : Option Told) (text : Bytes) (old new : SinkView) (result : Status) → Tells (MayOpen name) told told' → Tells (Opened name) told told' → text ≡ unreadable_text named → Ends status.Unreadable text old new result → StopsAt named name told told' old.taken new.taken result
-stops_unreadable named name told told' text old new result may opened e ends =
-    record { names = may; opened = λ _. opened; unreadable = λ is. subst (λ (t : Bytes). Tells (Grew t) old.taken new.taken) e (took_all text old new result ends is) }
-
--- it stops for another cause
-pub stops_readable : (named : Named) (name : Bytes) (told told' : Option Told) (old new : Option Bytes) (result : Status) → Tells (MayOpen name) told told' → (result ≡ status.Unreadable → ⊥) → StopsAt named name told told' old new result
-stops_readable named name told told' old new result may other = record { names = may; opened = λ e. absurd (other e); unreadable = λ e. absurd (other e) }
 
 same_names : (a b : List Bytes) (name : Bytes) → b ≡ a → b ≡ a ++ (name ∷ []) → ⊥
 same_names a b name e f =
     let m : length b ≡ length a = ap length e in
     let n : length b ≡ length a + 1 = ap length f ∙ length_push a name in
     omega (arith, m, n)
-
--- nothing was opened
-pub none_opened : (names : List Bytes) (told : Option Told) (old new : Option Bytes) (result : Status) → (result ≡ status.Unreadable → ⊥) → Opens names told told old new result
-none_opened names None old new result other = record { count = 0; first = tt; last = λ e. absurd (other e) }
-none_opened names (Some a) old new result other = record { count = 0; first = record { texts = refl; opened = sym (append-nil a.opened) }; last = λ e. absurd (other e) }
 
 -- FILE was
 pub file_opened : (file : Bytes) (others : List Bytes) (told told' : Option Told) (old new : Option Bytes) (result : Status) → Tells (Opened file) told told' → (result ≡ status.Unreadable → ⊥) → Opens (file ∷ others) told told' old new result

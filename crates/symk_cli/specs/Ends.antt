@@ -12,10 +12,6 @@ Ends status text old new result =
     ⊎ ((result ≡ WriteFault) × Tells (GrewByPart text) old.taken new.taken × Rose old.faults new.faults)
     ⊎ ((result ≡ Memory) × Tells (GrewByPart text) old.taken new.taken × (new.faults ≡ old.faults))
 
--- that text's status came, or one that says why it didn't go out whole
-abbrev pub EndsAs : Status → Status → Type 0
-EndsAs status result = (result ≡ status) ⊎ (result ≡ WriteFault) ⊎ (result ≡ Memory)
-
 -- The causes of a status: unreadable and write fault only where the count of faults rose, and any other status but want of
 -- memory only where no count did. The counts are those of the files and the sink, each at entry and at exit.
 pub record HasCauses (status : Status) (files files' sink sink' : ℕ) : Type 0 where

@@ -5,8 +5,8 @@ ghost use Rattle.symk_cli.specs.Ends.{HasCauses, OrFront, Puts};
 ghost use Rattle.symk_cli.specs.Verdicts.{Verdict, verdict_text, why_text};
 
 use crate::ending::end_with;
-use crate::status::Status;
 use crate::pieces::{push_cost_after, push_number_after};
+use crate::status::Status;
 use plan_out::{Blocks, Checked, Why, check_list};
 use std::alloc::Global;
 use symk_io::Sink;

@@ -1,7 +1,7 @@
 //! The texts that end a run.
 
 ghost use Rattle.std.specs.Prelude.{◌≡◌, MatchResult};
-ghost use Rattle.symk_cli.specs.Ends.{Ends, EndsAs, HasCauses};
+ghost use Rattle.symk_cli.specs.Ends.{Ends, HasCauses};
 
 use crate::status::Status;
 use symk_io::{IoFault, Sink, put};
@@ -36,7 +36,6 @@ pub fn end_with<K: Sink>(sink: &mut K, text: Result<Text, Memory>, status: Statu
     ensures ends { MatchResult text
         (λ made. Ends status made (K.view sink.old) (K.view sink.new) result)
         (λ _. (result ≡ Status.Memory) × (K.view sink.new ≡ K.view sink.old)) }
-    ensures status { EndsAs status result }
     ensures causes { HasCauses result 0 0 (K.view sink.old).faults (K.view sink.new).faults }
 {
     match text {

@@ -6,9 +6,9 @@ ghost use Rattle.symk_cli.specs.Ends.{HasCauses, OrFront, Puts};
 ghost use Rattle.symk_cli.specs.Shown.{HasPlans, IsSummary, Summary, counts_line, costs_line, reached_line};
 
 use crate::ending::end_with;
+use crate::pieces::{push_cost_after, push_number_after};
 use crate::search::Search;
 use crate::status::Status;
-use crate::pieces::{push_cost_after, push_number_after};
 use sas_reader::read_task;
 use sas_writer::write_task;
 use std::alloc::{AllocError, Global};

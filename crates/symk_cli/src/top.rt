@@ -67,12 +67,7 @@ pub fn run_in_memory(
 }
 
 // Answers the words.
-fn answer<F: Files, K: Sink>(
-    alloc: Global,
-    words: &[String],
-    files: &mut F,
-    sink: &mut K,
-) -> Status
+fn answer<F: Files, K: Sink>(alloc: Global, words: &[String], files: &mut F, sink: &mut K) -> Status
     ensures answer { Answered (wish_of (map (λ w. string_bytes w) words.now)) (F.view files.old).told (K.view sink.old).taken (K.view sink.new).taken result }
     ensures causes { HasCauses result (F.view files.old).faults (F.view files.new).faults (K.view sink.old).faults (K.view sink.new).faults }
     ensures opened { Opens (names_of (wish_of (map (λ w. string_bytes w) words.now))) (F.view files.old).told (F.view files.new).told (K.view sink.old).taken (K.view sink.new).taken result }
@@ -113,7 +108,10 @@ fn serve<F: Files, K: Sink>(
 {
     match request {
         Request::Plan {
-            file, most, mode, ..
+            file,
+            most,
+            mode,
+            ..
         } => plan(alloc, files, sink, file, mode, most),
         Request::Check { file, plans, mode } => check(alloc, files, sink, file, plans, mode),
         Request::Demo { switches } => show(alloc, switches, sink),

@@ -1,9 +1,6 @@
 use Rattle.std.proofs.Common.{refl}
-use Rattle.symk_cli.proofs.Causes.{ended_as, causes_of_end}
+use Rattle.symk_cli.proofs.Causes.{causes_of_end}
 use Rattle.symk_cli.proofs.ending.end_with.Goals as goal
-
-pub returns-in-Ok-clause-status : goal.returns-in-Ok-clause-status
-returns-in-Ok-clause-status g c = ended_as _ _ (g.K.Sink.view c.args.sink.now) (g.K.Sink.view c.end.new.sink) _ c.end.ensures
 
 pub returns-in-Ok-clause-causes : goal.returns-in-Ok-clause-causes
 returns-in-Ok-clause-causes g c =

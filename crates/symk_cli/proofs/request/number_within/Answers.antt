@@ -19,6 +19,7 @@ returns-else-end-word-clause-number c =
     let small : c.args.most < 2 ^ 64 = omega arith in
     sym (read_other c.args.least c.args.most c.args.word.now c.in_ok-value.value c.in_ok-value.end small (ap (λ w. number_at w 0) (sym c.as_bytes.ensures.value) ∙ sym c.in_ok-value.ensures)
     (λ whole low high. elim c.else-end-word.branch [
-        else-end-word-via-then-end-word+then-least-value+else-value-most w ↦ omega (arith, high)
+      | else-end-word-via-then-end-word+then-least-value+else-value-most w ↦ omega (arith, high)
       | else-end-word-via-then-end-word+else-least-value w ↦ omega (arith, low)
-      | else-end-word-via-else-end-word w ↦ w.if-end-word.false whole ]))
+      | else-end-word-via-else-end-word w ↦ w.if-end-word.false whole
+    ]))

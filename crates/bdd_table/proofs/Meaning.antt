@@ -107,5 +107,8 @@ module _ (xs : List Node) (r : IsReduced xs) where
   unfolding means
   means_grown ys g b id h = leads_grown ys g id b id h
 
+pub level_grown : (xs ys : List Node) → Grows xs ys → (id : ℕ) → id < length xs → level_of ys id ≡ level_of xs id
+level_grown xs ys g id h = ap (λ (n : Node). n.level) (g.same id h)
+
 pub keeps_grown : (xs ys : List Node) → IsReduced xs → Grows xs ys → Keeps xs ys
 keeps_grown xs ys r g = record { known = g.longer; meaning = λ id b h. means_grown xs r ys g b id h }

@@ -1,0 +1,14 @@
+pub mod Existing
+pub mod Binding
+pub mod Cache
+pub mod Keys
+pub mod Splitting
+pub mod Combining
+pub mod Rising
+pub mod Chains
+pub mod Children
+pub mod Quantifying
+pub mod EqualPairs
+pub mod Renaming
+pub mod CallResults
+pub mod Ignoring

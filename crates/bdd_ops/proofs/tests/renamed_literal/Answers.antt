@@ -1,0 +1,6 @@
+use Rattle.bdd_table.specs.Diagram.{means}
+use Rattle.bdd_ops.proofs.Ignoring.{order_of_one}
+use Rattle.bdd_ops.proofs.tests.renamed_literal.Goals as goal
+
+pub rename-requires-clause-order : goal.rename-requires-clause-order
+rename-requires-clause-order c = order_of_one _ (means c.literal.new.self c.in_ok-literal.literal) c.args.from (λ v. v) c.in_ok-literal.ensures.meaning

@@ -1,0 +1,5 @@
+pub mod Operations
+pub mod Quantified
+pub mod Renamed
+pub mod Cached
+pub mod KeyHash

@@ -1,0 +1,28 @@
+use Rattle.std.proofs.Common.{◌≡◌, ◌∙◌, ◌<◌, List, length, subst}
+use Rattle.bdd_table.specs.declared.node.Node.{Node}
+use Rattle.bdd_sets.specs.Sets.{plain}
+use Rattle.bdd_sets.proofs.Members.{went_hi, went_lo, walked}
+use Rattle.bdd_sets.proofs.member.has.Goals as goal
+
+pub loop-id-preserved-then-bit_at : goal.loop-id-preserved-then-bit_at
+loop-id-preserved-then-bit_at c =
+    let same : c.table-table.result.now ≡ c.args.ops.now = c.table-table.ensures.same in
+    record {
+      known = subst (λ (xs : List Node). c.hi-id.result < length xs) same c.hi-id.ensures.known;
+      same = λ b code. c.loop-id.invariant.same b code
+          ∙ went_hi c.args.ops.now c.table-table.result.now (plain c.args.order.now b) c.loop-id.id c.level.result c.hi-id.result same c.table-table.ensures.reduced c.loop-id.invariant.known c.level.ensures
+          (c.bit_at.ensures b code ∙ c.if-bit_at.true) c.hi-id.ensures.value;
+    }
+
+pub loop-id-preserved : goal.loop-id-preserved
+loop-id-preserved c =
+    let same : c.table-table.result.now ≡ c.args.ops.now = c.table-table.ensures.same in
+    record {
+      known = subst (λ (xs : List Node). c.lo-id.result < length xs) same c.lo-id.ensures.known;
+      same = λ b code. c.loop-id.invariant.same b code
+          ∙ went_lo c.args.ops.now c.table-table.result.now (plain c.args.order.now b) c.loop-id.id c.level.result c.lo-id.result same c.table-table.ensures.reduced c.loop-id.invariant.known c.level.ensures
+          (c.bit_at.ensures b code ∙ c.if-bit_at.false) c.lo-id.ensures.value;
+    }
+
+pub returns : goal.returns
+returns c = walked c.args.order.now c.args.ops.now c.args.set c.loop-id.id c.args.state.now c.blocks-2.ensures.layout c.table-table.ensures.reduced c.requires.state c.requires.states c.loop-id-test.false c.loop-id.invariant.same

@@ -1,0 +1,39 @@
+//! Whether a set has a state.
+
+ghost use Rattle.std.specs.Prelude.{◌≡◌, ℕ, ◌<◌, ◌↔◌, Bool, length, IsTrue};
+ghost use Rattle.bdd_table.specs.Diagram.{Bits, means};
+ghost use Rattle.var_order.specs.Codes.{IsCode, IsStateOf};
+ghost use Rattle.bdd_sets.specs.Sets.{Has, IsSetOfStates, plain};
+
+use bdd_ops::Ops;
+use bdd_table::{Id, TRUE};
+use symk_task::State;
+use var_order::Order;
+
+/// Whether the set has the state. It goes down one path of the diagram, and allocates nothing.
+pub fn has(ops: &Ops, order: &Order, set: Id, state: &State) -> bool
+    requires set { set < length ops.now }
+    requires states { IsSetOfStates order.now ops.now set }
+    requires state { IsStateOf order.now state.now }
+    ensures { IsTrue result ↔ Has order.now ops.now set state.now }
+{
+    let _ = order.blocks();
+    let table = ops.table();
+    let mut id = set;
+    while id > TRUE {
+        id = if bit_at(order, state, table.level(id)) {
+            table.hi(id)
+        } else {
+            table.lo(id)
+        };
+    }
+    id == TRUE
+}
+
+/// The bit of the state at the level, false where the state has none there.
+fn bit_at(order: &Order, state: &State, level: u32) -> bool
+    requires { IsStateOf order.now state.now }
+    ensures { (b : Bits) → IsCode order.now 0 state.now b → plain order.now b level ≡ result }
+{
+    level % 2 == 0 && level / 2 < order.bits() && order.bit(state, level / 2)
+}

@@ -41,13 +41,13 @@ module _ (o : Option States) (members : States) (is : o ≡ Some members) (r : B
       back : (b : Bool) → r ≡ b → ((s : State) → IsFalse (in_set o s)) → IsTrue r
       back true e h = e
       back false e h = (
-        let f = first_has members members.keys refl (λ z. false≢true (sym e ∙ says.1 z)) in
-        absurd (false≢true (sym (h f.0) ∙ ap (λ (x : Option States). in_set x f.0) is ∙ f.1)))
+          let f = first_has members members.keys refl (λ z. false≢true (sym e ∙ says.1 z)) in
+          absurd (false≢true (sym (h f.0) ∙ ap (λ (x : Option States). in_set x f.0) is ∙ f.1)))
 
   pub member_says : (task : TaskParts) → AreStates task members → IsFalse r → (s : State) × Listed (assignments task.variables) s × IsTrue (in_set o s)
   member_says task states isnt = (
-    let f = first_has members members.keys refl (λ z. false≢true (sym isnt ∙ says.1 z)) in
-    (f.0, (states_law task f.0).0 (states f.0 f.1), ap (λ (x : Option States). in_set x f.0) is ∙ f.1))
+      let f = first_has members members.keys refl (λ z. false≢true (sym isnt ∙ says.1 z)) in
+      (f.0, (states_law task f.0).0 (states f.0 f.1), ap (λ (x : Option States). in_set x f.0) is ∙ f.1))
 
 -- two sets are the same where each is part of the other
 pub part_says : (a b : Option States) (x y : States) (r : Bool) → a ≡ Some x → b ≡ Some y → IsTrue r ↔ ((s : State) → IsTrue (has_state x s) → IsTrue (has_state y s)) → IsTrue r ↔ ((s : State) → IsTrue (in_set a s) → IsTrue (in_set b s))

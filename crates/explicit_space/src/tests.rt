@@ -9,9 +9,7 @@ use space_api::{Space, SpaceFault, meets};
 use std::alloc::Global;
 use std::process::Abort;
 use std::test::Fail;
-use symk_task::{
-    Effect, Fact, List, Memory, Name, Operator, Task, TaskParts, Variable,
-};
+use symk_task::{Effect, Fact, List, Memory, Name, Operator, Task, TaskParts, Variable};
 
 /// A variable of two values, without names.
 fn variable(alloc: Global) -> Result<Variable, Memory> {

@@ -12,4 +12,4 @@ returns-clause-ok c =
     let t = c.self.inside.task.now in
     subst (λ (e : Explicit). IfOk c.single.result (λ set. HasThose set (λ s. s ≡ (system_of e.task).initial))) c.self.view_is
     (IfOk-weaker c.single.result (λ set. HasThose set (λ s. s ≡ c.in_ok-copy.field-0)) (λ set. HasThose set (λ s. s ≡ (system_of t).initial))
-      (λ set h. initial_is t set c.self.inside.initial c.in_ok-copy.field-0 i.fits i.initial c.in_ok-copy.ensures h) c.single.ensures)
+    (λ set h. initial_is t set c.self.inside.initial c.in_ok-copy.field-0 i.fits i.initial c.in_ok-copy.ensures h) c.single.ensures)

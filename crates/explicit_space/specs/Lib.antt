@@ -1,5 +1,0 @@
-pub mod Members
-pub mod Explicit
-pub mod Seen
-pub mod Steps
-pub mod Begun

@@ -11,7 +11,7 @@ abbrev pub files_view : MemFiles → FilesView
 files_view m = record { told = Some (record { text = text_in m.shelf.files.items; left = shelf_left m.shelf; opened = names_of m.shelf }); faults = m.failing.faults }
 
 abbrev pub sink_view : MemSink → SinkView
-sink_view m = record { taken = Some m.bytes.items; flushed = Some m.flushed; faults = m.failing.faults }
+sink_view m = record { taken = Some m.bytes.items; flushed = Some m.flushed; flushes = Some m.flushes; faults = m.failing.faults }
 
 -- the texts of these files, nothing opened, no fault
 abbrev pub StartsWith : List MemFile → FilesView → Type 0

@@ -14,7 +14,7 @@ abbrev pub files_view : NoFaultFiles → FilesView
 files_view m = record { told = Some (record { text = any_text_in m.shelf.files.items; left = shelf_left m.shelf; opened = names_of m.shelf }); faults = 0 }
 
 abbrev pub sink_view : NoFaultSink → SinkView
-sink_view m = record { taken = Some m.bytes.items; flushed = Some m.flushed; faults = 0 }
+sink_view m = record { taken = Some m.bytes.items; flushed = Some m.flushed; flushes = Some m.flushes; faults = 0 }
 
 -- the texts of these files, nothing opened
 abbrev pub StartsWith : List MemFile → FilesView → Type 0

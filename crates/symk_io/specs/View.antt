@@ -1,5 +1,5 @@
 -- What is known of the files and of the sink, and what their calls do to it.
-use Rattle.std.specs.Prelude.{◌≡◌, ℕ, List, [], ◌∷◌, ◌++◌, ◌<◌, length, take, ⊤, Result, OnOk, OnErr, IfOk, IfSome, MatchResult}
+use Rattle.std.specs.Prelude.{◌≡◌, ℕ, List, [], ◌∷◌, ◌+◌, ◌++◌, ◌<◌, length, take, ⊤, Result, OnOk, OnErr, IfOk, IfSome, MatchResult}
 use Rattle.std.specs.declared.option.Option.{Option}
 use Rattle.std.specs.declared.option.Option.TheVariants.{Some, None}
 use Rattle.symk_io.specs.declared.fault.IoFault.{IoFault}
@@ -22,6 +22,8 @@ pub record SinkView : Type 0 where
   pub taken : Option Bytes
   -- how many of them were made to leave by a flush
   pub flushed : Option ℕ
+  -- how many flushes went well
+  pub flushes : Option ℕ
   pub faults : ℕ
 
 -- all bytes taken were flushed, where both are told
@@ -64,3 +66,7 @@ GrewByPart bytes old new = (n : ℕ) × (new ≡ old ++ take n bytes)
 
 abbrev pub Writes : Bytes → Result ℕ IoFault → Bytes → Bytes → Type 0
 Writes piece result old new = MatchResult result (λ n. new ≡ old ++ take n piece) (λ _. new ≡ old)
+
+-- one flush more went well, or none after an error
+abbrev pub FlushesOnce : {E : Type 0} → Result (Unit {0}) E → ℕ → ℕ → Type 0
+FlushesOnce result old new = MatchResult result (λ _. new ≡ old + 1) (λ _. new ≡ old)

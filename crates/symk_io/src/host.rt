@@ -80,7 +80,8 @@ impl<R: System + Drop> Files for HostFiles<R> {
     }
 }
 
-/// A writer of the system, as standard output. It tells nothing of its bytes: no clause says which reach the system.
+/// A writer of the system, as standard output. It tells nothing of its bytes and flushes: no clause says which reach the
+/// system.
 ///
 /// Each failure of the writer is counted, but for want of memory; to take nothing of a piece is a failure.
 #[derive(Drop)]
@@ -100,7 +101,7 @@ impl<W: Write + Drop> HostSink<W> {
 }
 
 impl<W: Write + Drop> Sink for HostSink<W> {
-    ghost view = { λ h. record { taken = None; flushed = None; faults = h.faults } };
+    ghost view = { λ h. record { taken = None; flushed = None; flushes = None; faults = h.faults } };
 
     #[tactic(auto, using(crate::proofs::Kept::kept_by_none))]
     fn write(&mut self, piece: &[u8]) -> Result<usize, IoFault>

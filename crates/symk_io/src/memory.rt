@@ -119,14 +119,16 @@ impl Files for MemFiles {
     }
 }
 
-/// A sink in memory, which tells the bytes that it took and fails at the calls that it is told to.
+/// A sink in memory, which tells the bytes that it took and its flushes, and fails at the calls that it is told to.
 ///
 /// Calls of `write` and `flush` are counted together from 1, whatever they answer; a call whose number is listed fails,
-/// takes nothing and raises `faults` by one. Any other `write` takes as much as it may, or finds no memory.
+/// takes nothing and raises `faults` by one. Any other `write` takes as much as it may, or finds no memory; any other `flush` goes
+/// well, or finds none to be counted, past the last `u64`.
 #[derive(Drop)]
 pub struct MemSink {
     bytes: Vec<u8>,
     flushed: usize,
+    flushes: u64,
     failing: Failing,
     most: usize,
 }
@@ -137,13 +139,14 @@ impl MemSink {
     /// A sink that has taken nothing, the numbers of the calls that fail, in any order, and the greatest number of bytes
     /// that a `write` takes, at least 1 (0 counts as 1).
     pub fn new(alloc: Global, failing: Vec<u64>, most: usize) -> MemSink
-        ensures start { sink_view result ≡ record { taken = Some []; flushed = Some 0; faults = 0 } }
+        ensures start { sink_view result ≡ record { taken = Some []; flushed = Some 0; flushes = Some 0; faults = 0 } }
         ensures calls { HasMade failing.items 0 result.failing }
         ensures most { result.most ≡ max most 1 }
     {
         MemSink {
             bytes: Vec::new(alloc),
             flushed: 0,
+            flushes: 0,
             failing: Failing::new(failing),
             most: most.max(1),
         }
@@ -154,6 +157,13 @@ impl MemSink {
         ensures { (sink_view self.now).taken ≡ Some result.now }
     {
         &self.bytes
+    }
+
+    /// How many flushes went well.
+    pub fn flushes(&self) -> u64
+        ensures { (sink_view self.now).flushes ≡ Some result }
+    {
+        self.flushes
     }
 
     /// How many calls of `write` and `flush` were made.
@@ -167,7 +177,7 @@ impl MemSink {
 impl Sink for MemSink {
     ghost use Rattle.symk_io.specs.Causes.{HasCause};
     ghost use Rattle.symk_io.specs.MemView.{sink_view};
-    ghost use Rattle.symk_io.specs.View.{IsFlushed, Tells, Writes};
+    ghost use Rattle.symk_io.specs.View.{IsFlushed, FlushesOnce, Tells, Writes};
 
     ghost view = { sink_view };
 
@@ -177,6 +187,7 @@ impl Sink for MemSink {
         ensures bound { IfOk result (λ n. n ≤ length piece.now) }
         ensures taken { Tells (Writes piece.now result) (sink_view self.old).taken (sink_view self.new).taken }
         ensures flushed { (sink_view self.new).flushed ≡ (sink_view self.old).flushed }
+        ensures flushes { (sink_view self.new).flushes ≡ (sink_view self.old).flushes }
         ensures cause { HasCause (sink_view self.old).faults (sink_view self.new).faults result }
         // As much as it may take; a call that is listed fails, and no other.
         ensures full { IfOk result (λ n. n ≡ min (max self.old.most 1) (length piece.now)) }
@@ -195,6 +206,7 @@ impl Sink for MemSink {
         ensures taken { Tells (λ old new. new ≡ old) (sink_view self.old).taken (sink_view self.new).taken }
         ensures flushed { OnOk result (IsFlushed (sink_view self.new)) }
         ensures err { OnErr result ((sink_view self.new).flushed ≡ (sink_view self.old).flushed) }
+        ensures flushes { Tells (FlushesOnce result) (sink_view self.old).flushes (sink_view self.new).flushes }
         ensures cause { HasCause (sink_view self.old).faults (sink_view self.new).faults result }
         // A call that is listed fails, and no other.
         ensures most { self.new.most ≡ self.old.most }
@@ -203,6 +215,7 @@ impl Sink for MemSink {
         if self.failing.count_call() {
             return Err(self.failing.fail());
         }
+        self.flushes = self.flushes.checked_add(1).ok_or(IoFault::Memory)?;
         self.flushed = self.bytes.len();
         Ok(())
     }

@@ -46,11 +46,14 @@ impl Files for NoFaultFiles {
     }
 }
 
-/// A sink in memory that never fails, takes each piece whole, and tells the bytes that it took.
+/// A sink in memory that never fails, takes each piece whole, and tells the bytes that it took and its flushes.
+///
+/// A flush past the last `u64` finds no memory to be counted.
 #[derive(Drop)]
 pub struct NoFaultSink {
     bytes: Vec<u8>,
     flushed: usize,
+    flushes: u64,
 }
 
 impl NoFaultSink {
@@ -58,11 +61,12 @@ impl NoFaultSink {
 
     /// A sink that has taken nothing.
     pub fn new(alloc: Global) -> NoFaultSink
-        ensures { sink_view result ≡ record { taken = Some []; flushed = Some 0; faults = 0 } }
+        ensures { sink_view result ≡ record { taken = Some []; flushed = Some 0; flushes = Some 0; faults = 0 } }
     {
         NoFaultSink {
             bytes: Vec::new(alloc),
             flushed: 0,
+            flushes: 0,
         }
     }
 
@@ -71,6 +75,13 @@ impl NoFaultSink {
         ensures { (sink_view self.now).taken ≡ Some result.now }
     {
         &self.bytes
+    }
+
+    /// How many flushes went well.
+    pub fn flushes(&self) -> u64
+        ensures { (sink_view self.now).flushes ≡ Some result }
+    {
+        self.flushes
     }
 }
 
@@ -85,6 +96,7 @@ impl Sink for NoFaultSink {
     }
 
     fn flush(&mut self) -> Result<(), IoFault> {
+        self.flushes = self.flushes.checked_add(1).ok_or(IoFault::Memory)?;
         self.flushed = self.bytes.len();
         Ok(())
     }

@@ -108,12 +108,15 @@ fn each_call_of_a_sink_fails_once(rt: HostRuntime) {
         assert!(rt; put(&mut sink, b"hello") == want, "call {call} of {most}");
         assert!(rt; sink.bytes() == taken.as_bytes(), "call {call} of {most}");
         let faults = if want.is_ok() { 0 } else { 1 };
-        assert!(rt; sink.faults() == faults, "call {call} of {most}");
+        assert!(rt;
+            sink.faults() == faults && sink.flushes() == 1 - faults,
+            "call {call} of {most}"
+        );
     }
     let mut sink = MemSink::new(rt.alloc(), Vec::new(rt.alloc()), 2);
     assert!(rt; put(&mut sink, b"hello") == Ok(()) && sink.calls() == 4);
     assert!(rt; put(&mut sink, b"") == Ok(()) && sink.calls() == 5);
-    assert!(rt; sink.bytes() == b"hello".as_slice());
+    assert!(rt; sink.bytes() == b"hello".as_slice() && sink.flushes() == 2);
 }
 
 #[test]
@@ -125,7 +128,7 @@ fn never_fails(rt: HostRuntime) {
     assert!(rt; missing.is_ok_and(|text| text.is_empty()) && files.faults() == 0);
     let mut sink = NoFaultSink::new(rt.alloc());
     assert!(rt; put(&mut sink, b"hello") == Ok(()) && sink.faults() == 0);
-    assert!(rt; sink.bytes() == b"hello".as_slice());
+    assert!(rt; sink.bytes() == b"hello".as_slice() && sink.flushes() == 1);
 }
 
 // A writer with one answer.

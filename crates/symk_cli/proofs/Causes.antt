@@ -1,5 +1,5 @@
 -- The causes of a status, from those of its parts.
-use Rattle.std.proofs.Common.{◌≡◌, ◌∙◌, sym, refl, inl, inr, ℕ, arith}
+use Rattle.std.proofs.Common.{◌≡◌, ◌∙◌, sym, inl, inr, ℕ}
 use Rattle.symk_io.specs.View.{Bytes, SinkView}
 use Rattle.symk_io.specs.Causes.{Rose}
 use Rattle.symk_cli.specs.Ends.{Ends, HasCauses}

@@ -1,5 +1,5 @@
 -- From the answer and the causes: what can't come.
-use Rattle.std.proofs.Common.{◌≡◌, ◌≢◌, ◌∙◌, ap, sym, refl, subst, inl, inr, ℕ, ◌+◌, ◌-◌, ◌^◌, ◌<◌, ◌≤◌, ◌⊎◌, List, ◌++◌, length, take, drop, Option, Some, None, IsSome, IfSome, IsSomeAnd, arith, min}
+use Rattle.std.proofs.Common.{◌≡◌, ◌≢◌, ◌∙◌, sym, refl, subst, inl, inr, ℕ, ◌+◌, ◌<◌, ◌≤◌, ◌⊎◌, List, ◌++◌, length, take, drop, Option, Some, None, IsSome, IfSome, IsSomeAnd, arith}
 use Rattle.std.proofs.lemmas.List.{take-append-drop}
 use Rattle.symk_io.specs.View.{Bytes, FilesView, SinkView, Told}
 use Rattle.symk_io.specs.Causes.{Rose}
@@ -19,7 +19,7 @@ use Rattle.symk_cli.specs.LawfulWords.{AreLawful}
 use Rattle.symk_cli.specs.Named.{IsToldText}
 use Rattle.symk_cli.specs.Refusals.{IsTaskText, FileOffence}
 use Rattle.symk_cli.specs.Plans.{IsPlansText, PlansOffence}
-use Rattle.symk_cli.specs.Answer.{Answer, AreTexts, Answered}
+use Rattle.symk_cli.specs.Answer.{Answer, Answered}
 use Rattle.symk_cli.specs.Complete.{TellsText, TellsTexts, Finishes, IsQuiet, Complete}
 use Rattle.symk_cli.proofs.LawfulWishes.{lawful_asks}
 
@@ -75,15 +75,15 @@ not_both : (wish : Option Wish) → IsSome wish → wish ≡ None → ⊥
 not_both wish some none = let h = subst (λ o. IsSome o) none some in cc
 
 -- usage comes of no lawful words
-pub never_usage : (words : List Bytes) (told : Option Told) (old new : Option Bytes) (result : Status) → Answered (wish_of words) told old new result → AreLawful words → result ≢ status.Usage
+pub never_usage : (words : List Bytes) (told : Option Told) (old new : SinkView) (result : Status) → Answered (wish_of words) told old new result → AreLawful words → result ≢ status.Usage
 never_usage words told old new result a lawful e =
-    not_both (wish_of words) (lawful_asks words lawful) (subst (λ s. Answer (wish_of words) a.F a.P s a.out) e a.answer).0
+    not_both (wish_of words) (lawful_asks words lawful) (subst (λ s. Answer (wish_of words) a.F a.P s a.out) e a.answer).0.2.0
 
 some_none : (wish : Wish) → Some wish ≡ None → ⊥
 some_none wish e = cc
 
 -- what is asked for over a text that is a task file
-lists_finish : (told : Option Told) (file : Bytes) (most : ℕ) (mode : Mode) (direction : Direction) (old new : Option Bytes) (result : Status) → TellsTexts told (lists file most mode direction)
+lists_finish : (told : Option Told) (file : Bytes) (most : ℕ) (mode : Mode) (direction : Direction) (old new : SinkView) (result : Status) → TellsTexts told (lists file most mode direction)
     → (result ≡ status.Unreadable → ⊥) → (result ≡ status.WriteFault → ⊥) → Answered (Some (lists file most mode direction)) told old new result → Finishes (lists file most mode direction) result ⊎ (result ≡ status.Memory)
 lists_finish told file most mode direction old new status.Reached t u w a = inl (inl refl)
 lists_finish told file most mode direction old new status.Exhausted t u w a = inl (inr (inl refl))
@@ -91,14 +91,14 @@ lists_finish told file most mode direction old new status.CostRange t u w a = in
 lists_finish told file most mode direction old new status.Memory t u w a = inr refl
 lists_finish told file most mode direction old new status.Unreadable t u w a = absurd (u refl)
 lists_finish told file most mode direction old new status.WriteFault t u w a = absurd (w refl)
-lists_finish told file most mode direction old new status.Usage t u w a = absurd (some_none (lists file most mode direction) a.answer.0)
+lists_finish told file most mode direction old new status.Usage t u w a = absurd (some_none (lists file most mode direction) a.answer.0.2.0)
 lists_finish told file most mode direction old new status.TooLong t u w a =
-    absurd (task_short t.1 a.F (read_task told file t.0 t.1 a.F t.2 t.3 a.texts) a.answer.0)
+    absurd (task_short t.1 a.F (read_task told file t.0 t.1 a.F t.2 t.3 a.texts) a.answer.0.2.0)
 lists_finish told file most mode direction old new status.Offending t u w a =
-    absurd (task_lawful t.1 a.out a.F (read_task told file t.0 t.1 a.F t.2 t.3 a.texts) a.answer)
-lists_finish told file most mode direction old new status.Good t u w a = absurd a.answer
-lists_finish told file most mode direction old new status.BadList t u w a = absurd a.answer
-lists_finish told file most mode direction old new status.Shown t u w a = absurd a.answer
+    absurd (task_lawful t.1 a.answer.0.0 a.F (read_task told file t.0 t.1 a.F t.2 t.3 a.texts) a.answer.0.2)
+lists_finish told file most mode direction old new status.Good t u w a = absurd a.answer.0.2
+lists_finish told file most mode direction old new status.BadList t u w a = absurd a.answer.0.2
+lists_finish told file most mode direction old new status.Shown t u w a = absurd a.answer.0.2
 
 -- one of the two texts is too long, or offends
 either : (A B C : Type 0) → (A → ⊥) → (C → ⊥) → A ⊎ (B × C) → ⊥
@@ -106,36 +106,39 @@ either A B C f g (inl a) = f a
 either A B C f g (inr h) = g h.1
 
 -- and over one that is a plan text
-checks_finish : (told : Option Told) (file plans : Bytes) (mode : Mode) (old new : Option Bytes) (result : Status) → TellsTexts told (checks file plans mode)
+checks_finish : (told : Option Told) (file plans : Bytes) (mode : Mode) (old new : SinkView) (result : Status) → TellsTexts told (checks file plans mode)
     → (result ≡ status.Unreadable → ⊥) → (result ≡ status.WriteFault → ⊥) → Answered (Some (checks file plans mode)) told old new result → Finishes (checks file plans mode) result ⊎ (result ≡ status.Memory)
 checks_finish told file plans mode old new status.Good t u w a = inl (inl refl)
 checks_finish told file plans mode old new status.BadList t u w a = inl (inr refl)
 checks_finish told file plans mode old new status.Memory t u w a = inr refl
 checks_finish told file plans mode old new status.Unreadable t u w a = absurd (u refl)
 checks_finish told file plans mode old new status.WriteFault t u w a = absurd (w refl)
-checks_finish told file plans mode old new status.Usage t u w a = absurd (some_none (checks file plans mode) a.answer.0)
+checks_finish told file plans mode old new status.Usage t u w a = absurd (some_none (checks file plans mode) a.answer.0.2.0)
 checks_finish told file plans mode old new status.TooLong t u w a =
-    absurd (either _ _ _ (λ h. task_short t.0.1 a.F (read_task told file t.0.0 t.0.1 a.F t.0.2 t.0.3 a.texts.0) h.0) (λ h. plans_short t.1.1 a.P (read_plans told plans t.1.0 t.1.1 a.P t.1.2 t.1.3 a.texts.1) h.0) a.answer)
+    absurd (either _ _ _ (λ h. task_short t.0.1 a.F (read_task told file t.0.0 t.0.1 a.F t.0.2 t.0.3 a.texts.0) h.0) (λ h. plans_short t.1.1 a.P (read_plans told plans t.1.0 t.1.1 a.P t.1.2 t.1.3 a.texts.1) h.0) a.answer.0.2)
 checks_finish told file plans mode old new status.Offending t u w a =
-    absurd (either _ _ _ (λ h. task_lawful t.0.1 a.out a.F (read_task told file t.0.0 t.0.1 a.F t.0.2 t.0.3 a.texts.0) h) (λ h. plans_lawful t.1.1 a.out a.P (read_plans told plans t.1.0 t.1.1 a.P t.1.2 t.1.3 a.texts.1) h) a.answer)
-checks_finish told file plans mode old new status.Reached t u w a = absurd a.answer
-checks_finish told file plans mode old new status.Exhausted t u w a = absurd a.answer
-checks_finish told file plans mode old new status.CostRange t u w a = absurd a.answer
-checks_finish told file plans mode old new status.Shown t u w a = absurd a.answer
+    absurd (either _ _ _ (λ h. task_lawful t.0.1 a.answer.0.0 a.F (read_task told file t.0.0 t.0.1 a.F t.0.2 t.0.3 a.texts.0) h) (λ h. plans_lawful t.1.1 a.answer.0.0 a.P (read_plans told plans t.1.0 t.1.1 a.P t.1.2 t.1.3 a.texts.1) h) a.answer.0.2)
+checks_finish told file plans mode old new status.Reached t u w a = absurd a.answer.0
+checks_finish told file plans mode old new status.Exhausted t u w a = absurd a.answer.0
+checks_finish told file plans mode old new status.CostRange t u w a = absurd a.answer.0
+checks_finish told file plans mode old new status.Shown t u w a = absurd a.answer.0.2
 
-shows_finish : (told : Option Told) (number : ℕ) (old new : Option Bytes) (result : Status) → (result ≡ status.WriteFault → ⊥) → Answered (Some (shows number)) told old new result → (result ≡ status.Shown) ⊎ (result ≡ status.Memory)
+shows_finish : (told : Option Told) (number : ℕ) (old new : SinkView) (result : Status) → (result ≡ status.WriteFault → ⊥) → Answered (Some (shows number)) told old new result → (result ≡ status.Shown) ⊎ (result ≡ status.Memory)
 shows_finish told number old new status.Shown w a = inl refl
 shows_finish told number old new status.Memory w a = inr refl
 shows_finish told number old new status.WriteFault w a = absurd (w refl)
-shows_finish told number old new status.Usage w a = absurd (some_none (shows number) a.answer.0)
-shows_finish told number old new result w a = absurd a.answer
+shows_finish told number old new status.Usage w a = absurd (some_none (shows number) a.answer.0.2.0)
+shows_finish told number old new status.Reached w a = absurd a.answer.0
+shows_finish told number old new status.Exhausted w a = absurd a.answer.0
+shows_finish told number old new status.CostRange w a = absurd a.answer.0
+shows_finish told number old new result w a = absurd a.answer.0.2
 
-finish : (told : Option Told) (wish : Wish) (old new : Option Bytes) (result : Status) → TellsTexts told wish → (result ≡ status.Unreadable → ⊥) → (result ≡ status.WriteFault → ⊥) → Answered (Some wish) told old new result → Finishes wish result ⊎ (result ≡ status.Memory)
+finish : (told : Option Told) (wish : Wish) (old new : SinkView) (result : Status) → TellsTexts told wish → (result ≡ status.Unreadable → ⊥) → (result ≡ status.WriteFault → ⊥) → Answered (Some wish) told old new result → Finishes wish result ⊎ (result ≡ status.Memory)
 finish told (lists file most mode direction) old new result t u w a = lists_finish told file most mode direction old new result t u w a
 finish told (checks file plans mode) old new result t u w a = checks_finish told file plans mode old new result t u w a
 finish told (shows number) old new result t u w a = shows_finish told number old new result w a
 
-pub completed : (asked : Option Wish) (files files' : FilesView) (sink sink' : SinkView) (result : Status) → Answered asked files.told sink.taken sink'.taken result → HasCauses result files.faults files'.faults sink.faults sink'.faults → Complete asked files files' sink sink' result
+pub completed : (asked : Option Wish) (files files' : FilesView) (sink sink' : SinkView) (result : Status) → Answered asked files.told sink sink' result → HasCauses result files.faults files'.faults sink.faults sink'.faults → Complete asked files files' sink sink' result
 completed asked files files' sink sink' result a causes wish e t quiet silent =
-    finish files.told wish sink.taken sink'.taken result t (λ u. did_not_rise _ _ quiet (causes.unreadable u)) (λ w. did_not_rise _ _ silent (causes.write w))
-    (subst (λ o. Answered o files.told sink.taken sink'.taken result) e a)
+    finish files.told wish sink sink' result t (λ u. did_not_rise _ _ quiet (causes.unreadable u)) (λ w. did_not_rise _ _ silent (causes.write w))
+    (subst (λ o. Answered o files.told sink sink' result) e a)

@@ -1,6 +1,6 @@
 -- What plans cost, one plan after the other.
-use Rattle.std.proofs.Common.{◌≡◌, ◌∙◌, ap, sym, refl, subst, inl, inr, ℕ, zero, suc, ◌+◌, ◌-◌, ◌*◌, ◌^◌, ◌<◌, ◌≤◌, ◌⊎◌, min, max, List, [], ◌∷◌, ◌++◌, length, map, sum, Contains, All, Some, None, arith}
-use Rattle.std.proofs.lemmas.List.{length_push, map-append, length-map}
+use Rattle.std.proofs.Common.{◌≡◌, ◌∙◌, ap, sym, subst, inl, inr, ℕ, zero, suc, ◌+◌, ◌-◌, ◌*◌, ◌^◌, ◌<◌, ◌≤◌, ◌⊎◌, min, max, List, [], ◌∷◌, ◌++◌, length, map, sum, All, None, arith}
+use Rattle.std.proofs.lemmas.List.{length_push, map-append}
 use Rattle.std.proofs.lemmas.List.Elements.{All-push, Contains-append_left, Contains-push}
 use Rattle.std.proofs.lemmas.List.Sums.{fold-append}
 use Rattle.symk_task.specs.declared.parts.Mode.TheVariants.{TopK}
@@ -8,7 +8,7 @@ use Rattle.symk_task.specs.declared.parts.TaskParts.{TaskParts}
 use Rattle.symk_task.specs.Plans.{cost_of}
 use Rattle.symk_cli.specs.Listable.{IsListable}
 use Rattle.symk_cli.specs.Lists.{IsListOf}
-use Rattle.symk_cli.specs.Shown.{IsLeast, IsGreatest, HaveCosts, HasPlans}
+use Rattle.symk_cli.specs.Shown.{IsLeast, IsGreatest}
 
 -- the least and the greatest number, and for none the last u64 and 0
 abbrev pub IsLeastOr : List ℕ → ℕ → Type 0

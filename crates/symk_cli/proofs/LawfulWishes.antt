@@ -1,17 +1,16 @@
 -- Lawful words ask for something.
-use Rattle.std.proofs.Common.{◌≡◌, ◌∙◌, ap, sym, refl, subst, ℕ, ◌<◌, ◌≤◌, Bool, true, false, cond, ◌&&◌, ◌==◌, nat_le, List, [], ◌∷◌, length, Option, Some, None, IsSome, codes, option_and_then, option_map, arith}
+use Rattle.std.proofs.Common.{◌≡◌, ◌∙◌, ap, sym, refl, subst, ℕ, Bool, true, false, cond, ◌&&◌, ◌==◌, nat_le, List, [], ◌∷◌, length, Option, Some, None, IsSome, option_and_then, option_map, arith}
 use Rattle.std.specs.List.{list_all}
 use Rattle.std.specs.Char.{is_ascii_digit}
-use Rattle.std.specs.Str.{bytes_eq}
 use Rattle.std.proofs.lemmas.Bool.Decides.{nat_tests}
 use Rattle.symk_text.specs.Numbers.{value_of}
 use Rattle.symk_io.specs.View.{Bytes}
 use Rattle.symk_task.specs.declared.parts.Mode.{Mode}
 use Rattle.symk_words.specs.Texts.{Texts, texts_asked, plan, check, demo}
-use Rattle.symk_words.specs.Lawful.{Plain, PlainIfSome, plan_words, check_words, demo_words}
+use Rattle.symk_words.specs.Lawful.{Plain, PlainIfSome}
 use Rattle.symk_words.proofs.LawfulWords.{plan_law, check_law, demo_law}
 use Rattle.symk_cli.specs.declared.request.Direction.{Direction}
-use Rattle.symk_cli.specs.Wishes.{Wish, number_within, mode_named, mode_of, direction_named, direction_of, lists_if_served, spelled, wish_of}
+use Rattle.symk_cli.specs.Wishes.{number_within, mode_named, mode_of, direction_named, direction_of, lists_if_served, spelled, wish_of}
 use Rattle.symk_cli.specs.LawfulWords.{AreWordsOf, AreLawful}
 
 no_some : (A : Type 0) → IsSome {T = A} None → ⊥

@@ -1,5 +1,6 @@
 pub mod Members
 pub mod Causes
+pub mod Took
 pub mod Puts
 pub mod Listed
 pub mod Asked

@@ -1,6 +1,6 @@
 -- Which texts are too long, from the answer.
-use Rattle.std.proofs.Common.{◌≡◌, subst, inl, inr, ℕ, ◌<◌, ◌≤◌, ◌⊎◌, List, length, Option, Some, None, IfSome, IsSomeAnd}
-use Rattle.symk_io.specs.View.{Bytes, Told}
+use Rattle.std.proofs.Common.{subst, inl, inr, ℕ, ◌<◌, ◌≤◌, ◌⊎◌, List, length, Option, Some, None, IfSome, IsSomeAnd}
+use Rattle.symk_io.specs.View.{Bytes, SinkView, Told}
 use Rattle.symk_task.specs.declared.parts.Mode.{Mode}
 use Rattle.symk_task.specs.declared.parts.TaskParts.{TaskParts}
 use Rattle.plan_out.specs.declared.blocks.ReadBlock.{ReadBlock}
@@ -46,19 +46,19 @@ short_judged told file plans mode result out None P f p so = absurd so
 short_judged told file plans mode result out (Some text) P f p so =
     ((text, f, so.1.short), short_plans told plans (λ blocks. Verdict so.0 mode blocks result out) P p so.2)
 
-plan_lengths : (told : Option Told) (file : Bytes) (most : ℕ) (mode : Mode) (direction : Direction) (old new : Option Bytes) (result : Status) → Answered (Some (lists file most mode direction)) told old new result → PlanLengths told file result
-plan_lengths told file most mode direction old new status.TooLong a = long_text told file a.F a.texts a.answer.0
-plan_lengths told file most mode direction old new status.Offending a = offending_text told file a.out a.F a.texts a.answer
-plan_lengths told file most mode direction old new status.Reached a = short_listed told file (λ task. Listing task most mode status.Reached a.out) a.F a.texts a.answer
-plan_lengths told file most mode direction old new status.Exhausted a = short_listed told file (λ task. Listing task most mode status.Exhausted a.out) a.F a.texts a.answer
-plan_lengths told file most mode direction old new status.CostRange a = short_listed told file (λ task. Listing task most mode status.CostRange a.out) a.F a.texts a.answer
+plan_lengths : (told : Option Told) (file : Bytes) (most : ℕ) (mode : Mode) (direction : Direction) (old new : SinkView) (result : Status) → Answered (Some (lists file most mode direction)) told old new result → PlanLengths told file result
+plan_lengths told file most mode direction old new status.TooLong a = long_text told file a.F a.texts a.answer.0.2.0
+plan_lengths told file most mode direction old new status.Offending a = offending_text told file a.answer.0.0 a.F a.texts a.answer.0.2
+plan_lengths told file most mode direction old new status.Reached a = short_listed told file (λ task. Listing task most mode status.Reached a.out.pieces) a.F a.texts a.answer.0
+plan_lengths told file most mode direction old new status.Exhausted a = short_listed told file (λ task. Listing task most mode status.Exhausted a.out.pieces) a.F a.texts a.answer.0
+plan_lengths told file most mode direction old new status.CostRange a = short_listed told file (λ task. Listing task most mode status.CostRange a.out.pieces) a.F a.texts a.answer.0
 plan_lengths told file most mode direction old new status.Usage a = tt
 plan_lengths told file most mode direction old new status.Unreadable a = tt
 plan_lengths told file most mode direction old new status.WriteFault a = tt
 plan_lengths told file most mode direction old new status.Memory a = tt
-plan_lengths told file most mode direction old new status.Good a = absurd a.answer
-plan_lengths told file most mode direction old new status.BadList a = absurd a.answer
-plan_lengths told file most mode direction old new status.Shown a = absurd a.answer
+plan_lengths told file most mode direction old new status.Good a = absurd a.answer.0.2
+plan_lengths told file most mode direction old new status.BadList a = absurd a.answer.0.2
+plan_lengths told file most mode direction old new status.Shown a = absurd a.answer.0.2
 
 long_of_two : (told : Option Told) (file plans : Bytes) (A B : Type 0) (F P : Option Bytes) → IfSome F (IsToldText told file) → IfSome P (IsToldText told plans)
     → (IsSomeAnd F (λ text. LIMIT < length text) × A) ⊎ (IsTask F × (IsSomeAnd P (λ text. LIMIT < length text) × B)) → IsLong told file ⊎ (IsShort told file × IsLong told plans)
@@ -70,23 +70,23 @@ offence_of_two : (told : Option Told) (file plans out : Bytes) (F P : Option Byt
 offence_of_two told file plans out F P f p (inl h) = inl (offending_text told file out F f h)
 offence_of_two told file plans out F P f p (inr h) = inr (short_task told file F f h.0, short_offence told plans out P p h.1)
 
-check_lengths : (told : Option Told) (file plans : Bytes) (mode : Mode) (old new : Option Bytes) (result : Status) → Answered (Some (checks file plans mode)) told old new result → CheckLengths told file plans result
-check_lengths told file plans mode old new status.TooLong a = long_of_two told file plans _ _ a.F a.P a.texts.0 a.texts.1 a.answer
-check_lengths told file plans mode old new status.Offending a = offence_of_two told file plans a.out a.F a.P a.texts.0 a.texts.1 a.answer
-check_lengths told file plans mode old new status.Good a = short_judged told file plans mode status.Good a.out a.F a.P a.texts.0 a.texts.1 a.answer
-check_lengths told file plans mode old new status.BadList a = short_judged told file plans mode status.BadList a.out a.F a.P a.texts.0 a.texts.1 a.answer
+check_lengths : (told : Option Told) (file plans : Bytes) (mode : Mode) (old new : SinkView) (result : Status) → Answered (Some (checks file plans mode)) told old new result → CheckLengths told file plans result
+check_lengths told file plans mode old new status.TooLong a = long_of_two told file plans _ _ a.F a.P a.texts.0 a.texts.1 a.answer.0.2
+check_lengths told file plans mode old new status.Offending a = offence_of_two told file plans a.answer.0.0 a.F a.P a.texts.0 a.texts.1 a.answer.0.2
+check_lengths told file plans mode old new status.Good a = short_judged told file plans mode status.Good a.answer.0.0 a.F a.P a.texts.0 a.texts.1 a.answer.0.2
+check_lengths told file plans mode old new status.BadList a = short_judged told file plans mode status.BadList a.answer.0.0 a.F a.P a.texts.0 a.texts.1 a.answer.0.2
 check_lengths told file plans mode old new status.Usage a = tt
 check_lengths told file plans mode old new status.Unreadable a = tt
 check_lengths told file plans mode old new status.WriteFault a = tt
 check_lengths told file plans mode old new status.Memory a = tt
-check_lengths told file plans mode old new status.Reached a = absurd a.answer
-check_lengths told file plans mode old new status.Exhausted a = absurd a.answer
-check_lengths told file plans mode old new status.CostRange a = absurd a.answer
-check_lengths told file plans mode old new status.Shown a = absurd a.answer
+check_lengths told file plans mode old new status.Reached a = absurd a.answer.0
+check_lengths told file plans mode old new status.Exhausted a = absurd a.answer.0
+check_lengths told file plans mode old new status.CostRange a = absurd a.answer.0
+check_lengths told file plans mode old new status.Shown a = absurd a.answer.0.2
 
 -- what the answer says of lengths
-pub lengths_of : (asked : Option Wish) (told : Option Told) (old new : Option Bytes) (result : Status) → Answered asked told old new result → Lengths asked told result
-lengths_of None told old new result a = λ e. subst (λ s. Answer None a.F a.P s a.out) e a.answer
+pub lengths_of : (asked : Option Wish) (told : Option Told) (old new : SinkView) (result : Status) → Answered asked told old new result → Lengths asked told result
+lengths_of None told old new result a = λ e. (subst (λ s. Answer None a.F a.P s a.out) e a.answer).0.2
 lengths_of (Some (lists file most mode direction)) told old new result a = plan_lengths told file most mode direction old new result a
 lengths_of (Some (checks file plans mode)) told old new result a = check_lengths told file plans mode old new result a
-lengths_of (Some (shows number)) told old new result a = λ e. subst (λ s. Answer (Some (shows number)) a.F a.P s a.out) e a.answer
+lengths_of (Some (shows number)) told old new result a = λ e. (subst (λ s. Answer (Some (shows number)) a.F a.P s a.out) e a.answer).0.2

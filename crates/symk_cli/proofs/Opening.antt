@@ -1,18 +1,17 @@
 -- Which files are opened, from what each part of a run opens.
-use Rattle.std.proofs.Common.{◌≡◌, ◌∙◌, ap, sym, refl, subst, inl, inr, ℕ, ◌+◌, ◌⊎◌, List, [], ◌∷◌, ◌++◌, length, take, Option, Some, None, IfSome, Result, Ok, Err, MatchResult, arith, append_assoc}
+use Rattle.std.proofs.Common.{◌≡◌, ◌∙◌, ap, sym, refl, subst, inl, inr, ℕ, ◌+◌, ◌⊎◌, List, [], ◌∷◌, ◌++◌, length, Option, Some, None, IfSome, arith, append_assoc}
 use Rattle.std.proofs.lemmas.List.{append-nil, length_push}
-use Rattle.symk_io.specs.View.{Bytes, Tells, Grew, GrewByPart, SinkView, Told}
-use Rattle.symk_io.specs.Told.{Opened, MayOpen}
+use Rattle.symk_io.specs.View.{Bytes, Tells, SinkView, Told}
+use Rattle.symk_io.specs.Told.{Opened}
 use Rattle.symk_io.specs.Causes.{Rose}
 use Rattle.symk_cli.specs.declared.reading.Named.{Named}
 use Rattle.symk_cli.specs.declared.reading.Named.TheVariants.{File, Plans}
 use Rattle.symk_cli.specs.declared.status.Status.{Status}
 use Rattle.symk_cli.specs.declared.status.Status.TheVariants as status
-use Rattle.symk_cli.specs.Ends.{Ends, HasCauses, OrFront, Puts}
+use Rattle.symk_cli.specs.Ends.{HasCauses, OrFront, Puts}
 use Rattle.symk_cli.specs.Plans.{PlansRefused}
-use Rattle.symk_cli.specs.Refusals.{unreadable_text}
 use Rattle.symk_cli.specs.Named.{IsToldText, HasText, HasRead, StopsAt}
-use Rattle.symk_cli.specs.Opens.{OpensFirst, Opens}
+use Rattle.symk_cli.specs.Opens.{Opens}
 
 -- reading a file leaves the texts
 pub text_before : (name other : Bytes) (old new : Option Told) (text : Bytes) → Tells (Opened name) old new → IsToldText new other text → IsToldText old other text
@@ -37,26 +36,28 @@ same_names a b name e f =
 
 -- FILE was
 pub file_opened : (file : Bytes) (others : List Bytes) (told told' : Option Told) (old new : Option Bytes) (result : Status) → Tells (Opened file) told told' → (result ≡ status.Unreadable → ⊥) → Opens (file ∷ others) told told' old new result
-file_opened file others None None old new result t other = record { count = 1; first = tt; last = λ e. absurd (other e) }
+file_opened file others None None old new result t other = record { count = 1; within = omega arith; first = tt; last = λ e. absurd (other e) }
 file_opened file others None (Some b) old new result t other = absurd t
 file_opened file others (Some a) None old new result t other = absurd t
-file_opened file others (Some a) (Some b) old new result t other = record { count = 1; first = record { texts = t.texts; opened = t.names }; last = λ e. absurd (other e) }
+file_opened file others (Some a) (Some b) old new result t other = record { count = 1; within = omega arith; first = record { texts = t.texts; opened = t.names }; last = λ e. absurd (other e) }
 
 may_by : (file : Bytes) (others : List Bytes) (a b : Told) (old new : Option Bytes) (result : Status) → StopsAt File file (Some a) (Some b) old new result → (b.opened ≡ a.opened) ⊎ (b.opened ≡ a.opened ++ (file ∷ [])) → Opens (file ∷ others) (Some a) (Some b) old new result
 may_by file others a b old new result s (inl e) = record {
   count = 0;
+  within = omega arith;
   first = record { texts = s.names.texts; opened = e ∙ sym (append-nil a.opened) };
   last = λ is. absurd (same_names a.opened b.opened file e (s.opened is).names);
 }
 may_by file others a b old new result s (inr e) = record {
   count = 1;
+  within = omega arith;
   first = record { texts = s.names.texts; opened = e };
   last = λ is. inl (refl, s.unreadable is);
 }
 
 -- FILE was, if anything, and its text is refused
 pub file_stops : (file : Bytes) (others : List Bytes) (told told' : Option Told) (old new : Option Bytes) (result : Status) → StopsAt File file told told' old new result → Opens (file ∷ others) told told' old new result
-file_stops file others None None old new result s = record { count = 1; first = tt; last = λ is. inl (refl, s.unreadable is) }
+file_stops file others None None old new result s = record { count = 1; within = omega arith; first = tt; last = λ is. inl (refl, s.unreadable is) }
 file_stops file others None (Some b) old new result s = absurd s.names
 file_stops file others (Some a) None old new result s = absurd s.names
 file_stops file others (Some a) (Some b) old new result s = may_by file others a b old new result s s.names.names
@@ -66,29 +67,31 @@ two_names : (a b c : List Bytes) (file plans : Bytes) → b ≡ a ++ (file ∷ [
 two_names a b c file plans e f = f ∙ ap (λ x. x ++ (plans ∷ [])) e ∙ append_assoc a (file ∷ []) (plans ∷ [])
 
 pub both_opened : (file plans : Bytes) (told mid told' : Option Told) (old new : Option Bytes) (result : Status) → Tells (Opened file) told mid → Tells (Opened plans) mid told' → (result ≡ status.Unreadable → ⊥) → Opens (file ∷ plans ∷ []) told told' old new result
-both_opened file plans None None None old new result t u other = record { count = 2; first = tt; last = λ e. absurd (other e) }
+both_opened file plans None None None old new result t u other = record { count = 2; within = omega arith; first = tt; last = λ e. absurd (other e) }
 both_opened file plans None None (Some c) old new result t u other = absurd u
 both_opened file plans None (Some b) c old new result t u other = absurd t
 both_opened file plans (Some a) None c old new result t u other = absurd t
 both_opened file plans (Some a) (Some b) None old new result t u other = absurd u
 both_opened file plans (Some a) (Some b) (Some c) old new result t u other =
-    record { count = 2; first = record { texts = u.texts ∙ t.texts; opened = two_names a.opened b.opened c.opened file plans t.names u.names }; last = λ e. absurd (other e) }
+    record { count = 2; within = omega arith; first = record { texts = u.texts ∙ t.texts; opened = two_names a.opened b.opened c.opened file plans t.names u.names }; last = λ e. absurd (other e) }
 
 plans_by : (file plans : Bytes) (a b c : Told) (old new : Option Bytes) (result : Status) → Opened file a b → StopsAt Plans plans (Some b) (Some c) old new result → (c.opened ≡ b.opened) ⊎ (c.opened ≡ b.opened ++ (plans ∷ [])) → Opens (file ∷ plans ∷ []) (Some a) (Some c) old new result
 plans_by file plans a b c old new result t s (inl e) = record {
   count = 1;
+  within = omega arith;
   first = record { texts = s.names.texts ∙ t.texts; opened = e ∙ t.names };
   last = λ is. absurd (same_names b.opened c.opened plans e (s.opened is).names);
 }
 plans_by file plans a b c old new result t s (inr e) = record {
   count = 2;
+  within = omega arith;
   first = record { texts = s.names.texts ∙ t.texts; opened = two_names a.opened b.opened c.opened file plans t.names e };
   last = λ is. inr (refl, s.unreadable is);
 }
 
 -- FILE was, and PLANS after it, if anything, and its text is refused
 pub plans_stop : (file plans : Bytes) (told mid told' : Option Told) (old new : Option Bytes) (result : Status) → Tells (Opened file) told mid → StopsAt Plans plans mid told' old new result → Opens (file ∷ plans ∷ []) told told' old new result
-plans_stop file plans None None None old new result t s = record { count = 2; first = tt; last = λ is. inr (refl, s.unreadable is) }
+plans_stop file plans None None None old new result t s = record { count = 2; within = omega arith; first = tt; last = λ is. inr (refl, s.unreadable is) }
 plans_stop file plans None None (Some c) old new result t s = absurd s.names
 plans_stop file plans None (Some b) c old new result t s = absurd t
 plans_stop file plans (Some a) None c old new result t s = absurd t
@@ -103,7 +106,7 @@ text_of_before IsSo name other old new t h = (h.0, text_before name other old ne
 pub stops_after : (named : Named) (name : Bytes) (told told' : Option Told) (old mid new : SinkView) (result : Status) → mid ≡ old → StopsAt named name told told' mid.taken new.taken result → StopsAt named name told told' old.taken new.taken result
 stops_after named name told told' old mid new result same s = subst (λ (v : SinkView). StopsAt named name told told' v.taken new.taken result) same s
 
-pub plans_refused_before : (told mid : Option Told) (file plans : Bytes) (old then new : SinkView) (result : Status) → Tells (Opened file) told mid → then ≡ old → HasRead mid plans (λ P. Puts (OrFront (PlansRefused P)) then.taken new.taken result) → HasRead told plans (λ P. Puts (OrFront (PlansRefused P)) old.taken new.taken result)
+pub plans_refused_before : (told mid : Option Told) (file plans : Bytes) (old then new : SinkView) (result : Status) → Tells (Opened file) told mid → then ≡ old → HasRead mid plans (λ P. Puts (OrFront (PlansRefused P)) then new result) → HasRead told plans (λ P. Puts (OrFront (PlansRefused P)) old new result)
 plans_refused_before told mid file plans old then new result t same h =
     let p = h.2 in
-    (h.0, read_before file plans told mid h.0 t h.1, subst (λ (v : SinkView). Puts (OrFront (PlansRefused h.0)) v.taken new.taken result) same p)
+    (h.0, read_before file plans told mid h.0 t h.1, subst (λ (v : SinkView). Puts (OrFront (PlansRefused h.0)) v new result) same p)

@@ -1,5 +1,5 @@
 -- A task that is written and read back.
-use Rattle.std.proofs.Common.{◌≡◌, ◌∙◌, sym, subst, ap}
+use Rattle.std.proofs.Common.{◌≡◌, ◌∙◌, subst}
 use Rattle.symk_io.specs.View.{Bytes}
 use Rattle.symk_text.specs.Lines.{lines}
 use Rattle.symk_task.specs.declared.parts.TaskParts.{TaskParts}

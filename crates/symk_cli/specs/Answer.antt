@@ -1,12 +1,12 @@
 -- The answer of the program.
-use Rattle.std.specs.Prelude.{◌≡◌, ℕ, ◌⊎◌, ◌++◌, ⊤, List, [], codes, Option, Some, None, IfSome, IsSomeAnd}
-use Rattle.symk_io.specs.View.{Bytes, Tells, Grew, Told}
+use Rattle.std.specs.Prelude.{◌≡◌, ◌⊎◌, ◌++◌, ⊤, List, codes, Option, Some, None, IfSome, IsSomeAnd}
+use Rattle.symk_io.specs.View.{Bytes, SinkView, Told}
 use Rattle.symk_task.specs.declared.parts.TaskParts.{TaskParts}
 use Rattle.symk_cli.specs.Wishes.{Wish, lists, checks, shows}
 use Rattle.symk_cli.specs.Named.{IsToldText}
 use Rattle.symk_cli.specs.Refusals.{IsTaskText, IsTask, FileRefused}
 use Rattle.symk_cli.specs.Plans.{PlansRefused, Judged}
-use Rattle.symk_cli.specs.Ends.{IsFront}
+use Rattle.symk_cli.specs.Sent.{Sent, nothing, Took, IsWhole, IsOne, IsFront}
 use Rattle.symk_cli.specs.Lists.{Listing, PartListing}
 use Rattle.symk_cli.specs.Shown.{IsSummary}
 use Rattle.symk_cli.specs.declared.status.Status.{Status}
@@ -27,12 +27,12 @@ Refused (Some (shows number)) F P result out = ⊥
 Refused None F P result out = ⊥
 
 -- plans of the task that FILE states are listed
-abbrev pub Lists : Option Wish → Option Bytes → Status → Bytes → Type 0
-Lists (Some (lists file most mode direction)) F result out = IsSomeAnd F (λ text. (task : TaskParts) × IsTaskText text task × Listing task most mode result out)
-Lists wish F result out = ⊥
+abbrev pub Lists : Option Wish → Option Bytes → Status → List Bytes → Type 0
+Lists (Some (lists file most mode direction)) F result pieces = IsSomeAnd F (λ text. (task : TaskParts) × IsTaskText text task × Listing task most mode result pieces)
+Lists wish F result pieces = ⊥
 
 -- a front of a list goes out
-abbrev pub PartLists : Option Wish → Option Bytes → Bytes → Type 0
+abbrev pub PartLists : Option Wish → Option Bytes → Sent → Type 0
 PartLists (Some (lists file most mode direction)) F out = IsSomeAnd F (λ text. (task : TaskParts) × IsTaskText text task × PartListing task most mode out)
 PartLists wish F out = ⊥
 
@@ -46,31 +46,31 @@ abbrev pub Shows : Option Wish → Status → Bytes → Type 0
 Shows (Some (shows number)) result out = IsSummary number result out
 Shows wish result out = ⊥
 
--- the whole text that a status comes with
-abbrev pub Whole : Option Wish → Option Bytes → Option Bytes → Status → Bytes → Type 0
-Whole wish F P status.Usage out = (wish ≡ None) × (out ≡ usage_text)
-Whole wish F P status.Unreadable out = Refused wish F P status.Unreadable out
-Whole wish F P status.TooLong out = Refused wish F P status.TooLong out
-Whole wish F P status.Offending out = Refused wish F P status.Offending out
-Whole wish F P status.Reached out = Lists wish F status.Reached out
-Whole wish F P status.Exhausted out = Lists wish F status.Exhausted out
-Whole wish F P status.CostRange out = Lists wish F status.CostRange out
-Whole wish F P status.Good out = Judges wish F P status.Good out
-Whole wish F P status.BadList out = Judges wish F P status.BadList out
-Whole wish F P status.Shown out = Shows wish status.Shown out
-Whole wish F P status.WriteFault out = ⊥
-Whole wish F P status.Memory out = ⊥
+-- the whole pieces that a status comes with: the blocks of a list and its end line, or one text
+abbrev pub Whole : Option Wish → Option Bytes → Option Bytes → Status → List Bytes → Type 0
+Whole wish F P status.Usage pieces = IsOne (λ out. (wish ≡ None) × (out ≡ usage_text)) pieces
+Whole wish F P status.Unreadable pieces = IsOne (Refused wish F P status.Unreadable) pieces
+Whole wish F P status.TooLong pieces = IsOne (Refused wish F P status.TooLong) pieces
+Whole wish F P status.Offending pieces = IsOne (Refused wish F P status.Offending) pieces
+Whole wish F P status.Reached pieces = Lists wish F status.Reached pieces
+Whole wish F P status.Exhausted pieces = Lists wish F status.Exhausted pieces
+Whole wish F P status.CostRange pieces = Lists wish F status.CostRange pieces
+Whole wish F P status.Good pieces = IsOne (Judges wish F P status.Good) pieces
+Whole wish F P status.BadList pieces = IsOne (Judges wish F P status.BadList) pieces
+Whole wish F P status.Shown pieces = IsOne (Shows wish status.Shown) pieces
+Whole wish F P status.WriteFault pieces = ⊥
+Whole wish F P status.Memory pieces = ⊥
 
--- nothing, a front of a whole text, or a front of a list that goes on
-abbrev pub Part : Option Wish → Option Bytes → Option Bytes → Bytes → Type 0
-Part wish F P out = (out ≡ []) ⊎ ((result : Status) × (whole : Bytes) × Whole wish F P result whole × IsFront out whole) ⊎ PartLists wish F out
+-- nothing, a front of whole pieces, or a front of a list that goes on
+abbrev pub Part : Option Wish → Option Bytes → Option Bytes → Sent → Type 0
+Part wish F P out = (out ≡ nothing) ⊎ ((result : Status) × (whole : List Bytes) × Whole wish F P result whole × IsFront out whole) ⊎ PartLists wish F out
 
--- What the sink took under a status, given what is asked for and the texts that were read of FILE and PLANS: a whole text, or a
--- part of one where the sink failed or memory was wanting.
-abbrev pub Answer : Option Wish → Option Bytes → Option Bytes → Status → Bytes → Type 0
+-- What the sink took under a status, given what is asked for and the texts that were read of FILE and PLANS: whole pieces, or a
+-- part of them where the sink failed or memory was wanting.
+abbrev pub Answer : Option Wish → Option Bytes → Option Bytes → Status → Sent → Type 0
 Answer wish F P status.WriteFault out = Part wish F P out
 Answer wish F P status.Memory out = Part wish F P out
-Answer wish F P result out = Whole wish F P result out
+Answer wish F P result out = IsWhole (Whole wish F P result) out
 
 -- what was read of the files that are asked for are their texts, those told where texts are told
 abbrev pub AreTexts : Option Told → Option Wish → Option Bytes → Option Bytes → Type 0
@@ -79,12 +79,12 @@ AreTexts told (Some (lists file most mode direction)) F P = IfSome F (IsToldText
 AreTexts told (Some (checks file plans mode)) F P = IfSome F (IsToldText told file) × IfSome P (IsToldText told plans)
 AreTexts told (Some (shows number)) F P = ⊤
 
--- There are texts that were read of FILE and PLANS, which are those told, and bytes, which are those taken, and they answer what
--- is asked for.
-pub record Answered (wish : Option Wish) (told : Option Told) (old new : Option Bytes) (result : Status) : Type 0 where
+-- There are texts that were read of FILE and PLANS, which are those told, and pieces and bytes, which are those taken, with one
+-- flush for each piece, and they answer what is asked for.
+pub record Answered (wish : Option Wish) (told : Option Told) (old new : SinkView) (result : Status) : Type 0 where
   pub F : Option Bytes
   pub P : Option Bytes
   pub texts : AreTexts told wish F P
-  pub out : Bytes
-  pub taken : Tells (Grew out) old new
+  pub out : Sent
+  pub taken : Took out old new
   pub answer : Answer wish F P result out

@@ -1,5 +1,6 @@
 pub mod Codes
 pub mod Listable
+pub mod Sent
 pub mod Ends
 pub mod Lengths
 pub mod Steps

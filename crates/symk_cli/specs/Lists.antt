@@ -6,18 +6,20 @@ use Rattle.symk_task.specs.declared.parts.TaskParts.{TaskParts}
 use Rattle.plan_out.specs.declared.end.End.{End}
 use Rattle.plan_out.specs.declared.end.End.TheVariants as end
 use Rattle.plan_out.specs.Texts.{block, end_line}
-use Rattle.symk_cli.specs.Ends.{IsFront, FrontOf}
+use Rattle.symk_cli.specs.Ends.{FrontOf}
+use Rattle.symk_cli.specs.Sent.{Sent, IsWhole, IsFront}
 use Rattle.symk_cli.specs.Listable.{IsListable}
 use Rattle.symk_cli.specs.declared.status.Status.{Status}
 use Rattle.symk_cli.specs.declared.status.Status.TheVariants as status
 
 -- the blocks of the plans, numbered from i
-abbrev pub blocks_from : TaskParts → ℕ → List (List ℕ) → Bytes
+abbrev pub blocks_from : TaskParts → ℕ → List (List ℕ) → List Bytes
 blocks_from task i [] = []
-blocks_from task i (p ∷ plans) = block task i p ++ blocks_from task (i + 1) plans
+blocks_from task i (p ∷ plans) = block task i p ∷ blocks_from task (i + 1) plans
 
-abbrev pub list_text : TaskParts → List (List ℕ) → Bytes
-list_text task plans = blocks_from task 1 plans
+-- the pieces of a list, while it goes on
+abbrev pub list_pieces : TaskParts → List (List ℕ) → List Bytes
+list_pieces task plans = blocks_from task 1 plans
 
 -- What a list promises of its plans, while it goes on (None) and with the end that is said of it. So far it is that each plan
 -- can be printed. That the list is right for the mode, and that its end is true, join here and nowhere else.
@@ -36,24 +38,24 @@ IsEndOf most n (end.Reached m) = (m ≡ n) × (n ≡ most)
 IsEndOf most n (end.Exhausted m) = (m ≡ n) × (n < most)
 IsEndOf most n end.CostRange = n < most
 
--- The text is a list of plans, of as many as were asked for or fewer, and the line that says how it ends.
-pub record Listing (task : TaskParts) (most : ℕ) (mode : Mode) (result : Status) (out : Bytes) : Type 0 where
+-- The pieces are the blocks of a list of plans, of as many as were asked for or fewer, and the line that says how it ends.
+pub record Listing (task : TaskParts) (most : ℕ) (mode : Mode) (result : Status) (out : List Bytes) : Type 0 where
   pub plans : List (List ℕ)
   pub ended : End
   pub promise : IsListOf task mode plans (Some ended)
   pub fits : IsEndOf most (length plans) ended
   pub says : result ≡ end_status ended
-  pub text : out ≡ list_text task plans ++ end_line ended
+  pub pieces : out ≡ list_pieces task plans ++ (end_line ended ∷ [])
 
--- The bytes are a front of a list's text, which lacks its end.
-pub record PartListing (task : TaskParts) (most : ℕ) (mode : Mode) (out : Bytes) : Type 0 where
+-- What went out is a front of a list's blocks, which lack its end.
+pub record PartListing (task : TaskParts) (most : ℕ) (mode : Mode) (out : Sent) : Type 0 where
   pub plans : List (List ℕ)
   pub promise : IsListOf task mode plans None
   pub number : length plans ≤ most
-  pub text : IsFront out (list_text task plans)
+  pub front : IsFront out (list_pieces task plans)
 
 -- the list goes out, or a front of it
-abbrev pub OrPart : TaskParts → ℕ → Mode → Status → Bytes → Type 0
+abbrev pub OrPart : TaskParts → ℕ → Mode → Status → Sent → Type 0
 OrPart task most mode status.WriteFault out = FrontOf (Listing task most mode) out ⊎ PartListing task most mode out
 OrPart task most mode status.Memory out = FrontOf (Listing task most mode) out ⊎ PartListing task most mode out
-OrPart task most mode result out = Listing task most mode result out
+OrPart task most mode result out = IsWhole (Listing task most mode result) out

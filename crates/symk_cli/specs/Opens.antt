@@ -1,5 +1,5 @@
 -- Which files are opened.
-use Rattle.std.specs.Prelude.{◌≡◌, ℕ, ◌⊎◌, ◌++◌, List, take, Option}
+use Rattle.std.specs.Prelude.{◌≡◌, ℕ, ◌≤◌, ◌⊎◌, ◌++◌, List, length, take, Option}
 use Rattle.symk_io.specs.View.{Bytes, Tells, Grew, Told}
 use Rattle.symk_cli.specs.Refusals.{unreadable_text}
 use Rattle.symk_cli.specs.declared.reading.Named.TheVariants.{File, Plans}
@@ -15,5 +15,6 @@ pub record OpensFirst (count : ℕ) (names : List Bytes) (old new : Told) : Type
 -- where that was one, and PLANS where they were two.
 pub record Opens (names : List Bytes) (old new : Option Told) (before after : Option Bytes) (result : Status) : Type 0 where
   pub count : ℕ
+  pub within : count ≤ length names
   pub first : Tells (OpensFirst count names) old new
   pub last : result ≡ Unreadable → ((count ≡ 1) × Tells (Grew (unreadable_text File)) before after) ⊎ ((count ≡ 2) × Tells (Grew (unreadable_text Plans)) before after)

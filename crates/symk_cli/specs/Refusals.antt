@@ -1,5 +1,5 @@
 -- Why a file is refused, and the text that says so.
-use Rattle.std.specs.Prelude.{◌≡◌, ℕ, ◌<◌, ◌≤◌, ◌++◌, List, length, Option, IsSomeAnd, codes, decimal}
+use Rattle.std.specs.Prelude.{◌≡◌, ℕ, ◌<◌, ◌≤◌, ◌++◌, length, Option, IsSomeAnd, codes, decimal}
 use Rattle.symk_io.specs.View.{Bytes}
 use Rattle.symk_text.specs.Lines.{lines}
 use Rattle.symk_task.specs.declared.parts.TaskParts.{TaskParts}

@@ -1,7 +1,8 @@
 //! The planner: words, files and a sink in, plans or a verdict and a status out.
 //!
-//! `run` is the whole program over any files and any sink. `main` makes those of the system, calls it and ends with its
-//! status. It stands on every crate of the workspace. Until sets of states take its place, the plans come from a plain
+//! `run` is the whole program over any files and any sink: it opens at most the files that the words name, in their order, and
+//! puts each block, the line that ends a list and every other text as one piece, with one flush. `main` makes those of the
+//! system, calls it and ends with its status. It stands on every crate of the workspace. Until sets of states take its place, the plans come from a plain
 //! search over explicit states.
 #![tactic(auto)]
 

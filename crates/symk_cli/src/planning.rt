@@ -1,9 +1,9 @@
 //! Plans, listed one by one.
 
 ghost use Rattle.std.specs.Prelude.{◌≡◌, ◌⊎◌, IfErr, OnOk, OnErr};
-ghost use Rattle.symk_io.specs.View.{Tells, Grew, GrewByPart};
 ghost use Rattle.plan_out.specs.Texts.{block as block_text, end_line as end_text};
 ghost use Rattle.symk_cli.specs.Ends.{Ends, HasCauses, Puts};
+ghost use Rattle.symk_cli.specs.Sent.{TookPiece, TookFront};
 ghost use Rattle.symk_cli.specs.Listable.{IsListable};
 ghost use Rattle.symk_cli.specs.Lists.{OrPart, end_status};
 
@@ -24,7 +24,7 @@ pub fn list_plans<K: Sink>(
     most: u64,
     sink: &mut K,
 ) -> Status
-    ensures lists { Puts (OrPart task.now most mode) (K.view sink.old).taken (K.view sink.new).taken result }
+    ensures lists { Puts (OrPart task.now most mode) (K.view sink.old) (K.view sink.new) result }
     ensures causes { HasCauses result 0 0 (K.view sink.old).faults (K.view sink.new).faults }
 {
     let Ok(mut search) = Search::new(alloc, task, mode) else {
@@ -44,7 +44,7 @@ pub fn list_plans<K: Sink>(
     end_list(alloc, sink, End::Reached { n: most })
 }
 
-// Puts the block of a plan, which is the one of this number in its list, or ends the run.
+// Puts the block of a plan, which is the one of this number in its list, as one piece, or ends the run.
 fn put_block<K: Sink>(
     alloc: Global,
     task: &Task,
@@ -53,9 +53,9 @@ fn put_block<K: Sink>(
     sink: &mut K,
 ) -> Result<(), Status>
     requires { IsListable task.now plan.now }
-    ensures ok { OnOk result (Tells (Grew (block_text task.now number plan.now)) (K.view sink.old).taken (K.view sink.new).taken) }
+    ensures ok { OnOk result (TookPiece (block_text task.now number plan.now) (K.view sink.old) (K.view sink.new)) }
     ensures quiet { OnOk result ((K.view sink.new).faults ≡ (K.view sink.old).faults) }
-    ensures err { OnErr result (Tells (GrewByPart (block_text task.now number plan.now)) (K.view sink.old).taken (K.view sink.new).taken) }
+    ensures err { OnErr result (TookFront (block_text task.now number plan.now) (K.view sink.old) (K.view sink.new)) }
     ensures stop { IfErr result (λ status. (status ≡ Status.WriteFault) ⊎ (status ≡ Status.Memory)) }
     ensures causes { IfErr result (λ status. HasCauses status 0 0 (K.view sink.old).faults (K.view sink.new).faults) }
 {

@@ -61,7 +61,7 @@ pub fn text_of<F: Files, K: Sink>(
     ensures quiet { OnOk result (((F.view files.new).faults ≡ (F.view files.old).faults) × ((K.view sink.new).faults ≡ (K.view sink.old).faults)) }
     ensures untouched { OnOk result (K.view sink.new ≡ K.view sink.old) }
     ensures refused { IfErr result (λ status. HasRead (F.view files.old).told name.now
-        (λ read. Puts (OrFront (TextRefused named read)) (K.view sink.old).taken (K.view sink.new).taken status)) }
+        (λ read. Puts (OrFront (TextRefused named read)) (K.view sink.old) (K.view sink.new) status)) }
     ensures stops { IfErr result (StopsAt named name.now (F.view files.old).told (F.view files.new).told (K.view sink.old).taken (K.view sink.new).taken) }
     ensures causes { IfErr result (λ status. HasCauses status (F.view files.old).faults (F.view files.new).faults (K.view sink.old).faults (K.view sink.new).faults) }
 {
@@ -85,7 +85,7 @@ pub fn task_of<F: Files, K: Sink>(
     ensures quiet { OnOk result (((F.view files.new).faults ≡ (F.view files.old).faults) × ((K.view sink.new).faults ≡ (K.view sink.old).faults)) }
     ensures untouched { OnOk result (K.view sink.new ≡ K.view sink.old) }
     ensures refused { IfErr result (λ status. HasRead (F.view files.old).told name.now
-        (λ read. Puts (OrFront (FileRefused read)) (K.view sink.old).taken (K.view sink.new).taken status)) }
+        (λ read. Puts (OrFront (FileRefused read)) (K.view sink.old) (K.view sink.new) status)) }
     ensures stops { IfErr result (StopsAt Named.File name.now (F.view files.old).told (F.view files.new).told (K.view sink.old).taken (K.view sink.new).taken) }
     ensures causes { IfErr result (λ status. HasCauses status (F.view files.old).faults (F.view files.new).faults (K.view sink.old).faults (K.view sink.new).faults) }
 {
@@ -114,7 +114,7 @@ pub fn plans_of<F: Files, K: Sink>(
     ensures quiet { OnOk result (((F.view files.new).faults ≡ (F.view files.old).faults) × ((K.view sink.new).faults ≡ (K.view sink.old).faults)) }
     ensures untouched { OnOk result (K.view sink.new ≡ K.view sink.old) }
     ensures refused { IfErr result (λ status. HasRead (F.view files.old).told name.now
-        (λ read. Puts (OrFront (PlansRefused read)) (K.view sink.old).taken (K.view sink.new).taken status)) }
+        (λ read. Puts (OrFront (PlansRefused read)) (K.view sink.old) (K.view sink.new) status)) }
     ensures stops { IfErr result (StopsAt Named.Plans name.now (F.view files.old).told (F.view files.new).told (K.view sink.old).taken (K.view sink.new).taken) }
     ensures causes { IfErr result (λ status. HasCauses status (F.view files.old).faults (F.view files.new).faults (K.view sink.old).faults (K.view sink.new).faults) }
 {

@@ -24,7 +24,7 @@ const SHOWN: u64 = 20;
 pub fn show<K: Sink>(alloc: Global, number: u32, sink: &mut K) -> Status
     requires least { 1 ≤ number }
     requires most { number ≤ 64 }
-    ensures shows { Puts (OrFront (IsSummary number)) (K.view sink.old).taken (K.view sink.new).taken result }
+    ensures shows { Puts (OrFront (IsSummary number)) (K.view sink.old) (K.view sink.new) result }
     ensures causes { HasCauses result 0 0 (K.view sink.old).faults (K.view sink.new).faults }
 {
     end_with(sink, summary(alloc, number), Status::Shown)

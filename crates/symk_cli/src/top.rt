@@ -30,19 +30,19 @@ pub const USAGE: &[u8] =
 /// Answers the words: lists the plans of a task, checks a list of plans, or shows a task that is made from a number.
 ///
 /// The first word is the program's name and isn't looked at. What is read comes from `files`, and every byte goes to `sink`,
-/// each block of a plan before the next plan is asked for. A refusal writes its text and nothing else; want of memory and a
-/// fault of the sink end the run where they come, and nothing more is written then.
+/// each block of a plan as one piece, which is flushed before the next plan is asked for. A refusal writes its text, as one
+/// piece, and nothing else; want of memory and a fault of the sink end the run where they come, and nothing more is written then.
 pub fn run<F: Files, K: Sink>(
     alloc: Global,
     words: &[String],
     files: &mut F,
     sink: &mut K,
 ) -> Status
-    // The bytes and the status answer the words, for the texts of the files.
-    ensures answer { Answered (wish_of (map (λ w. string_bytes w) words.now)) (F.view files.old).told (K.view sink.old).taken (K.view sink.new).taken result }
+    // The bytes and the status answer the words, for the texts of the files, with one flush for each piece.
+    ensures answer { Answered (wish_of (map (λ w. string_bytes w) words.now)) (F.view files.old).told (K.view sink.old) (K.view sink.new) result }
     // A fault is answered only where one was counted, and where one was, no other status comes but want of memory.
     ensures causes { HasCauses result (F.view files.old).faults (F.view files.new).faults (K.view sink.old).faults (K.view sink.new).faults }
-    // The files are opened in their order, and none but those asked for.
+    // The files are opened in their order, and none but those asked for, each at most once.
     ensures opened { Opens (names_of (wish_of (map (λ w. string_bytes w) words.now))) (F.view files.old).told (F.view files.new).told (K.view sink.old).taken (K.view sink.new).taken result }
     // Usage comes of no lawful words, and too long of no text that isn't.
     ensures lawful { AreLawful (map (λ w. string_bytes w) words.now) → result ≢ Status.Usage }
@@ -68,7 +68,7 @@ pub fn run_in_memory(
 
 // Answers the words.
 fn answer<F: Files, K: Sink>(alloc: Global, words: &[String], files: &mut F, sink: &mut K) -> Status
-    ensures answer { Answered (wish_of (map (λ w. string_bytes w) words.now)) (F.view files.old).told (K.view sink.old).taken (K.view sink.new).taken result }
+    ensures answer { Answered (wish_of (map (λ w. string_bytes w) words.now)) (F.view files.old).told (K.view sink.old) (K.view sink.new) result }
     ensures causes { HasCauses result (F.view files.old).faults (F.view files.new).faults (K.view sink.old).faults (K.view sink.new).faults }
     ensures opened { Opens (names_of (wish_of (map (λ w. string_bytes w) words.now))) (F.view files.old).told (F.view files.new).told (K.view sink.old).taken (K.view sink.new).taken result }
 {
@@ -102,7 +102,7 @@ fn serve<F: Files, K: Sink>(
     sink: &mut K,
 ) -> Status
     requires { HasSwitches request }
-    ensures answer { Answered (Some (wished request.entry)) (F.view files.old).told (K.view sink.old).taken (K.view sink.new).taken result }
+    ensures answer { Answered (Some (wished request.entry)) (F.view files.old).told (K.view sink.old) (K.view sink.new) result }
     ensures causes { HasCauses result (F.view files.old).faults (F.view files.new).faults (K.view sink.old).faults (K.view sink.new).faults }
     ensures opened { Opens (names_of (Some (wished request.entry))) (F.view files.old).told (F.view files.new).told (K.view sink.old).taken (K.view sink.new).taken result }
 {
@@ -127,7 +127,7 @@ fn plan<F: Files, K: Sink>(
     mode: Mode,
     most: u64,
 ) -> Status
-    ensures answer { (direction : DirectionOf) → Answered (Some (lists file.now most mode direction)) (F.view files.old).told (K.view sink.old).taken (K.view sink.new).taken result }
+    ensures answer { (direction : DirectionOf) → Answered (Some (lists file.now most mode direction)) (F.view files.old).told (K.view sink.old) (K.view sink.new) result }
     ensures causes { HasCauses result (F.view files.old).faults (F.view files.new).faults (K.view sink.old).faults (K.view sink.new).faults }
     ensures opened { Opens (file.now ∷ []) (F.view files.old).told (F.view files.new).told (K.view sink.old).taken (K.view sink.new).taken result }
 {
@@ -146,7 +146,7 @@ fn check<F: Files, K: Sink>(
     plans: &str,
     mode: Mode,
 ) -> Status
-    ensures answer { Answered (Some (checks file.now plans.now mode)) (F.view files.old).told (K.view sink.old).taken (K.view sink.new).taken result }
+    ensures answer { Answered (Some (checks file.now plans.now mode)) (F.view files.old).told (K.view sink.old) (K.view sink.new) result }
     ensures causes { HasCauses result (F.view files.old).faults (F.view files.new).faults (K.view sink.old).faults (K.view sink.new).faults }
     ensures opened { Opens (file.now ∷ plans.now ∷ []) (F.view files.old).told (F.view files.new).told (K.view sink.old).taken (K.view sink.new).taken result }
 {

@@ -18,4 +18,4 @@ returns-in-Ok-Bad-clause-verdict g c =
     c.end_with-in-Ok-Bad.ensures.ends
 
 pub returns-in-Err-clause-verdict : goal.returns-in-Err-clause-verdict
-returns-in-Err-clause-verdict g c = nothing_puts (Verdict c.args.task.now c.args.mode c.args.blocks.now.list) (g.K.Sink.view c.args.sink.now).taken
+returns-in-Err-clause-verdict g c = nothing_puts (Verdict c.args.task.now c.args.mode c.args.blocks.now.list) (g.K.Sink.view c.args.sink.now)

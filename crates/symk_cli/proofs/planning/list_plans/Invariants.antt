@@ -8,6 +8,6 @@ invariant-plans g l =
     let view = g.K.Sink.view in
     record {
       operators : l.search.prefixes.operators ≡ length l.task.operators;
-      listed : Listed l.task l.fn.mode (view l.fn.sink).taken (view l.sink).taken l.number;
+      listed : Listed l.task l.fn.mode (view l.fn.sink) (view l.sink) l.number;
       quiet : (view l.sink).faults ≡ (view l.fn.sink).faults;
     }

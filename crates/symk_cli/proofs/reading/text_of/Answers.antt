@@ -1,4 +1,4 @@
-use Rattle.std.proofs.Common.{refl, rules}
+use Rattle.std.proofs.Common.{rules}
 use Rattle.symk_cli.proofs.Refusing.{told_text, not_unreadable, not_memory, unreadable_refused, long_refused, memory_refused}
 use Rattle.symk_cli.proofs.reading.text_of.Goals as goal
 
@@ -12,7 +12,7 @@ returns-in-Err-TooLong-clause-refused g c =
     (c.in-Err-TooLong.ensures.long (search rules)) (c.in-Err-TooLong.ensures.named (not_unreadable _ _ c.in-Err-TooLong.field-0-is) (not_memory _ _ c.in-Err-TooLong.field-0-is)) c.too_long.ensures c.end-in-Err-TooLong.ensures
 
 pub returns-in-Err-Memory-clause-refused : goal.returns-in-Err-Memory-clause-refused
-returns-in-Err-Memory-clause-refused g c = memory_refused (g.F.Files.view c.args.files.now).told c.args.name.now c.args.named (g.K.Sink.view c.args.sink.now).taken
+returns-in-Err-Memory-clause-refused g c = memory_refused (g.F.Files.view c.args.files.now).told c.args.name.now c.args.named (g.K.Sink.view c.args.sink.now)
 
 pub returns-in-Ok-clause-text : goal.returns-in-Ok-clause-text
 returns-in-Ok-clause-text g c = told_text (g.F.Files.view c.args.files.now).told c.args.name.now c.in-Ok.text.items c.in-Ok.ensures.whole (c.in-Ok.ensures.named (λ e. cc) (λ e. cc))

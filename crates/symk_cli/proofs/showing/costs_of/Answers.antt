@@ -1,4 +1,4 @@
-use Rattle.std.proofs.Common.{◌≡◌, ◌+◌, sym, ap, ◌∙◌, min, max, rules}
+use Rattle.std.proofs.Common.{◌+◌, sym, ap, ◌∙◌, min, max, rules}
 use Rattle.symk_cli.proofs.Costed.{costed_more, costed_as}
 use Rattle.symk_cli.proofs.showing.costs_of.Goals as goal
 

@@ -1,7 +1,7 @@
 use Rattle.std.proofs.Common.{[], ◌∷◌, ◌∙◌}
 use Rattle.symk_cli.specs.declared.reading.Named.TheVariants.{Plans}
-use Rattle.symk_cli.specs.Ends.{OrFront, Puts}
-use Rattle.symk_cli.specs.Plans.{IsPlansText, PlansRefused}
+use Rattle.symk_cli.specs.Ends.{OrFront}
+use Rattle.symk_cli.specs.Plans.{IsPlansText}
 use Rattle.symk_cli.specs.Verdicts.{Verdict}
 use Rattle.symk_cli.proofs.Puts.{puts_after}
 use Rattle.symk_cli.proofs.Answering.{checks_refused, plans_refused, checks_answered}
@@ -20,7 +20,7 @@ returns-clause-answer g c =
     let old = g.K.Sink.view c.args.sink.now in
     let mid = g.K.Sink.view c.task_of.new.sink in
     let new = g.K.Sink.view c.plans_of.new.sink in
-    plans_refused told c.args.file.now c.args.plans.now c.args.mode c.in-Ok.task old.taken new.taken _ c.in-Ok.ensures.task
+    plans_refused told c.args.file.now c.args.plans.now c.args.mode c.in-Ok.task old new _ c.in-Ok.ensures.task
     (plans_refused_before told (g.F.Files.view c.task_of.new.files).told c.args.file.now c.args.plans.now old mid new c.in-Err-plans_of.status c.in-Ok.ensures.opened c.in-Ok.ensures.untouched c.in-Err-plans_of.ensures.refused)
 
 pub returns-clause-opened : goal.returns-clause-opened

@@ -16,7 +16,7 @@ if [ ! -f /usr/include/bdd.h ]; then
         { cat "$work/apt.log" >&2; exit 70; }
 fi
 g++ -O3 -o "$work/buddy" "$top/bench/diagrams.cpp" -lbdd
-(cd "$top/crates/bdd_bench" && rt run -- queens 5) >"$work/build.log" 2>&1 || { tail -n 20 "$work/build.log" >&2; exit 70; }
+(cd "$top/crates/bdd_bench" && rt run -- queens 5 8192) >"$work/build.log" 2>&1 || { tail -n 20 "$work/build.log" >&2; exit 70; }
 cp "$top/crates/bdd_bench/out/bdd_bench" "$work/rattle"
 cd "$work"
 python3 - "$work" "${1:-5}" <<'PYTHON'
@@ -24,6 +24,7 @@ import os, resource, statistics, subprocess, sys
 
 work, times = sys.argv[1], int(sys.argv[2])
 WORKS = (("queens", 9), ("switches", 20), ("sliding", 3), ("gripper", 20))
+CACHE = 8192  # results that Rattle's cache may hold; each of BuDDy's has its own, of the size at which it was quickest
 
 
 def used():
@@ -35,7 +36,8 @@ def used():
 def run(side, kind, size):
     """The counts that the program prints, and the seconds of the processor that it took."""
     before = used()
-    done = subprocess.run([os.path.join(work, side), kind, str(size)], stdout=subprocess.PIPE, stderr=subprocess.DEVNULL)
+    words = [kind, str(size)] + ([str(CACHE)] if side == "rattle" else [])
+    done = subprocess.run([os.path.join(work, side), *words], stdout=subprocess.PIPE, stderr=subprocess.DEVNULL)
     took = used() - before
     if done.returncode != 0:
         sys.exit(f"{side} {kind} {size}: status {done.returncode}")

@@ -1,9 +1,10 @@
 //! Times the operations on decision diagrams, on works that are known to the field.
 //!
-//! The words name a work and its size: `queens N`, `switches N`, `sliding N` (a board of three rows and N columns), `gripper
-//! N`, or `deep N` (diagrams of 2 N levels, to see that they run within the stack). The output says how many rounds the work
-//! took and how many nodes its last diagram has; standard error says the time. `bench/diagrams.sh` runs it beside a program
-//! on BuDDy that does the same. It stands on `bdd_table` and `bdd_ops`.
+//! The words name a work, its size, and how many results the cache may hold: `queens N CACHE`, `switches N CACHE`, `sliding
+//! N CACHE` (a board of three rows and N columns), `gripper N CACHE`, or `deep N CACHE` (diagrams of 2 N levels, to see that
+//! they run within the stack). The output says how many rounds the work took and how many nodes its last diagram has;
+//! standard error says the time. `bench/diagrams.sh` runs it beside a program on BuDDy that does the same. It stands on
+//! `bdd_table` and `bdd_ops`.
 #![tactic(auto)]
 
 mod calls;
@@ -25,13 +26,10 @@ use std::time::Instant;
 use std::{env, io};
 use work::{Work, work_of};
 
-/// The number of results that the cache may hold.
-const CACHE: usize = 65_536;
-
 fn main(rt: HostRuntime) -> io::Result<()> {
     let words: Vec<String> = env::args(&rt)?.collect(rt.alloc())?;
     let Some(work) = work_of(&words) else {
-        eprintln!(rt; "usage: bdd_bench queens|switches|sliding|gripper|deep N")?;
+        eprintln!(rt; "usage: bdd_bench queens|switches|sliding|gripper|deep N CACHE")?;
         return Ok(());
     };
     run(&rt, work)
@@ -39,8 +37,9 @@ fn main(rt: HostRuntime) -> io::Result<()> {
 
 /// Does the work on a table of its own, and says what came of it.
 fn run(rt: &HostRuntime, work: Work) -> io::Result<()> {
+    let cache = (work.cache as usize).max(1).min(1_048_576);
     let table = Table::new(rt.alloc())?;
-    let mut ops = Ops::new(table, CACHE)?;
+    let mut ops = Ops::new(table, cache)?;
     let start = Instant::now(rt)?;
     let made = work.make(&mut ops)?;
     let took = start.elapsed(rt)?.as_micros();

@@ -18,11 +18,12 @@ pub enum Kind {
     Deep,
 }
 
-/// A work and its size.
+/// A work, its size, and how many results the cache may hold.
 #[derive(Clone, Copy, Debug, PartialEq, Eq)]
 pub struct Work {
     pub kind: Kind,
     pub size: u16,
+    pub cache: u32,
 }
 
 /// The last diagram of a work, and how many rounds it took.
@@ -34,12 +35,13 @@ pub struct Made {
 
 /// The work that the words name, None where they name none.
 pub fn work_of(words: &[String]) -> Option<Work> {
-    let [_, kind, size] = words else {
+    let [_, kind, size, cache] = words else {
         return None;
     };
     Some(Work {
         kind: kind_of(kind.as_str())?,
         size: size.as_str().parse::<u16>().ok()?,
+        cache: cache.as_str().parse::<u32>().ok()?,
     })
 }
 

@@ -1,7 +1,8 @@
 #!/usr/bin/env bash
 # How fast the operations on decision diagrams are beside BuDDy: the works of crates/bdd_bench and of bench/diagrams.cpp, which
 # do the same on the same levels. Both are built first (BuDDy is Debian's libbdd-dev, installed where it isn't there), then run in
-# turn, five times each; a run whose counts differ from the other side's ends the script. The time is that of the processor, so
+# turn, five times each (`bash bench/diagrams.sh TIMES CACHE` for other numbers of turns and of results in the cache than 5 and
+# 65,536); a run whose counts differ from the other side's ends the script. The time is that of the processor, so
 # that other work on the machine is not counted, less that of a work of one step. Each line has the medians in milliseconds and the
 # least and the greatest ratio of a turn. The last line is `diagrams queens Q switches S sliding L gripper G`, the ratios of the
 # medians: Rattle's time by BuDDy's.
@@ -19,12 +20,12 @@ g++ -O3 -o "$work/buddy" "$top/bench/diagrams.cpp" -lbdd
 (cd "$top/crates/bdd_bench" && rt run -- queens 5 8192) >"$work/build.log" 2>&1 || { tail -n 20 "$work/build.log" >&2; exit 70; }
 cp "$top/crates/bdd_bench/out/bdd_bench" "$work/rattle"
 cd "$work"
-python3 - "$work" "${1:-5}" <<'PYTHON'
+python3 - "$work" "${1:-5}" "${2:-65536}" <<'PYTHON'
 import os, resource, statistics, subprocess, sys
 
 work, times = sys.argv[1], int(sys.argv[2])
 WORKS = (("queens", 9), ("switches", 20), ("sliding", 3), ("gripper", 20))
-CACHE = 8192  # results that Rattle's cache may hold; each of BuDDy's has its own, of the size at which it was quickest
+CACHE = sys.argv[3]  # results that the cache of the one side may hold; each cache of the other has 65,536
 
 
 def used():
@@ -36,7 +37,7 @@ def used():
 def run(side, kind, size):
     """The counts that the program prints, and the seconds of the processor that it took."""
     before = used()
-    words = [kind, str(size)] + ([str(CACHE)] if side == "rattle" else [])
+    words = [kind, str(size)] + ([CACHE] if side == "rattle" else [])
     done = subprocess.run([os.path.join(work, side), *words], stdout=subprocess.PIPE, stderr=subprocess.DEVNULL)
     took = used() - before
     if done.returncode != 0:

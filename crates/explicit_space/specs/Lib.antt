@@ -1,0 +1,5 @@
+pub mod Members
+pub mod Explicit
+pub mod Seen
+pub mod Steps
+pub mod Begun

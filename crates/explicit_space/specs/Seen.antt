@@ -1,0 +1,12 @@
+-- What an explicit space tells.
+use Rattle.std.specs.Prelude.{ℕ}
+use Rattle.space_api.specs.View.{View}
+use Rattle.task_system.specs.Computed.{system_of}
+use Rattle.explicit_space.specs.Explicit.{Explicit, set_at, is_there, in_set}
+
+abbrev pub seen : Explicit → View ℕ
+seen e = record {
+  system = system_of e.task;
+  valid = λ a. is_there (set_at e.sets a);
+  has = λ a. in_set (set_at e.sets a);
+}

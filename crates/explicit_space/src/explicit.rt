@@ -1,0 +1,280 @@
+//! A task, and sets of its states by number.
+
+use std::alloc::Global;
+use std::collections::BTreeSet;
+use std::marker::Model;
+use symk_task::{Memory, State, Task};
+use task_run::Rules;
+
+/// The sets of states of one task, each an ordered set.
+#[derive(Drop)]
+pub struct ExplicitSpace<'a> {
+    task: &'a Task,
+    rules: Rules,
+    initial: State,
+    costs: Vec<u64>,
+    sets: Vec<Option<BTreeSet<State>>>,
+    alloc: Global,
+}
+
+impl<'a> Model for ExplicitSpace<'a> {
+    ghost use Rattle.explicit_space.specs.Explicit.{Explicit, Keeps};
+
+    ghost Value = { Explicit };
+
+    ghost view = { λ a. record { task = a.task.now; sets = a.sets.items } };
+
+    ghost invariant = { λ a. Keeps a.task.now a.rules a.initial a.costs.items a.sets.items };
+}
+
+ghost use Rattle.std.specs.Prelude.{◌≡◌, ◌<◌, ◌↔◌, ◌⊎◌, ℕ, [], Some, length, slice_index, IsTrue, IsFalse, IfOk, OnErr};
+ghost use Rattle.task_system.specs.System.{Listed};
+ghost use Rattle.task_system.specs.Computed.{system_of};
+ghost use Rattle.space_api.specs.View.{View, Valid, Has, HasMember, IsEmpty, HasSame, GoalIn, Unites, Meets, Lacks, Image, CostImage, Preimage, CostPreimage};
+ghost use Rattle.space_api.specs.Frames.{Kept, NoMore, Gives, Forgot};
+ghost use Rattle.space_api.specs.Costs.{costs_of};
+ghost use Rattle.explicit_space.specs.Members.{has_state, AreStates, HasThose};
+ghost use Rattle.explicit_space.specs.Explicit.{set_at};
+ghost use Rattle.explicit_space.specs.Seen.{seen};
+
+use crate::costs::costs;
+use crate::members::{difference, intersection, is_subset, single, union};
+use crate::states::all_states;
+use crate::steps::{cost_image, cost_preimage, goal_states, image, preimage};
+use space_api::{Space, SpaceFault};
+
+impl<'a> ExplicitSpace<'a> {
+    /// The space of the task, with no valid set.
+    pub fn of(alloc: Global, task: &'a Task) -> Result<ExplicitSpace<'a>, Memory>
+        ensures task { IfOk result (λ space. space.task ≡ task.now) }
+        ensures none { IfOk result (λ space. space.sets ≡ []) }
+    {
+        // A task fits, and so the space's own facts hold.
+        let _ = task.parts();
+        Ok(ExplicitSpace {
+            task,
+            rules: Rules::of(alloc, task)?,
+            initial: task.start(alloc)?,
+            costs: costs(alloc, task)?,
+            sets: Vec::new(alloc),
+            alloc,
+        })
+    }
+
+    /// The members of a valid set.
+    fn members(&self, a: usize) -> &BTreeSet<State>
+        requires { Valid (seen self.now) a }
+        ensures set { set_at self.now.sets a ≡ Some result.now }
+        ensures states { AreStates self.now.task result.now }
+    {
+        match &self.sets[a] {
+            Some(members) => members,
+            None => unreachable!(),
+        }
+    }
+
+    /// A new set of these members.
+    fn add(&mut self, members: BTreeSet<State>) -> Result<usize, Memory>
+        requires { AreStates self.old.task members }
+        ensures kept { Kept (seen self.old) (seen self.new) }
+        ensures ok { IfOk result (Gives (seen self.old) (seen self.new) (λ s. IsTrue (has_state members s))) }
+        ensures err { OnErr result (NoMore (seen self.old) (seen self.new)) }
+    {
+        let at = self.sets.len();
+        self.sets.push(Some(members))?;
+        Ok(at)
+    }
+
+    fn every_state(&self) -> Result<BTreeSet<State>, Memory>
+        ensures states { IfOk result (AreStates self.now.task) }
+        ensures ok { IfOk result (λ set. HasThose set (Listed (seen self.now).system.states)) }
+    {
+        all_states(self.alloc, self.task.parts().variables.as_slice())
+    }
+
+    fn initial_state(&self) -> Result<BTreeSet<State>, Memory>
+        ensures states { IfOk result (AreStates self.now.task) }
+        ensures ok { IfOk result (λ set. HasThose set (λ s. s ≡ (seen self.now).system.initial)) }
+    {
+        single(self.alloc, self.initial.copy(self.alloc)?)
+    }
+
+    fn goal_members(&self, a: usize) -> Result<BTreeSet<State>, Memory>
+        requires { Valid (seen self.now) a }
+        ensures states { IfOk result (AreStates self.now.task) }
+        ensures ok { IfOk result (λ set. HasThose set (GoalIn (seen self.now) a)) }
+    {
+        goal_states(self.alloc, self.task, &self.rules, self.members(a))
+    }
+
+    fn united(&self, a: usize, b: usize) -> Result<BTreeSet<State>, Memory>
+        requires a { Valid (seen self.now) a }
+        requires b { Valid (seen self.now) b }
+        ensures states { IfOk result (AreStates self.now.task) }
+        ensures ok { IfOk result (λ set. HasThose set (Unites (seen self.now) a b)) }
+    {
+        union(self.alloc, self.members(a), self.members(b))
+    }
+
+    fn common(&self, a: usize, b: usize) -> Result<BTreeSet<State>, Memory>
+        requires a { Valid (seen self.now) a }
+        requires b { Valid (seen self.now) b }
+        ensures states { IfOk result (AreStates self.now.task) }
+        ensures ok { IfOk result (λ set. HasThose set (Meets (seen self.now) a b)) }
+    {
+        intersection(self.alloc, self.members(a), self.members(b))
+    }
+
+    fn left(&self, a: usize, b: usize) -> Result<BTreeSet<State>, Memory>
+        requires a { Valid (seen self.now) a }
+        requires b { Valid (seen self.now) b }
+        ensures states { IfOk result (AreStates self.now.task) }
+        ensures ok { IfOk result (λ set. HasThose set (Lacks (seen self.now) a b)) }
+    {
+        difference(self.alloc, self.members(a), self.members(b))
+    }
+
+    fn reached(&self, op: u32, a: usize) -> Result<BTreeSet<State>, Memory>
+        requires a { Valid (seen self.now) a }
+        requires op { op < (seen self.now).system.operators }
+        ensures states { IfOk result (AreStates self.now.task) }
+        ensures ok { IfOk result (λ set. HasThose set (Image (seen self.now) op a)) }
+    {
+        image(self.alloc, self.task, &self.rules, op, self.members(a))
+    }
+
+    fn reached_at(&self, cost: u64, a: usize) -> Result<BTreeSet<State>, Memory>
+        requires { Valid (seen self.now) a }
+        ensures states { IfOk result (AreStates self.now.task) }
+        ensures ok { IfOk result (λ set. HasThose set (CostImage (seen self.now) cost a)) }
+    {
+        cost_image(self.alloc, self.task, &self.rules, cost, self.members(a))
+    }
+
+    fn leading(&self, op: u32, a: usize, within: usize) -> Result<BTreeSet<State>, Memory>
+        requires a { Valid (seen self.now) a }
+        requires within { Valid (seen self.now) within }
+        requires op { op < (seen self.now).system.operators }
+        ensures states { IfOk result (AreStates self.now.task) }
+        ensures ok { IfOk result (λ set. HasThose set (Preimage (seen self.now) op a within)) }
+    {
+        preimage(
+            self.alloc,
+            self.task,
+            &self.rules,
+            op,
+            self.members(a),
+            self.members(within),
+        )
+    }
+
+    fn leading_at(&self, cost: u64, a: usize, within: usize) -> Result<BTreeSet<State>, Memory>
+        requires a { Valid (seen self.now) a }
+        requires within { Valid (seen self.now) within }
+        ensures states { IfOk result (AreStates self.now.task) }
+        ensures ok { IfOk result (λ set. HasThose set (CostPreimage (seen self.now) cost a within)) }
+    {
+        cost_preimage(
+            self.alloc,
+            self.task,
+            &self.rules,
+            cost,
+            self.members(a),
+            self.members(within),
+        )
+    }
+}
+
+impl<'a> Space for ExplicitSpace<'a> {
+    type Set = usize;
+
+    ghost view = { seen };
+
+    fn empty(&mut self) -> Result<usize, SpaceFault> {
+        let none = BTreeSet::new(self.alloc);
+        self.add(none)
+    }
+
+    /// The time and the memory grow with the number of all states.
+    fn all(&mut self) -> Result<usize, SpaceFault> {
+        let states = self.every_state()?;
+        self.add(states)
+    }
+
+    fn init(&mut self) -> Result<usize, SpaceFault> {
+        let state = self.initial_state()?;
+        self.add(state)
+    }
+
+    fn goal_in(&mut self, a: usize) -> Result<usize, SpaceFault> {
+        let members = self.goal_members(a)?;
+        self.add(members)
+    }
+
+    fn unite(&mut self, a: usize, b: usize) -> Result<usize, SpaceFault> {
+        let members = self.united(a, b)?;
+        self.add(members)
+    }
+
+    fn meet(&mut self, a: usize, b: usize) -> Result<usize, SpaceFault> {
+        let members = self.common(a, b)?;
+        self.add(members)
+    }
+
+    fn minus(&mut self, a: usize, b: usize) -> Result<usize, SpaceFault> {
+        let members = self.left(a, b)?;
+        self.add(members)
+    }
+
+    fn image_cost(&mut self, w: u64, a: usize) -> Result<usize, SpaceFault> {
+        let members = self.reached_at(w, a)?;
+        self.add(members)
+    }
+
+    fn image_op(&mut self, op: u32, a: usize) -> Result<usize, SpaceFault> {
+        let members = self.reached(op, a)?;
+        self.add(members)
+    }
+
+    fn pre_cost(&mut self, w: u64, a: usize, within: usize) -> Result<usize, SpaceFault> {
+        let members = self.leading_at(w, a, within)?;
+        self.add(members)
+    }
+
+    fn pre_op(&mut self, op: u32, a: usize, within: usize) -> Result<usize, SpaceFault> {
+        let members = self.leading(op, a, within)?;
+        self.add(members)
+    }
+
+    fn forget(&mut self, a: usize) {
+        self.sets[a] = None;
+    }
+
+    fn is_empty(&self, a: usize) -> bool {
+        self.members(a).is_empty()
+    }
+
+    fn same(&self, a: usize, b: usize) -> bool {
+        is_subset(self.members(a), self.members(b)) && is_subset(self.members(b), self.members(a))
+    }
+
+    fn has_init(&self, a: usize) -> bool {
+        self.members(a).contains(&self.initial)
+    }
+
+    fn costs(&self) -> usize {
+        self.costs.len()
+    }
+
+    fn cost_at(&self, i: usize) -> u64 {
+        self.costs[i]
+    }
+
+    fn operators(&self) -> u32 {
+        self.task.operators()
+    }
+
+    fn cost_of(&self, op: u32) -> u64 {
+        self.task.cost(op)
+    }
+}

@@ -1,4 +1,5 @@
 pub mod Rows
 pub mod Holding
 pub mod Adding
+pub mod Putting
 pub mod Empty

@@ -1,0 +1,6 @@
+pub mod Arcs
+pub mod Parts
+pub mod Rooms
+pub mod Closed
+pub mod Gathered
+pub mod Opening

@@ -1,0 +1,14 @@
+pub mod Coming
+pub mod Given
+pub mod Meeting
+pub mod Cut
+pub mod Standing
+pub mod Taking
+pub mod Passing
+pub mod Found
+pub mod Narrowed
+pub mod CutSets
+pub mod Known
+pub mod Shut
+pub mod Refusing
+pub mod InRooms

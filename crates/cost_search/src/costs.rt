@@ -1,0 +1,62 @@
+//! The costs that have a layer, one after the other, and the first whose layer has a state of a set.
+
+ghost use Rattle.std.specs.Prelude.{◌≡◌, ◌<◌, ◌^◌, ◌↔◌, ℕ, None, IsTrue, IfOk, MatchOption};
+ghost use Rattle.task_system.specs.System.{State};
+ghost use Rattle.space_api.specs.View.{View, Valid, Has};
+ghost use Rattle.space_api.specs.Frames.{Stays};
+ghost use Rattle.run_graph.specs.Layering.{InLayer};
+ghost use Rattle.cost_layers.specs.Layers.{whole_at, Held, Stands};
+ghost use Rattle.cost_search.specs.Meeting.{IsLeastAt, IsLayerMeeting};
+
+use cost_layers::Layers;
+use space_api::{Space, SpaceFault, meets};
+
+/// The next cost after this one that has a layer.
+pub(crate) fn cost_after<T: Copy>(layers: &Layers<T>, cost: u64) -> Option<u64>
+    ensures { MatchOption result ((c : ℕ) → cost < c → c < 2 ^ 64 → whole_at layers.now c ≡ None) (λ n. (cost < n) × (n < 2 ^ 64) × ((c : ℕ) → cost < c → c < n → whole_at layers.now c ≡ None)) }
+{
+    if cost == u64::MAX {
+        None
+    } else {
+        layers.next_cost(cost + 1)
+    }
+}
+
+/// Whether the layer of this cost has a state of the set.
+fn layer_meets<S: Space>(
+    space: &mut S,
+    layers: &Layers<S::Set>,
+    cost: u64,
+    set: S::Set,
+) -> Result<bool, SpaceFault>
+    requires held { Held (S.view space.old) layers.now }
+    requires set { Valid (S.view space.old) set }
+    ensures stays { Stays (S.view space.old) (S.view space.new) }
+    ensures ok { IfOk result (λ r. IsTrue r ↔ IsLayerMeeting (S.view space.old) layers.now set cost) }
+{
+    match layers.layer(cost) {
+        Some(whole) => Ok(meets(space, whole, set)?),
+        None => Ok(false),
+    }
+}
+
+/// The least cost whose layer has a state of the set. None exactly where no layer has one.
+pub(crate) fn least_meeting<S: Space>(
+    space: &mut S,
+    layers: &Layers<S::Set>,
+    set: S::Set,
+) -> Result<Option<u64>, SpaceFault>
+    requires held { Held (S.view space.old) layers.now }
+    requires set { Valid (S.view space.old) set }
+    ensures stays { Stays (S.view space.old) (S.view space.new) }
+    ensures ok { IfOk result (IsLeastAt (S.view space.old) layers.now set) }
+{
+    let mut next = layers.next_cost(0);
+    'costs: while let Some(cost) = next {
+        if layer_meets(space, layers, cost, set)? {
+            return Ok(Some(cost));
+        }
+        next = cost_after(layers, cost);
+    }
+    Ok(None)
+}

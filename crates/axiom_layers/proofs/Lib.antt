@@ -1,0 +1,6 @@
+pub mod RootValues
+mod FactSets
+mod RuleTurns
+mod PassTurns
+mod LayerRules
+pub mod Raised

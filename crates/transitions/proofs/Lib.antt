@@ -1,0 +1,13 @@
+pub mod Pairs
+pub mod SameBits
+pub mod ImageLaw
+pub mod Support
+pub mod InOrder
+pub mod Asking
+pub mod TouchedPlaces
+pub mod StepBits
+pub mod RelationLaw
+pub mod Gathering
+pub mod Leading
+pub mod StepsLaw
+pub mod Using

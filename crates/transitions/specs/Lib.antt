@@ -1,0 +1,5 @@
+pub mod Levels
+pub mod Relations
+pub mod Ready
+pub mod Touched
+pub mod NextValues

@@ -1,0 +1,8 @@
+use Rattle.std.proofs.Common.{sym}
+use Rattle.trans_merge.proofs.LastOf.{ends, found_by}
+use Rattle.trans_merge.proofs.merging.join_last.Goals as goal
+
+pub returns-in-Some-clause-joined : goal.returns-in-Some-clause-joined
+returns-in-Some-clause-joined c =
+    let w = ends c.args.merged.now c.in-Some.last.now (sym c.in-Some.ensures.value) in
+    found_by c.join_within.result _ _ _ c.join_within.ensures.joined c.join_within.ensures.within (λ x made few. (w.0, c.in-Some.last.now, w.1, made, few))

@@ -1,4 +1,4 @@
--- What an explicit space tells.
+-- What an explicit space tells. It has no nodes.
 use Rattle.std.specs.Prelude.{ℕ}
 use Rattle.space_api.specs.View.{View}
 use Rattle.task_system.specs.Computed.{system_of}
@@ -9,4 +9,6 @@ seen e = record {
   system = system_of e.task;
   valid = λ a. is_there (set_at e.sets a);
   has = λ a. in_set (set_at e.sets a);
+  held = 0;
+  last = 0;
 }

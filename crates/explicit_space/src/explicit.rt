@@ -190,6 +190,8 @@ impl<'a> Space for ExplicitSpace<'a> {
 
     ghost view = { seen };
 
+    ghost needs = { λ _ n. n ≡ 0 };
+
     fn empty(&mut self) -> Result<usize, SpaceFault> {
         let none = BTreeSet::new(self.alloc);
         self.add(none)
@@ -248,6 +250,21 @@ impl<'a> Space for ExplicitSpace<'a> {
 
     fn forget(&mut self, a: usize) {
         self.sets[a] = None;
+    }
+
+    /// The space has no nodes: the answer is 0.
+    fn held(&self) -> usize {
+        0
+    }
+
+    /// The space has no nodes: the answer is 0.
+    fn last(&self) -> usize {
+        0
+    }
+
+    /// There is nothing to throw away: the answer is Ok and nothing changes.
+    fn tidy(&mut self) -> Result<(), SpaceFault> {
+        Ok(())
     }
 
     fn is_empty(&self, a: usize) -> bool {

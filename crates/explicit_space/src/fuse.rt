@@ -3,20 +3,21 @@
 ghost use Rattle.std.specs.Prelude.{◌≡◌, ◌-◌, ◌<◌, ℕ, IsErr, IfOk, OnOk, OnErr};
 ghost use Rattle.task_system.specs.System.{Listed};
 ghost use Rattle.space_api.specs.View.{View, Valid, GoalIn, Unites, Meets, Lacks, Image, CostImage, Preimage, CostPreimage};
-ghost use Rattle.space_api.specs.Frames.{Kept, NoMore, Gives, Forgot};
+ghost use Rattle.space_api.specs.Frames.{Kept, NoMore, Gives, Forgot, Stays};
+ghost use Rattle.space_api.specs.Tidied.{Tidied, SameRoom};
 
 use space_api::{Space, SpaceFault};
 use std::alloc::AllocError;
 
 /// A space over another, for callers who want to see what stands after a refusal.
 ///
-/// Each call that gives a set takes one from `left` and is passed on. With none left it answers Memory and nothing changes.
-/// `forget` and the calls that only ask are passed on always.
+/// `tidy` and each call that gives a set take one from `left` and are passed on. With none left they answer Memory and
+/// nothing changes. `forget` and the calls that only ask are passed on always.
 #[derive(Drop)]
 pub struct FuseSpace<S> {
     /// The space that the calls are passed to.
     pub inner: S,
-    /// How many calls that give a set are still passed on.
+    /// How many calls that give a set or tidy are still passed on.
     pub left: u64,
 }
 
@@ -48,10 +49,13 @@ impl<S: Space> Space for FuseSpace<S> {
 
     ghost view = { λ f. S.view f.inner };
 
+    ghost needs = { λ f. S.needs f.inner };
+
     fn empty(&mut self) -> Result<S::Set, SpaceFault>
         ensures kept { Kept (S.view self.old.inner) (S.view self.new.inner) }
         ensures ok { IfOk result (Gives (S.view self.old.inner) (S.view self.new.inner) (λ _. ⊥)) }
         ensures err { OnErr result (NoMore (S.view self.old.inner) (S.view self.new.inner)) }
+        ensures last { (S.view self.new.inner).last ≡ (S.view self.old.inner).last }
         ensures left { self.new.left ≡ self.old.left - 1 }
         ensures spent { self.old.left ≡ 0 → IsErr result × (self.new.inner ≡ self.old.inner) }
     {
@@ -63,6 +67,7 @@ impl<S: Space> Space for FuseSpace<S> {
         ensures kept { Kept (S.view self.old.inner) (S.view self.new.inner) }
         ensures ok { IfOk result (Gives (S.view self.old.inner) (S.view self.new.inner) (Listed (S.view self.old.inner).system.states)) }
         ensures err { OnErr result (NoMore (S.view self.old.inner) (S.view self.new.inner)) }
+        ensures last { (S.view self.new.inner).last ≡ (S.view self.old.inner).last }
         ensures left { self.new.left ≡ self.old.left - 1 }
         ensures spent { self.old.left ≡ 0 → IsErr result × (self.new.inner ≡ self.old.inner) }
     {
@@ -74,6 +79,7 @@ impl<S: Space> Space for FuseSpace<S> {
         ensures kept { Kept (S.view self.old.inner) (S.view self.new.inner) }
         ensures ok { IfOk result (Gives (S.view self.old.inner) (S.view self.new.inner) (λ s. s ≡ (S.view self.old.inner).system.initial)) }
         ensures err { OnErr result (NoMore (S.view self.old.inner) (S.view self.new.inner)) }
+        ensures last { (S.view self.new.inner).last ≡ (S.view self.old.inner).last }
         ensures left { self.new.left ≡ self.old.left - 1 }
         ensures spent { self.old.left ≡ 0 → IsErr result × (self.new.inner ≡ self.old.inner) }
     {
@@ -86,6 +92,7 @@ impl<S: Space> Space for FuseSpace<S> {
         ensures kept { Kept (S.view self.old.inner) (S.view self.new.inner) }
         ensures ok { IfOk result (Gives (S.view self.old.inner) (S.view self.new.inner) (GoalIn (S.view self.old.inner) a)) }
         ensures err { OnErr result (NoMore (S.view self.old.inner) (S.view self.new.inner)) }
+        ensures last { (S.view self.new.inner).last ≡ (S.view self.old.inner).last }
         ensures left { self.new.left ≡ self.old.left - 1 }
         ensures spent { self.old.left ≡ 0 → IsErr result × (self.new.inner ≡ self.old.inner) }
     {
@@ -99,6 +106,7 @@ impl<S: Space> Space for FuseSpace<S> {
         ensures kept { Kept (S.view self.old.inner) (S.view self.new.inner) }
         ensures ok { IfOk result (Gives (S.view self.old.inner) (S.view self.new.inner) (Unites (S.view self.old.inner) a b)) }
         ensures err { OnErr result (NoMore (S.view self.old.inner) (S.view self.new.inner)) }
+        ensures last { (S.view self.new.inner).last ≡ (S.view self.old.inner).last }
         ensures left { self.new.left ≡ self.old.left - 1 }
         ensures spent { self.old.left ≡ 0 → IsErr result × (self.new.inner ≡ self.old.inner) }
     {
@@ -112,6 +120,7 @@ impl<S: Space> Space for FuseSpace<S> {
         ensures kept { Kept (S.view self.old.inner) (S.view self.new.inner) }
         ensures ok { IfOk result (Gives (S.view self.old.inner) (S.view self.new.inner) (Meets (S.view self.old.inner) a b)) }
         ensures err { OnErr result (NoMore (S.view self.old.inner) (S.view self.new.inner)) }
+        ensures last { (S.view self.new.inner).last ≡ (S.view self.old.inner).last }
         ensures left { self.new.left ≡ self.old.left - 1 }
         ensures spent { self.old.left ≡ 0 → IsErr result × (self.new.inner ≡ self.old.inner) }
     {
@@ -125,6 +134,7 @@ impl<S: Space> Space for FuseSpace<S> {
         ensures kept { Kept (S.view self.old.inner) (S.view self.new.inner) }
         ensures ok { IfOk result (Gives (S.view self.old.inner) (S.view self.new.inner) (Lacks (S.view self.old.inner) a b)) }
         ensures err { OnErr result (NoMore (S.view self.old.inner) (S.view self.new.inner)) }
+        ensures last { (S.view self.new.inner).last ≡ (S.view self.old.inner).last }
         ensures left { self.new.left ≡ self.old.left - 1 }
         ensures spent { self.old.left ≡ 0 → IsErr result × (self.new.inner ≡ self.old.inner) }
     {
@@ -137,6 +147,7 @@ impl<S: Space> Space for FuseSpace<S> {
         ensures kept { Kept (S.view self.old.inner) (S.view self.new.inner) }
         ensures ok { IfOk result (Gives (S.view self.old.inner) (S.view self.new.inner) (CostImage (S.view self.old.inner) w a)) }
         ensures err { OnErr result (NoMore (S.view self.old.inner) (S.view self.new.inner)) }
+        ensures last { (S.view self.new.inner).last ≡ (S.view self.old.inner).last }
         ensures left { self.new.left ≡ self.old.left - 1 }
         ensures spent { self.old.left ≡ 0 → IsErr result × (self.new.inner ≡ self.old.inner) }
     {
@@ -150,6 +161,7 @@ impl<S: Space> Space for FuseSpace<S> {
         ensures kept { Kept (S.view self.old.inner) (S.view self.new.inner) }
         ensures ok { IfOk result (Gives (S.view self.old.inner) (S.view self.new.inner) (Image (S.view self.old.inner) op a)) }
         ensures err { OnErr result (NoMore (S.view self.old.inner) (S.view self.new.inner)) }
+        ensures last { (S.view self.new.inner).last ≡ (S.view self.old.inner).last }
         ensures left { self.new.left ≡ self.old.left - 1 }
         ensures spent { self.old.left ≡ 0 → IsErr result × (self.new.inner ≡ self.old.inner) }
     {
@@ -163,6 +175,7 @@ impl<S: Space> Space for FuseSpace<S> {
         ensures kept { Kept (S.view self.old.inner) (S.view self.new.inner) }
         ensures ok { IfOk result (Gives (S.view self.old.inner) (S.view self.new.inner) (CostPreimage (S.view self.old.inner) w a within)) }
         ensures err { OnErr result (NoMore (S.view self.old.inner) (S.view self.new.inner)) }
+        ensures last { (S.view self.new.inner).last ≡ (S.view self.old.inner).last }
         ensures left { self.new.left ≡ self.old.left - 1 }
         ensures spent { self.old.left ≡ 0 → IsErr result × (self.new.inner ≡ self.old.inner) }
     {
@@ -177,6 +190,7 @@ impl<S: Space> Space for FuseSpace<S> {
         ensures kept { Kept (S.view self.old.inner) (S.view self.new.inner) }
         ensures ok { IfOk result (Gives (S.view self.old.inner) (S.view self.new.inner) (Preimage (S.view self.old.inner) op a within)) }
         ensures err { OnErr result (NoMore (S.view self.old.inner) (S.view self.new.inner)) }
+        ensures last { (S.view self.new.inner).last ≡ (S.view self.old.inner).last }
         ensures left { self.new.left ≡ self.old.left - 1 }
         ensures spent { self.old.left ≡ 0 → IsErr result × (self.new.inner ≡ self.old.inner) }
     {
@@ -190,6 +204,25 @@ impl<S: Space> Space for FuseSpace<S> {
         ensures left { self.new.left ≡ self.old.left }
     {
         self.inner.forget(a)
+    }
+
+    fn held(&self) -> usize {
+        self.inner.held()
+    }
+
+    fn last(&self) -> usize {
+        self.inner.last()
+    }
+
+    fn tidy(&mut self) -> Result<(), SpaceFault>
+        ensures stays { Stays (S.view self.old.inner) (S.view self.new.inner) }
+        ensures ok { OnOk result (Tidied (S.needs self.old.inner) (S.needs self.new.inner) (S.view self.old.inner) (S.view self.new.inner)) }
+        ensures err { OnErr result (SameRoom (S.view self.old.inner) (S.view self.new.inner)) }
+        ensures left { self.new.left ≡ self.old.left - 1 }
+        ensures spent { self.old.left ≡ 0 → IsErr result × (self.new.inner ≡ self.old.inner) }
+    {
+        spend(&mut self.left)?;
+        self.inner.tidy()
     }
 
     fn is_empty(&self, a: S::Set) -> bool {

@@ -1,7 +1,8 @@
 //! Worked rows on a switch: off at first, on is the goal, the first operator turns it on and the second off.
 
+ghost use Rattle.std.specs.Prelude.{◌≡◌};
 ghost use Rattle.space_api.specs.View.{Valid};
-ghost use Rattle.space_api.specs.Frames.{Kept};
+ghost use Rattle.space_api.specs.Frames.{Kept, Stays};
 
 use crate::{ExplicitSpace, FuseSpace};
 use space_api::{Space, SpaceFault};
@@ -197,6 +198,41 @@ fn sets_made_before_a_refusal_mean_the_same_after_it(rt: HostRuntime) -> Result<
         let given = tried(&rt, &mut fuse).ok();
         assert!(rt; given == n.checked_sub(3));
     }
+    Ok(())
+}
+
+/// Whether the space is tidied, and how many nodes it then holds and needed last.
+fn tidied<S: Space>(space: &mut S) -> (bool, usize, usize)
+    ensures stays { Stays (S.view space.old) (S.view space.new) }
+    ensures held { result.1 ≡ (S.view space.new).held }
+    ensures last { result.2 ≡ (S.view space.new).last }
+{
+    let tidied = space.tidy().is_ok();
+    (tidied, space.held(), space.last())
+}
+
+#[test]
+fn an_explicit_space_holds_no_node_and_is_tidied(rt: HostRuntime) -> Result<(), Fail> {
+    let task = switch(&rt, rt.alloc())?;
+    let mut space = ExplicitSpace::of(rt.alloc(), &task)?;
+    let init = space.init()?;
+    assert_eq!(rt; space.held(), 0);
+    assert_eq!(rt; space.last(), 0);
+    assert_eq!(rt; tidied(&mut space), (true, 0, 0));
+    assert!(rt; space.has_init(init));
+    Ok(())
+}
+
+#[test]
+fn tidying_takes_one_of_the_calls_left_and_is_refused_with_none_left(
+    rt: HostRuntime,
+) -> Result<(), Fail> {
+    let task = switch(&rt, rt.alloc())?;
+    let mut fuse = FuseSpace::new(ExplicitSpace::of(rt.alloc(), &task)?, 1);
+    assert_eq!(rt; tidied(&mut fuse), (true, 0, 0));
+    assert!(rt; fuse.left == 0);
+    assert_eq!(rt; tidied(&mut fuse), (false, 0, 0));
+    assert!(rt; fuse.init().is_err());
     Ok(())
 }
 

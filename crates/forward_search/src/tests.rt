@@ -3,9 +3,11 @@
 ghost use Rattle.std.specs.Prelude.{IfOk};
 ghost use Rattle.space_api.specs.View.{Valid};
 ghost use Rattle.space_api.specs.Frames.{Kept};
+ghost use Rattle.cost_layers.specs.Layers.{Held};
 ghost use Rattle.forward_search.specs.Forward.{IsForward};
 
 use crate::{Forward, Step};
+use cost_layers::Layers;
 use explicit_space::{ExplicitSpace, FuseSpace};
 use space_api::{Space, SpaceFault};
 use std::alloc::Global;
@@ -255,6 +257,57 @@ fn there_and_back(rt: &impl Abort, alloc: Global) -> Result<Task, Memory> {
     let there = operator(alloc, 1, change(alloc, 0, 0, 1)?);
     let back = operator(alloc, 1, change(alloc, 0, 1, 0)?);
     task(rt, alloc, 2, both(there, back, alloc)?)
+}
+
+/// Layers of one ring: the initial state, at cost 0.
+fn start_layers<S: Space>(alloc: Global, space: &mut S) -> Result<Layers<S::Set>, SpaceFault>
+    ensures { IfOk result (Held (S.view space.new)) }
+{
+    let init = space.init()?;
+    let mut layers = Layers::new(alloc);
+    layers.add_ring(alloc, space, 0, init)?;
+    Ok(layers)
+}
+
+/// Whether the layer of this cost is the set.
+fn whole_is<S: Space>(space: &S, layers: &Layers<S::Set>, cost: u64, set: S::Set) -> bool
+    requires layers { Held (S.view space.now) layers.now }
+    requires set { Valid (S.view space.now) set }
+{
+    match layers.layer(cost) {
+        Some(whole) => space.same(whole, set),
+        None => false,
+    }
+}
+
+/// Layer 0 is the initial state, its one ring meets all states, and there is no layer 1.
+#[tactic(auto, using(crate::proofs::Standing::layers_kept))]
+fn one_ring<S: Space>(
+    rt: &impl Abort,
+    space: &mut S,
+    layers: &Layers<S::Set>,
+) -> Result<(), SpaceFault>
+    requires { Held (S.view space.old) layers.now }
+{
+    let sets = both_parts(space)?;
+    assert!(rt; whole_is(space, layers, 0, sets.start));
+    assert_eq!(rt; layers.rings(0), 1);
+    assert!(rt; layers.ring(0, 1).is_none());
+    assert!(rt; layers.layer(1).is_none());
+    assert!(rt; layers.least_ring_meeting(space, 0, sets.union)? == Some(0));
+    Ok(())
+}
+
+fn rings_once<S: Space>(rt: &impl Abort, alloc: Global, space: &mut S) -> Result<(), SpaceFault> {
+    let layers = start_layers(alloc, space)?;
+    one_ring(rt, space, &layers)
+}
+
+#[test]
+fn a_ring_of_the_initial_state_is_the_layer_of_its_cost(rt: HostRuntime) -> Result<(), Fail> {
+    let task = there_and_back(&rt, rt.alloc())?;
+    rings_once(&rt, rt.alloc(), &mut ExplicitSpace::of(rt.alloc(), &task)?)?;
+    Ok(())
 }
 
 /// Whether one call more is answered. One that is refused leaves the bound, and how many rings costs 0 and 1 have.

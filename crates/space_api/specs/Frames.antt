@@ -27,6 +27,7 @@ pub record Forgot {Set : Type 0} (v w : View Set) (a : Set) : Type 0 where
   pub valid : (b : Set) → Valid v b → b ≢ a → Valid w b
   pub only : (b : Set) → Valid w b → Valid v b
   pub same : (b : Set) → Valid w b → (s : State) → w.has b s ≡ v.has b s
+  pub last : w.last ≡ v.last
 
 -- the same sets are valid, and each has the same states
 pub record Stays {Set : Type 0} (v w : View Set) : Type 0 where

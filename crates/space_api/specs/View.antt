@@ -1,4 +1,5 @@
--- What a space tells: its system, which sets are valid, and which states each has.
+-- What a space tells: its system, which sets are valid, and which states each has; and how many nodes it holds, and how many
+-- it needed after it last collected.
 use Rattle.std.specs.Prelude.{◌≡◌, ℕ, Bool, IsTrue, IsFalse, ◌⊎◌}
 use Rattle.task_system.specs.System.{State, System, Leads, Listed}
 
@@ -6,6 +7,8 @@ pub record View (Set : Type 0) : Type 0 where
   pub system : System
   pub valid : Set → Bool
   pub has : Set → State → Bool
+  pub held : ℕ
+  pub last : ℕ
 
 -- the set may be used
 abbrev pub Valid : {Set : Type 0} → View Set → Set → Type 0

@@ -1,9 +1,10 @@
 //! Spaces of sets of states.
 
-ghost use Rattle.std.specs.Prelude.{◌≡◌, ◌<◌, ◌↔◌, ℕ, IsTrue, IsFalse, IfOk, OnErr, length, slice_index};
+ghost use Rattle.std.specs.Prelude.{◌≡◌, ◌+◌, ◌*◌, ◌<◌, ◌≤◌, ◌↔◌, ℕ, IsTrue, IsFalse, IfOk, OnOk, OnErr, length, slice_index};
 ghost use Rattle.task_system.specs.System.{State, Listed};
 ghost use Rattle.space_api.specs.View.{View, Valid, Has, HasMember, IsEmpty, HasSame, GoalIn, Unites, Meets, Lacks, Image, CostImage, Preimage, CostPreimage};
-ghost use Rattle.space_api.specs.Frames.{Kept, NoMore, Gives, Forgot};
+ghost use Rattle.space_api.specs.Frames.{Kept, NoMore, Gives, Forgot, Stays};
+ghost use Rattle.space_api.specs.Tidied.{Tidied, SameRoom};
 ghost use Rattle.space_api.specs.Costs.{costs_of};
 
 use symk_task::Memory;
@@ -20,33 +21,40 @@ pub trait Space {
     /// A name of a set. It is copied freely; the set is given back once, by `forget`.
     type Set: Copy;
 
-    /// The system, which sets are valid, and which states each has.
+    /// The system, which sets are valid, which states each has, and how many nodes are held and were needed last.
     ghost view: { Self → View Self.Set };
+
+    /// Whether the space needs just so many nodes for its valid sets and for itself.
+    ghost needs: { Self → ℕ → Type 0 };
 
     /// No state.
     fn empty(&mut self) -> Result<Self::Set, SpaceFault>
         ensures kept { Kept (view self.old) (view self.new) }
         ensures ok { IfOk result (Gives (view self.old) (view self.new) (λ _. ⊥)) }
-        ensures err { OnErr result (NoMore (view self.old) (view self.new)) };
+        ensures err { OnErr result (NoMore (view self.old) (view self.new)) }
+        ensures last { (view self.new).last ≡ (view self.old).last };
 
     /// Every state of the system.
     fn all(&mut self) -> Result<Self::Set, SpaceFault>
         ensures kept { Kept (view self.old) (view self.new) }
         ensures ok { IfOk result (Gives (view self.old) (view self.new) (Listed (view self.old).system.states)) }
-        ensures err { OnErr result (NoMore (view self.old) (view self.new)) };
+        ensures err { OnErr result (NoMore (view self.old) (view self.new)) }
+        ensures last { (view self.new).last ≡ (view self.old).last };
 
     /// The initial state alone.
     fn init(&mut self) -> Result<Self::Set, SpaceFault>
         ensures kept { Kept (view self.old) (view self.new) }
         ensures ok { IfOk result (Gives (view self.old) (view self.new) (λ s. s ≡ (view self.old).system.initial)) }
-        ensures err { OnErr result (NoMore (view self.old) (view self.new)) };
+        ensures err { OnErr result (NoMore (view self.old) (view self.new)) }
+        ensures last { (view self.new).last ≡ (view self.old).last };
 
     /// The states of `a` where the goal holds.
     fn goal_in(&mut self, a: Self::Set) -> Result<Self::Set, SpaceFault>
         requires { Valid (view self.old) a }
         ensures kept { Kept (view self.old) (view self.new) }
         ensures ok { IfOk result (Gives (view self.old) (view self.new) (GoalIn (view self.old) a)) }
-        ensures err { OnErr result (NoMore (view self.old) (view self.new)) };
+        ensures err { OnErr result (NoMore (view self.old) (view self.new)) }
+        ensures last { (view self.new).last ≡ (view self.old).last };
 
     /// The states of `a` or `b`.
     fn unite(&mut self, a: Self::Set, b: Self::Set) -> Result<Self::Set, SpaceFault>
@@ -54,7 +62,8 @@ pub trait Space {
         requires b { Valid (view self.old) b }
         ensures kept { Kept (view self.old) (view self.new) }
         ensures ok { IfOk result (Gives (view self.old) (view self.new) (Unites (view self.old) a b)) }
-        ensures err { OnErr result (NoMore (view self.old) (view self.new)) };
+        ensures err { OnErr result (NoMore (view self.old) (view self.new)) }
+        ensures last { (view self.new).last ≡ (view self.old).last };
 
     /// The states of both `a` and `b`.
     fn meet(&mut self, a: Self::Set, b: Self::Set) -> Result<Self::Set, SpaceFault>
@@ -62,7 +71,8 @@ pub trait Space {
         requires b { Valid (view self.old) b }
         ensures kept { Kept (view self.old) (view self.new) }
         ensures ok { IfOk result (Gives (view self.old) (view self.new) (Meets (view self.old) a b)) }
-        ensures err { OnErr result (NoMore (view self.old) (view self.new)) };
+        ensures err { OnErr result (NoMore (view self.old) (view self.new)) }
+        ensures last { (view self.new).last ≡ (view self.old).last };
 
     /// The states of `a` that are not in `b`.
     fn minus(&mut self, a: Self::Set, b: Self::Set) -> Result<Self::Set, SpaceFault>
@@ -70,14 +80,16 @@ pub trait Space {
         requires b { Valid (view self.old) b }
         ensures kept { Kept (view self.old) (view self.new) }
         ensures ok { IfOk result (Gives (view self.old) (view self.new) (Lacks (view self.old) a b)) }
-        ensures err { OnErr result (NoMore (view self.old) (view self.new)) };
+        ensures err { OnErr result (NoMore (view self.old) (view self.new)) }
+        ensures last { (view self.new).last ≡ (view self.old).last };
 
     /// The states to which operators of cost `w` lead from states of `a`.
     fn image_cost(&mut self, w: u64, a: Self::Set) -> Result<Self::Set, SpaceFault>
         requires { Valid (view self.old) a }
         ensures kept { Kept (view self.old) (view self.new) }
         ensures ok { IfOk result (Gives (view self.old) (view self.new) (CostImage (view self.old) w a)) }
-        ensures err { OnErr result (NoMore (view self.old) (view self.new)) };
+        ensures err { OnErr result (NoMore (view self.old) (view self.new)) }
+        ensures last { (view self.new).last ≡ (view self.old).last };
 
     /// The states to which the operator leads from those states of `a` to which it applies.
     fn image_op(&mut self, op: u32, a: Self::Set) -> Result<Self::Set, SpaceFault>
@@ -85,7 +97,8 @@ pub trait Space {
         requires op { op < (view self.old).system.operators }
         ensures kept { Kept (view self.old) (view self.new) }
         ensures ok { IfOk result (Gives (view self.old) (view self.new) (Image (view self.old) op a)) }
-        ensures err { OnErr result (NoMore (view self.old) (view self.new)) };
+        ensures err { OnErr result (NoMore (view self.old) (view self.new)) }
+        ensures last { (view self.new).last ≡ (view self.old).last };
 
     /// The states of `within` from which an operator of cost `w` leads to a state of `a`.
     fn pre_cost(&mut self, w: u64, a: Self::Set, within: Self::Set) -> Result<Self::Set, SpaceFault>
@@ -93,7 +106,8 @@ pub trait Space {
         requires within { Valid (view self.old) within }
         ensures kept { Kept (view self.old) (view self.new) }
         ensures ok { IfOk result (Gives (view self.old) (view self.new) (CostPreimage (view self.old) w a within)) }
-        ensures err { OnErr result (NoMore (view self.old) (view self.new)) };
+        ensures err { OnErr result (NoMore (view self.old) (view self.new)) }
+        ensures last { (view self.new).last ≡ (view self.old).last };
 
     /// The states of `within` from which the operator leads to a state of `a`.
     fn pre_op(&mut self, op: u32, a: Self::Set, within: Self::Set) -> Result<Self::Set, SpaceFault>
@@ -102,12 +116,28 @@ pub trait Space {
         requires op { op < (view self.old).system.operators }
         ensures kept { Kept (view self.old) (view self.new) }
         ensures ok { IfOk result (Gives (view self.old) (view self.new) (Preimage (view self.old) op a within)) }
-        ensures err { OnErr result (NoMore (view self.old) (view self.new)) };
+        ensures err { OnErr result (NoMore (view self.old) (view self.new)) }
+        ensures last { (view self.new).last ≡ (view self.old).last };
 
     /// Gives a set back. It takes no memory.
     fn forget(&mut self, a: Self::Set)
         requires { Valid (view self.old) a }
         ensures { Forgot (view self.old) (view self.new) a };
+
+    /// How many nodes the space holds, 0 where it holds none. It takes no memory.
+    fn held(&self) -> usize
+        ensures { result ≡ (view self.now).held };
+
+    /// How many nodes were needed after the last collection, 0 before the first. It takes no memory.
+    fn last(&self) -> usize
+        ensures { result ≡ (view self.now).last };
+
+    /// Collects, that is throws away what the space doesn't need, where more than twice as many nodes as were needed last
+    /// time, and 1,000, are held. Else nothing changes.
+    fn tidy(&mut self) -> Result<(), SpaceFault>
+        ensures stays { Stays (view self.old) (view self.new) }
+        ensures ok { OnOk result (Tidied (needs self.old) (needs self.new) (view self.old) (view self.new)) }
+        ensures err { OnErr result (SameRoom (view self.old) (view self.new)) };
 
     /// Whether the set has no state.
     fn is_empty(&self, a: Self::Set) -> bool

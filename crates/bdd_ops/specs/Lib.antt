@@ -3,3 +3,4 @@ pub mod Quantified
 pub mod Renamed
 pub mod Cached
 pub mod KeyHash
+pub mod Recent

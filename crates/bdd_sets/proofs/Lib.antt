@@ -2,5 +2,5 @@ pub mod Splitting
 pub mod OfStates
 mod Room
 mod Members
-mod Conjunctions
-mod Spelled
+pub mod Conjunctions
+pub mod Spelled

@@ -6,3 +6,4 @@ pub mod Marking
 pub mod Moving
 pub mod Counting
 pub mod Collecting
+pub mod Growing

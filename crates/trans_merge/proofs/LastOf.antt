@@ -1,9 +1,9 @@
 -- The last of a list, and what a call says of a result.
-use Rattle.std.proofs.Common.{◌≡◌, ℕ, zero, suc, ◌+◌, ◌-◌, inr, List, [], ◌∷◌, ◌++◌, length, Option, Some, None, IsSome, IfSome, Result, Ok, Err, IfOk, OnOk, slice_get, refl, sym, ◌∙◌, ap, subst, arith, true≢false}
+use Rattle.std.proofs.Common.{◌≡◌, ℕ, zero, suc, ◌+◌, ◌-◌, inl, inr, List, [], ◌∷◌, ◌++◌, length, Option, Some, None, IsSome, IfSome, IfNone, Result, Ok, Err, IfOk, OnOk, slice_get, refl, sym, ◌∙◌, ap, subst, arith, true≢false}
 use Rattle.bdd_table.specs.declared.node.Node.{Node}
 use Rattle.var_order.specs.Layout.{Layout}
 use Rattle.transitions.specs.declared.relations.Relation.{Relation}
-use Rattle.trans_merge.specs.Merging.{JoinsLast, Adds}
+use Rattle.trans_merge.specs.Merging.{JoinsLast, JoinsNone, Adds}
 
 abbrev value_or : Relation → Option Relation → Relation
 value_or d None = d
@@ -40,3 +40,17 @@ adds_joined o old new ms merged after r joined bound found e same h put =
     let x = subst (λ (v : Option Relation). IfSome v (JoinsLast o old ms r bound new)) e h in
     let there = sym same ∙ x.2 in
     inr (x.0, x.1, joined, there, put x.0 x.1 there, x.3, x.4)
+
+none_by : (found : Option Relation) (P Q : Type 0) → IfNone found P → (P → Q) → IfNone found Q
+none_by None P Q p f = f p
+none_by (Some x) P Q p f = tt
+
+pub none_found_by : {E : Type 0} (r : Result (Option Relation) E) (P Q : Type 0) → IfOk r (λ found. IfNone found P) → (P → Q) → IfOk r (λ found. IfNone found Q)
+none_found_by (Ok found) P Q p f = none_by found P Q p f
+none_found_by (Err e) P Q p f = tt
+
+-- the relation was added
+pub adds_alone : (o : Layout) (old new : List Node) (ms merged after : List Relation) (r : Relation) (bound : ℕ) (found : Option Relation) → found ≡ None → ms ≡ merged
+    → IfNone found (JoinsNone o old ms r bound new) → after ≡ merged ++ r ∷ [] → Adds o old merged r bound new after
+adds_alone o old new ms merged after r bound found e same h put =
+    inl (put, subst (λ (xs : List Relation). JoinsNone o old xs r bound new) same (subst (λ (v : Option Relation). IfNone v (JoinsNone o old ms r bound new)) e h))

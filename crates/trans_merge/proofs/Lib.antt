@@ -1,10 +1,10 @@
-pub mod Growing
 pub mod Reaching
 pub mod Among
-pub mod Conjoined
 pub mod Staying
 pub mod WiderSteps
 pub mod Joined
 pub mod Visiting
 pub mod Merged
 pub mod LastOf
+pub mod Unions
+pub mod Greedy

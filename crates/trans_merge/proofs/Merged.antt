@@ -6,8 +6,10 @@ use Rattle.bdd_table.specs.declared.node.Node.{Node}
 use Rattle.bdd_table.specs.Diagram.{Bits, means, IsReduced, Keeps}
 use Rattle.var_order.specs.Layout.{Layout}
 use Rattle.transitions.specs.declared.relations.Relation.{Relation}
-use Rattle.transitions.specs.Relations.{Connects}
-use Rattle.transitions.proofs.Using.{steps_alike}
+use Rattle.transitions.specs.Ready.{IsReady}
+use Rattle.transitions.specs.Relations.{Connects, Relates}
+use Rattle.axiom_layers.proofs.RootValues.{keeps_on}
+use Rattle.transitions.proofs.Using.{steps_alike, steps_of_relates}
 use Rattle.trans_merge.specs.Size.{HasAtMost}
 use Rattle.trans_merge.specs.Merging.{IsRelation, Leads, SomeLeads, IsJoined, IsMerged, Merges, Adds}
 use Rattle.trans_merge.specs.Merging.Merges.{none, more}
@@ -47,17 +49,29 @@ abbrev first_or : Relation → List Relation → Relation
 first_or d [] = d
 first_or d (x ∷ xs) = x
 
--- tables that keep what was known
-pub keeps_itself : (xs : List Node) → Keeps xs xs
-keeps_itself xs = record { known = omega arith; meaning = λ id b lt. refl }
+-- what all have, one has
+pub part_holds : (P : Relation → Type 0) (done rest : List Relation) (x : Relation) → All P (done ++ x ∷ rest) → P x
+part_holds P [] rest x h = h 0 x (omega arith)
+part_holds P (y ∷ done) rest x h = part_holds P done rest x (λ i d lt. h (suc i) d (omega (arith, lt)))
 
-pub keeps_on : (xs ys zs : List Node) → Keeps xs ys → Keeps ys zs → Keeps xs zs
-keeps_on xs ys zs k l = record {
-  known = (let a = k.known in let c = l.known in omega (arith, a, c));
-  meaning = λ id b lt. l.meaning id b (let a = k.known in omega (arith, a, lt)) ∙ k.meaning id b lt;
-}
+-- and those before it
+pub front_holds : (P : Relation → Type 0) (done rest : List Relation) → All P (done ++ rest) → All P done
+front_holds P [] rest h i d lt = absurd (omega (arith, lt))
+front_holds P (x ∷ done) rest h zero d lt = h 0 d (omega arith)
+front_holds P (x ∷ done) rest h (suc i) d lt = front_holds P done rest (λ j e less. h (suc j) e (omega (arith, less))) i d (omega (arith, lt))
+
+-- all have it, with one more that has
+pub all_and : (P : Relation → Type 0) (xs : List Relation) (x : Relation) → All P xs → P x → All P (xs ++ x ∷ [])
+all_and P [] x h is zero d lt = is
+all_and P [] x h is (suc i) d lt = absurd (omega (arith, lt))
+all_and P (y ∷ xs) x h is zero d lt = h 0 d (omega arith)
+all_and P (y ∷ xs) x h is (suc i) d lt = all_and P xs x (λ j e less. h (suc j) e (omega (arith, less))) is i d (omega (arith, lt))
 
 module _ (o : Layout) where
+  -- what relates states is a set of steps
+  pub related : (nodes : List Node) (r : Relation) (R : List ℕ → List ℕ → Type 0) → r.root < length nodes → IsReady r → Relates o r.touched.items R (means nodes r.root) → IsRelation o nodes r
+  related nodes r R known ready relates = record { known = known; ready = ready; steps = steps_of_relates o r.touched.items R (means nodes r.root) relates }
+
   pub relation_kept : (old new : List Node) (r : Relation) → Keeps old new → IsRelation o old r → IsRelation o new r
   relation_kept old new r k is = record {
     known = (let a = is.known in let c = k.known in omega (arith, a, c));
@@ -68,11 +82,15 @@ module _ (o : Layout) where
   pub relations_kept : (old new : List Node) (rs : List Relation) → Keeps old new → All (IsRelation o old) rs → All (IsRelation o new) rs
   relations_kept old new rs k all i d lt = relation_kept old new (get_or rs i d) k (all i d lt)
 
+  -- one of relations that were known
+  pub one_kept : (old new : List Node) (rs : List Relation) (i : ℕ) (r : Relation) → Keeps old new → All (IsRelation o old) rs → i < length rs → r ≡ get_or rs i r → IsRelation o new r
+  one_kept old new rs i r k all lt is = relation_kept old new r k (subst (λ (x : Relation). IsRelation o old x) (sym is) (all i r lt))
+
   -- the steps are those that they were
-  leads_kept : (old new : List Node) (r : Relation) (s t : List ℕ) → Keeps old new → r.root < length old → Leads o old s t r ↔ Leads o new s t r
+  pub leads_kept : (old new : List Node) (r : Relation) (s t : List ℕ) → Keeps old new → r.root < length old → Leads o old s t r ↔ Leads o new s t r
   leads_kept old new r s t k known = connects_alike o r.touched.items (means old r.root) (means new r.root) s t (λ b. k.meaning r.root b known)
 
-  some_append : (nodes : List Node) (s t : List ℕ) (xs ys : List Relation) → SomeLeads o nodes s t (xs ++ ys) ↔ (SomeLeads o nodes s t xs ⊎ SomeLeads o nodes s t ys)
+  pub some_append : (nodes : List Node) (s t : List ℕ) (xs ys : List Relation) → SomeLeads o nodes s t (xs ++ ys) ↔ (SomeLeads o nodes s t xs ⊎ SomeLeads o nodes s t ys)
   some_append nodes s t [] ys = ((λ h. inr h), (λ h. elim h [ inl x ↦ absurd x | inr y ↦ y ]))
   some_append nodes s t (x ∷ xs) ys =
       let rest = some_append nodes s t xs ys in (
@@ -130,13 +148,7 @@ module _ (o : Layout) where
     -- the relations that are joined so far
     pub all_merged : (members : List Relation) (now : List Node) (results : List Relation) → Merges o bound start members now results → All (IsRelation o now) results
     all_merged _ now _ (none _) = λ i d lt. absurd (omega (arith, lt))
-    all_merged _ now _ (more members part results _ r before is) = all_last results (all_merged members now results before)
-      where
-        all_last : (xs : List Relation) → All (IsRelation o now) xs → All (IsRelation o now) (xs ++ r ∷ [])
-        all_last [] h zero d lt = is.relation
-        all_last [] h (suc i) d lt = absurd (omega (arith, lt))
-        all_last (x ∷ xs) h zero d lt = h 0 d (omega arith)
-        all_last (x ∷ xs) h (suc i) d lt = all_last xs (λ j e less. h (suc j) e (omega (arith, less))) i d (omega (arith, lt))
+    all_merged _ now _ (more members part results _ r before is) = all_and (IsRelation o now) results r (all_merged members now results before) is.relation
 
     -- The last of the results, and those before it.
     pub record HasLast (members : List Relation) (now : List Node) (front : List Relation) (last : Relation) : Type 0 where
@@ -162,7 +174,7 @@ module _ (o : Layout) where
     pub merges_more : (members : List Relation) (old new : List Node) (before after : List Relation) (r : Relation) → IsReduced old → IsReduced new → Keeps start old → Keeps old new → IsRelation o start r
         → Merges o bound start members old before → Adds o old before r bound new after → Merges o bound start (members ++ r ∷ []) new after
     merges_more members old new before after r ro rn k l is was added = elim added [
-      | inl e ↦ subst (λ (xs : List Relation). Merges o bound start (members ++ r ∷ []) new xs) (sym e)
+      | inl (e, _) ↦ subst (λ (xs : List Relation). Merges o bound start (members ++ r ∷ []) new xs) (sym e)
           (more members (r ∷ []) before new r (merges_kept members old new before ro rn l was) (alone new r (keeps_on start old new k l) is))
       | inr (front, last, joined, there, now, made, few) ↦ (
           let h = last_of members old before front last was there in
@@ -171,8 +183,3 @@ module _ (o : Layout) where
           (subst (λ (xs : List Relation). Merges o bound start (h.earlier ++ (h.part ++ r ∷ [])) new xs) (sym now)
           (more h.earlier (h.part ++ r ∷ []) front new joined (merges_kept h.earlier old new front ro rn l h.before) (joined_in old new h.part last r joined k is h.is made few))))
     ]
-
--- what all have, one has
-pub part_holds : (P : Relation → Type 0) (done rest : List Relation) (x : Relation) → All P (done ++ x ∷ rest) → P x
-part_holds P [] rest x h = h 0 x (omega arith)
-part_holds P (y ∷ done) rest x h = part_holds P done rest x (λ i d lt. h (suc i) d (omega (arith, lt)))

@@ -6,7 +6,7 @@ use Rattle.bdd_table.specs.Collected.{Reaches, AreReached}
 use Rattle.bdd_table.specs.Collected.Reaches.{root, lo, hi}
 use Rattle.bdd_table.proofs.Adding.{lo_known, hi_known}
 use Rattle.trans_merge.specs.Size.{HasAtMost}
-use Rattle.trans_merge.proofs.Growing.{kept_grows}
+use Rattle.bdd_table.proofs.Growing.{kept_grows}
 
 module _ (old new : List Node) (ro : IsReduced old) (g : Grows old new) (roots : List ℕ) (known : (i : ℕ) → i < length roots → slice_index roots i < length old) where
   reached_there : (id : ℕ) → Reaches old roots id → (id < length old) × Reaches new roots id
@@ -34,6 +34,13 @@ module _ (old new : List Node) (ro : IsReduced old) (g : Grows old new) (roots :
     only = λ i d lt. (let w = r.only i d lt in (w.0, (reached_there _ w.1).1));
   }
 
+  pub reached_before : (ids : List ℕ) → AreReached new roots ids → AreReached old roots ids
+  reached_before ids r = record {
+    once = r.once;
+    each = λ id two h. r.each id two (reached_there id h).1;
+    only = λ i d lt. (let w = r.only i d lt in (w.0, (reached_back _ w.1).1));
+  }
+
 pub one_known : (n id i : ℕ) → id < n → i < length (id ∷ []) → slice_index (id ∷ []) i < n
 one_known n id zero h lt = h
 one_known n id (suc i) h lt = absurd (omega (arith, lt))
@@ -41,3 +48,7 @@ one_known n id (suc i) h lt = absurd (omega (arith, lt))
 -- an Id has as many nodes as before
 pub at_most_kept : (old new : List Node) (id most : ℕ) → IsReduced old → IsReduced new → Keeps old new → id < length old → HasAtMost old id most → HasAtMost new id most
 at_most_kept old new id most ro rn k known h = (h.0, reached_grown old new ro (kept_grows old new ro rn k) (id ∷ []) (λ i lt. one_known (length old) id i known lt) h.0 h.1, h.2)
+
+-- and had as many
+pub at_most_before : (old new : List Node) (id most : ℕ) → IsReduced old → IsReduced new → Keeps old new → id < length old → HasAtMost new id most → HasAtMost old id most
+at_most_before old new id most ro rn k known h = (h.0, reached_before old new ro (kept_grows old new ro rn k) (id ∷ []) (λ i lt. one_known (length old) id i known lt) h.0 h.1, h.2)

@@ -5,7 +5,7 @@ use Rattle.bdd_table.specs.Diagram.{Bits}
 use Rattle.bdd_ops.specs.Quantified.{is_in}
 use Rattle.var_order.specs.Layout.{Layout, bits, level_at}
 use Rattle.transitions.specs.NextValues.{agree}
-use Rattle.trans_merge.proofs.Conjoined.{PassFrom}
+use Rattle.bdd_sets.proofs.Conjunctions.{PassFrom}
 use Rattle.trans_merge.specs.Widened.{stays_at, Stay}
 
 stays_by : (i w x y : Bool) → ((i || not w) || agree x y) ≡ true → w ≡ true → i ≡ false → y ≡ x

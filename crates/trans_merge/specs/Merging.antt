@@ -1,12 +1,12 @@
 -- What merged relations are made of.
-use Rattle.std.specs.Prelude.{◌≡◌, ℕ, ◌<◌, ◌≤◌, ◌↔◌, ◌⊎◌, [], ◌∷◌, ◌++◌, List, length}
+use Rattle.std.specs.Prelude.{◌≡◌, ℕ, Bool, ◌<◌, ◌≤◌, ◌↔◌, ◌⊎◌, [], ◌∷◌, ◌++◌, List, length}
 use Rattle.bdd_table.specs.declared.node.Node.{Node}
-use Rattle.bdd_table.specs.Diagram.{means}
+use Rattle.bdd_table.specs.Diagram.{Bits, means}
 use Rattle.var_order.specs.Layout.{Layout}
 use Rattle.var_order.specs.Codes.{IsStateOf}
 use Rattle.transitions.specs.declared.relations.Relation.{Relation}
 use Rattle.transitions.specs.Ready.{IsReady}
-use Rattle.transitions.specs.Relations.{Connects, IsStepSet}
+use Rattle.transitions.specs.Relations.{Connects, IsStepSet, Successor, Predecessor}
 use Rattle.trans_merge.specs.Size.{HasAtMost}
 use Rattle.trans_merge.specs.Widened.{united}
 
@@ -24,6 +24,16 @@ Leads o nodes s t r = Connects o r.touched.items (means nodes r.root) s t
 abbrev pub SomeLeads : Layout → List Node → List ℕ → List ℕ → List Relation → Type 0
 SomeLeads o nodes s t [] = ⊥
 SomeLeads o nodes s t (r ∷ rs) = Leads o nodes s t r ⊎ SomeLeads o nodes s t rs
+
+-- some relation of the list leads to the state from a member of the set
+abbrev pub SomeSuccessor : Layout → List Node → (Bits → Bool) → List ℕ → List Relation → Type 0
+SomeSuccessor o nodes set t [] = ⊥
+SomeSuccessor o nodes set t (r ∷ rs) = Successor o r.touched.items (means nodes r.root) set t ⊎ SomeSuccessor o nodes set t rs
+
+-- some relation of the list leads from the state to a member of the set
+abbrev pub SomePredecessor : Layout → List Node → (Bits → Bool) → List ℕ → List Relation → Type 0
+SomePredecessor o nodes set s [] = ⊥
+SomePredecessor o nodes set s (r ∷ rs) = Predecessor o r.touched.items (means nodes r.root) set s ⊎ SomePredecessor o nodes set s rs
 
 -- the relation, in the new list, has the steps of a and b in the old, and no others
 pub record IsJoined (o : Layout) (old : List Node) (a b : Relation) (new : List Node) (r : Relation) : Type 0 where
@@ -51,8 +61,22 @@ abbrev pub JoinsLast : Layout → List Node → List Relation → Relation → �
 JoinsLast o old merged r bound new joined =
     (front : List Relation) × (last : Relation) × (merged ≡ front ++ last ∷ []) × IsJoined o old last r new joined × HasAtMost new joined.root bound
 
--- the relation was joined into the last one, within the bound, or was added
+-- there is no last one of these, or the new list has it with r joined into it, and past the bound
+abbrev pub JoinsNone : Layout → List Node → List Relation → Relation → ℕ → List Node → Type 0
+JoinsNone o old merged r bound new =
+    (merged ≡ [])
+    ⊎ ((front : List Relation) × (last : Relation) × (joined : Relation) × (merged ≡ front ++ last ∷ []) × IsJoined o old last r new joined × (HasAtMost new joined.root bound → ⊥))
+
+-- the relation was joined into the last one, within the bound, or was added where that is past the bound
 abbrev pub Adds : Layout → List Node → List Relation → Relation → ℕ → List Node → List Relation → Type 0
 Adds o old merged r bound new after =
-    (after ≡ merged ++ r ∷ [])
+    ((after ≡ merged ++ r ∷ []) × JoinsNone o old merged r bound new)
     ⊎ ((front : List Relation) × (last : Relation) × (joined : Relation) × (merged ≡ front ++ last ∷ []) × (after ≡ front ++ joined ∷ []) × IsJoined o old last r new joined × HasAtMost new joined.root bound)
+
+-- The results of a walk over the members in their order. Each member is joined into the last result where the joined relation has
+-- at most so many nodes; where it has more, and where there is no result, the member begins a new one. All that is joined on the
+-- way is in the list, also what has too many nodes.
+pub data IsGreedy (o : Layout) (bound : ℕ) (nodes : List Node) : List Relation → List Relation → Type 0 where
+  nothing : IsGreedy o bound nodes [] []
+  begins : (members results : List Relation) (r : Relation) → IsGreedy o bound nodes members results → JoinsNone o nodes results r bound nodes → IsGreedy o bound nodes (members ++ r ∷ []) (results ++ r ∷ [])
+  joins : (members front : List Relation) (last r joined : Relation) → IsGreedy o bound nodes members (front ++ last ∷ []) → IsJoined o nodes last r nodes joined → HasAtMost nodes joined.root bound → IsGreedy o bound nodes (members ++ r ∷ []) (front ++ joined ∷ [])

@@ -1,7 +1,8 @@
 //! Two relations as one.
 
-ghost use Rattle.std.specs.Prelude.{◌≡◌, ◌<◌, ◌∷◌, [], length, IfOk, IfSome};
+ghost use Rattle.std.specs.Prelude.{◌≡◌, ◌<◌, ◌∷◌, [], length, IfOk, IfSome, IfNone};
 ghost use Rattle.bdd_table.specs.Diagram.{means, Keeps, IsReduced};
+ghost use Rattle.transitions.specs.declared.relations.Relation.{Relation as RelationOf};
 ghost use Rattle.trans_merge.specs.Size.{HasAtMost};
 ghost use Rattle.trans_merge.specs.Widened.{united};
 ghost use Rattle.trans_merge.specs.Merging.{IsRelation, IsJoined};
@@ -37,7 +38,7 @@ pub fn join(
     Ok(Relation::of(alloc, root, touched)?)
 }
 
-/// The steps of either relation, if the diagram has at most so many nodes.
+/// The steps of either relation, if the diagram has at most so many nodes; `None` where it has more.
 pub fn join_within(
     alloc: Global,
     order: &Order,
@@ -50,6 +51,8 @@ pub fn join_within(
     requires b { IsRelation order.now ops.old b.now }
     ensures joined { IfOk result (λ found. IfSome found (IsJoined order.now ops.old a.now b.now ops.new)) }
     ensures within { IfOk result (λ found. IfSome found (λ r. HasAtMost ops.new r.root bound)) }
+    ensures large { IfOk result (λ found. IfNone found ((r : RelationOf)
+        × IsJoined order.now ops.old a.now b.now ops.new r × (HasAtMost ops.new r.root bound → ⊥))) }
     ensures kept { Keeps ops.old ops.new }
     ensures reduced { IsReduced ops.new }
 {

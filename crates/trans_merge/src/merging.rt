@@ -1,9 +1,9 @@
 //! Relations joined one after the other.
 
-ghost use Rattle.std.specs.Prelude.{◌≡◌, ◌++◌, ◌∷◌, [], List, All, IfOk, OnOk, IfSome};
+ghost use Rattle.std.specs.Prelude.{◌≡◌, ◌++◌, ◌∷◌, [], List, All, IfOk, OnOk, IfSome, IfNone};
 ghost use Rattle.bdd_table.specs.Diagram.{Keeps, IsReduced};
 ghost use Rattle.transitions.specs.declared.relations.Relation.{Relation as RelationOf};
-ghost use Rattle.trans_merge.specs.Merging.{IsRelation, Merges, JoinsLast, Adds};
+ghost use Rattle.trans_merge.specs.Merging.{IsRelation, Merges, IsGreedy, JoinsLast, JoinsNone, Adds};
 
 use crate::joining::join_within;
 use bdd_ops::Ops;
@@ -24,6 +24,7 @@ fn join_last(
     requires merged { All (IsRelation order.now ops.old) merged.now }
     requires relation { IsRelation order.now ops.old relation.now }
     ensures joined { IfOk result (λ found. IfSome found (JoinsLast order.now ops.old merged.now relation.now bound ops.new)) }
+    ensures alone { IfOk result (λ found. IfNone found (JoinsNone order.now ops.old merged.now relation.now bound ops.new)) }
     ensures kept { Keeps ops.old ops.new }
     ensures reduced { IsReduced ops.new }
 {
@@ -68,8 +69,8 @@ fn add(
     }
 }
 
-/// The relations, joined one after the other in their order while a joined one has at most `bound` nodes, those counted that
-/// its root reaches, without the constants. The steps of a result are those of its members; as each member is in one result,
+/// The relations, joined one after the other in their order: each into the last result where the joined relation has at most
+/// `bound` nodes, those counted that its root reaches, without the constants; else it begins a new result. The steps of a result are those of its members; as each member is in one result,
 /// the images by the results together are those by the members together, and so the preimages (Burch, Clarke and Long,
 /// "Symbolic Model Checking with Partitioned Transition Relations", 1991; for planning, Torralba, Edelkamp and Kissmann,
 /// "Transition Trees for Cost-Optimal Symbolic Planning", 2013). Relations of different costs are not to be merged.
@@ -82,6 +83,7 @@ pub fn merge(
 ) -> Result<Vec<Relation>, TableFault>
     requires { All (IsRelation order.now ops.old) relations.items }
     ensures merges { IfOk result (λ results. Merges order.now bound ops.old relations.items ops.new results.items) }
+    ensures greedy { IfOk result (λ results. IsGreedy order.now bound ops.new relations.items results.items) }
     ensures kept { Keeps ops.old ops.new }
     ensures reduced { IsReduced ops.new }
 {

@@ -2,30 +2,13 @@
 
 ghost use Rattle.std.specs.Prelude.{◌≡◌, ◌<◌, ◌↔◌, true, length, IfOk};
 ghost use Rattle.bdd_table.specs.Diagram.{Bits, means, Keeps, IsReduced};
-ghost use Rattle.var_order.specs.Layout.{level_at};
-ghost use Rattle.transitions.specs.NextValues.{agree};
 ghost use Rattle.trans_merge.specs.Widened.{stays_at, Stay};
 
 use crate::places::is_among;
 use bdd_ops::Ops;
 use bdd_table::{Id, TRUE, TableFault};
+use transitions::same_bit;
 use var_order::Order;
-
-/// Where the bit of the next state at the place is that of the state.
-fn same_bit(ops: &mut Ops, place: u32) -> Result<Id, TableFault>
-    requires { place < 2147483647 }
-    ensures known { IfOk result (λ id. id < length ops.new) }
-    ensures meaning { IfOk result (λ id. (b : Bits) → means ops.new id b ≡ agree (b (level_at 0 place)) (b (level_at 1 place))) }
-    ensures kept { Keeps ops.old ops.new }
-    ensures reduced { IsReduced ops.new }
-{
-    let now = ops.literal(2 * place, true)?;
-    let next = ops.literal(2 * place + 1, true)?;
-    let both = ops.conj(now, next)?;
-    let either = ops.disj(now, next)?;
-    let neither = ops.neg(either)?;
-    ops.disj(both, neither)
-}
 
 /// Where the bit at the place stays, if the place is one of `wide` but not of `own`; else everywhere.
 fn stay_at(ops: &mut Ops, own: &[u32], wide: &[u32], place: u32) -> Result<Id, TableFault>

@@ -18,7 +18,7 @@ use symk_task::{Effect, Fact, Task};
 use var_order::Order;
 
 /// Where the bit of the next state at the place is that of the state.
-fn same_bit(ops: &mut Ops, place: u32) -> Result<Id, TableFault>
+pub fn same_bit(ops: &mut Ops, place: u32) -> Result<Id, TableFault>
     requires { place < 2147483647 }
     ensures known { IfOk result (λ id. id < length ops.new) }
     ensures meaning { IfOk result (λ id. (b : Bits) → means ops.new id b ≡ agree (b (level_at 0 place)) (b (level_at 1 place))) }

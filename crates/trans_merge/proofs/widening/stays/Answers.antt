@@ -1,7 +1,7 @@
 use Rattle.std.proofs.Common.{◌-◌, arith}
 use Rattle.var_order.specs.Layout.{bits}
-use Rattle.trans_merge.proofs.Conjoined.{conj_none, conj_more}
-use Rattle.trans_merge.proofs.Conjoined.{through}
+use Rattle.bdd_sets.proofs.Conjunctions.{conj_none, conj_more}
+use Rattle.bdd_sets.proofs.Spelled.{through}
 use Rattle.trans_merge.specs.Widened.{stays_at}
 use Rattle.trans_merge.proofs.Staying.{all_stay}
 use Rattle.trans_merge.proofs.widening.stays.Goals as goal

@@ -1,5 +1,5 @@
 use Rattle.var_order.specs.Layout.{bits}
-use Rattle.trans_merge.proofs.Conjoined.{IsConj}
+use Rattle.bdd_sets.proofs.Conjunctions.{IsConj}
 use Rattle.trans_merge.specs.Widened.{stays_at}
 use Rattle.trans_merge.proofs.widening.stays.Given as goal
 

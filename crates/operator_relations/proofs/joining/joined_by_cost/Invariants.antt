@@ -1,0 +1,11 @@
+use Rattle.bdd_table.specs.Diagram.{Keeps, IsReduced}
+use Rattle.operator_relations.specs.Gathered.{AreSingle, AreJoined}
+use Rattle.operator_relations.proofs.joining.joined_by_cost.Given as goal
+
+abbrev pub invariant-loop-cost : goal.invariant-loop-cost
+invariant-loop-cost l = record {
+  kept : Keeps l.fn.ops l.ops;
+  reduced : IsReduced l.ops;
+  single : AreSingle l.task l.order l.ops l.single;
+  so_far : AreJoined l.task l.order l.ops l.costs l.cost-index l.starts.items l.joined.items;
+}

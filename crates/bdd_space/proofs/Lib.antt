@@ -1,0 +1,10 @@
+pub mod Having
+pub mod Keeping
+pub mod Stepping
+pub mod Made
+pub mod Asked
+pub mod Needing
+pub mod Moved
+pub mod Calls
+pub mod Begun
+pub mod Tidying

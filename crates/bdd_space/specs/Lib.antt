@@ -1,0 +1,4 @@
+pub mod Slots
+pub mod Members
+pub mod Symbolic
+pub mod Seen

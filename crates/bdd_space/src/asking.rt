@@ -1,0 +1,43 @@
+//! What is asked of sets.
+
+ghost use Rattle.std.specs.Prelude.{◌≡◌, ◌<◌, ◌↔◌, IsTrue, IsFalse};
+ghost use Rattle.space_api.specs.View.{Valid, HasMember, IsEmpty, HasSame};
+ghost use Rattle.bdd_space.specs.Seen.{seen};
+
+use crate::symbolic::BddSpace;
+use bdd_sets::has;
+use bdd_table::FALSE;
+
+impl<'a> BddSpace<'a> {
+    /// Whether the set has no state.
+    pub(crate) fn has_none(&self, a: usize) -> bool
+        requires { Valid (seen self.now) a }
+        ensures empty { IsTrue result ↔ IsEmpty (seen self.now) a }
+        ensures member { IsFalse result → HasMember (seen self.now) a }
+    {
+        let set = self.id(a);
+        let _ = &self.ops;
+        set == FALSE
+    }
+
+    /// Whether the sets have the same states.
+    pub(crate) fn have_same(&self, a: usize, b: usize) -> bool
+        requires a { Valid (seen self.now) a }
+        requires b { Valid (seen self.now) b }
+        ensures { IsTrue result ↔ HasSame (seen self.now) a b }
+    {
+        let f = self.id(a);
+        let g = self.id(b);
+        let _ = &self.ops;
+        f == g
+    }
+
+    /// Whether the set has the initial state.
+    pub(crate) fn has_start(&self, a: usize) -> bool
+        requires { Valid (seen self.now) a }
+        ensures { result ≡ (seen self.now).has a (seen self.now).system.initial }
+    {
+        let set = self.id(a);
+        has(&self.ops, &self.order, set, &self.initial)
+    }
+}

@@ -1,0 +1,88 @@
+//! The space of a task.
+
+ghost use Rattle.std.specs.Prelude.{◌≡◌, ℕ, IsFalse, IfOk};
+ghost use Rattle.bdd_table.specs.Diagram.{Keeps, IsReduced};
+ghost use Rattle.symk_task.specs.Plans.{IsInitial};
+ghost use Rattle.task_system.specs.Computed.{system_of};
+ghost use Rattle.var_order.specs.Layout.{IsOrderOf};
+ghost use Rattle.axiom_layers.specs.Roots.{AreRoots};
+ghost use Rattle.bdd_space.specs.Symbolic.{OwnAre};
+ghost use Rattle.bdd_space.specs.Seen.{seen};
+
+use crate::slots::Slots;
+use crate::symbolic::{BddSpace, Own};
+use axiom_layers::{Derived, compile};
+use bdd_ops::Ops;
+use bdd_sets::{state_set, valid_set};
+use bdd_table::Table;
+use operator_relations::OperatorRelations;
+use std::alloc::Global;
+use symk_task::{Memory, State, Task};
+use var_order::Order;
+
+/// How many results the operations keep: of the sizes that were measured, none is best for all tasks, and this one is never far
+/// from it.
+const CACHE: usize = 65_536;
+
+/// Relations of one cost are joined while a joined one has at most so many nodes. Fewer relations make fewer products an image,
+/// and larger ones dearer products; at a few thousand nodes a joined relation is still small beside the sets of a search that
+/// is worth the name.
+const JOINED_NODES: u64 = 4096;
+
+/// The Ids that a space keeps for itself.
+fn own_sets(
+    task: &Task,
+    order: &Order,
+    initial: &State,
+    derived: &Derived,
+    ops: &mut Ops,
+) -> Result<Own, Memory>
+    requires order { IsOrderOf task.now order.now }
+    requires initial { IsInitial task.now initial.now }
+    requires roots { AreRoots task.now order.now ops.old derived.now }
+    ensures are { IfOk result (OwnAre task.now order.now ops.new) }
+    ensures kept { Keeps ops.old ops.new }
+    ensures reduced { IsReduced ops.new }
+{
+    let facts = derived.facts_set(task, order, ops, task.parts().goal.as_slice())?;
+    let all = valid_set(ops, order)?;
+    let start = state_set(ops, order, initial)?;
+    let goals = ops.conj(all, facts)?;
+    Ok(Own { all, start, goals })
+}
+
+impl<'a> BddSpace<'a> {
+    /// The space of the task, with no valid set.
+    pub fn of(alloc: Global, task: &'a Task) -> Result<BddSpace<'a>, Memory>
+        ensures system { IfOk result (λ space. (seen space).system ≡ system_of task.now) }
+        ensures none { IfOk result (λ space. (a : ℕ) → IsFalse ((seen space).valid a)) }
+        ensures last { IfOk result (λ space. (seen space).last ≡ 0) }
+    {
+        // A task fits, and so the space's own facts hold.
+        let _ = task.parts();
+        let order = Order::of(alloc, task)?;
+        let initial = task.start(alloc)?;
+        let mut ops = Ops::new(Table::new(alloc)?, CACHE)?;
+        let derived = compile(alloc, task, &order, &mut ops)?;
+        let own = own_sets(task, &order, &initial, &derived, &mut ops)?;
+        let relations = OperatorRelations::of(
+            alloc,
+            task,
+            &order,
+            &mut ops,
+            &derived,
+            JOINED_NODES,
+        )?;
+        let sets = Slots::new(alloc);
+        Ok(BddSpace {
+            task,
+            order,
+            initial,
+            ops,
+            own,
+            relations,
+            sets,
+            last: 0,
+        })
+    }
+}

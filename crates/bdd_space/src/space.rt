@@ -1,0 +1,123 @@
+//! The calls of a space.
+
+ghost use Rattle.std.specs.Prelude.{◌≡◌, ◌+◌, ◌*◌, ◌<◌, ◌≤◌, ◌↔◌, ◌⊎◌, ℕ, length, slice_index, IsTrue, IsFalse, IfOk, OnOk, OnErr};
+ghost use Rattle.task_system.specs.System.{Listed};
+ghost use Rattle.space_api.specs.View.{View, Valid, Has, HasMember, IsEmpty, HasSame, GoalIn, Unites, Meets, Lacks, Image, CostImage, Preimage, CostPreimage};
+ghost use Rattle.space_api.specs.Frames.{Kept, NoMore, Gives, Forgot, Stays};
+ghost use Rattle.space_api.specs.Tidied.{Tidied, SameRoom};
+ghost use Rattle.space_api.specs.Costs.{costs_of};
+ghost use Rattle.bdd_space.specs.Seen.{seen, Needs};
+
+use crate::symbolic::BddSpace;
+use space_api::{Space, SpaceFault};
+
+impl<'a> Space for BddSpace<'a> {
+    type Set = usize;
+
+    ghost view = { seen };
+
+    ghost needs = { Needs };
+
+    fn empty(&mut self) -> Result<usize, SpaceFault> {
+        let set = self.none();
+        self.add(set)
+    }
+
+    fn all(&mut self) -> Result<usize, SpaceFault> {
+        let set = self.every();
+        self.add(set)
+    }
+
+    fn init(&mut self) -> Result<usize, SpaceFault> {
+        let set = self.start();
+        self.add(set)
+    }
+
+    fn goal_in(&mut self, a: usize) -> Result<usize, SpaceFault> {
+        let set = self.goals_of(a)?;
+        self.add(set)
+    }
+
+    fn unite(&mut self, a: usize, b: usize) -> Result<usize, SpaceFault> {
+        let set = self.united(a, b)?;
+        self.add(set)
+    }
+
+    fn meet(&mut self, a: usize, b: usize) -> Result<usize, SpaceFault> {
+        let set = self.common(a, b)?;
+        self.add(set)
+    }
+
+    fn minus(&mut self, a: usize, b: usize) -> Result<usize, SpaceFault> {
+        let set = self.left(a, b)?;
+        self.add(set)
+    }
+
+    fn image_cost(&mut self, w: u64, a: usize) -> Result<usize, SpaceFault> {
+        let set = self.reached_at(w, a)?;
+        self.add(set)
+    }
+
+    fn image_op(&mut self, op: u32, a: usize) -> Result<usize, SpaceFault> {
+        let set = self.reached(op, a)?;
+        self.add(set)
+    }
+
+    fn pre_cost(&mut self, w: u64, a: usize, within: usize) -> Result<usize, SpaceFault> {
+        let set = self.leading_at(w, a, within)?;
+        self.add(set)
+    }
+
+    fn pre_op(&mut self, op: u32, a: usize, within: usize) -> Result<usize, SpaceFault> {
+        let set = self.leading(op, a, within)?;
+        self.add(set)
+    }
+
+    fn forget(&mut self, a: usize) {
+        self.sets.empty(a);
+    }
+
+    fn held(&self) -> usize {
+        self.nodes()
+    }
+
+    fn last(&self) -> usize {
+        self.last
+    }
+
+    fn tidy(&mut self) -> Result<(), SpaceFault> {
+        if self.is_full() {
+            self.collect()
+        } else {
+            Ok(())
+        }
+    }
+
+    fn is_empty(&self, a: usize) -> bool {
+        self.has_none(a)
+    }
+
+    fn same(&self, a: usize, b: usize) -> bool {
+        self.have_same(a, b)
+    }
+
+    fn has_init(&self, a: usize) -> bool {
+        self.has_start(a)
+    }
+
+    fn costs(&self) -> usize {
+        self.relations.costs().len()
+    }
+
+    fn cost_at(&self, i: usize) -> u64 {
+        self.relations.costs()[i]
+    }
+
+    fn operators(&self) -> u32 {
+        self.task.operators()
+    }
+
+    fn cost_of(&self, op: u32) -> u64 {
+        self.task.cost(op)
+    }
+}

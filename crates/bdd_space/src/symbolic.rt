@@ -1,0 +1,75 @@
+//! A task, a table, and sets of the task's states by number.
+
+use crate::slots::Slots;
+use bdd_ops::Ops;
+use bdd_table::{FALSE, Id};
+use operator_relations::OperatorRelations;
+use std::marker::Model;
+use symk_task::{Memory, State, Task};
+use var_order::Order;
+
+/// The sets of states of one task, each a decision diagram.
+#[derive(Drop)]
+pub struct BddSpace<'a> {
+    pub(crate) task: &'a Task,
+    pub(crate) order: Order,
+    pub(crate) initial: State,
+    pub(crate) ops: Ops,
+    pub(crate) own: Own,
+    pub(crate) relations: OperatorRelations,
+    pub(crate) sets: Slots,
+    /// How many nodes were needed after the last collection.
+    pub(crate) last: usize,
+}
+
+/// The Ids that a space keeps for itself.
+#[derive(Clone, Copy)]
+pub(crate) struct Own {
+    /// All states.
+    pub(crate) all: Id,
+    /// The initial state.
+    pub(crate) start: Id,
+    /// The states in which the goal holds.
+    pub(crate) goals: Id,
+}
+
+impl<'a> Model for BddSpace<'a> {
+    ghost use Rattle.bdd_space.specs.Symbolic.{Symbolic, IsSpace};
+
+    ghost Value = { Symbolic };
+
+    ghost view = { λ a. record { task = a.task.now; order = a.order; nodes = a.ops; own = a.own; relations = a.relations; sets = a.sets.slots.items; last = a.last } };
+
+    ghost invariant = { λ a. IsSpace (record { task = a.task.now; order = a.order; nodes = a.ops; own = a.own; relations = a.relations; sets = a.sets.slots.items; last = a.last }) a.initial };
+}
+
+ghost use Rattle.std.specs.Prelude.{◌≡◌, ◌<◌, ◌↔◌, ℕ, Some, length, IsTrue, IfOk, OnErr};
+ghost use Rattle.task_system.specs.System.{Listed};
+ghost use Rattle.space_api.specs.View.{View, Valid, GoalIn, Unites, Meets, Lacks, Image, CostImage, Preimage, CostPreimage};
+ghost use Rattle.space_api.specs.Frames.{Kept, NoMore, Gives};
+ghost use Rattle.bdd_space.specs.Slots.{set_at};
+ghost use Rattle.bdd_space.specs.Members.{has_state, IsKnownSet};
+ghost use Rattle.bdd_space.specs.Symbolic.{Grows, Makes};
+ghost use Rattle.bdd_space.specs.Seen.{seen};
+
+impl<'a> BddSpace<'a> {
+    /// The Id of a valid set.
+    pub(crate) fn id(&self, a: usize) -> Id
+        requires { Valid (seen self.now) a }
+        ensures is { set_at self.now.sets a ≡ Some result }
+        ensures set { IsKnownSet self.now.order self.now.nodes result }
+    {
+        self.sets.id(a)
+    }
+
+    /// A new set.
+    pub(crate) fn add(&mut self, id: Id) -> Result<usize, Memory>
+        requires { IsKnownSet self.old.order self.old.nodes id }
+        ensures kept { Kept (seen self.old) (seen self.new) }
+        ensures ok { IfOk result (Gives (seen self.old) (seen self.new) (λ s. IsTrue (has_state self.old.order self.old.nodes id s))) }
+        ensures err { OnErr result (NoMore (seen self.old) (seen self.new)) }
+        ensures last { (seen self.new).last ≡ (seen self.old).last }
+    {
+        self.sets.put(id)
+    }
+}

@@ -1,0 +1,5 @@
+pub mod Owned
+pub mod Imaging
+pub mod Steps
+pub mod Rounding
+pub mod Searching

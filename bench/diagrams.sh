@@ -8,14 +8,7 @@
 # medians: Rattle's time by BuDDy's.
 set -eu
 top=$(cd "$(dirname "$0")/.." && pwd)
-work=$(mktemp -d)
-trap 'rm -rf "$work"' EXIT
-if [ ! -f /usr/include/bdd.h ]; then
-    as_root=$([ "$(id -u)" = 0 ] || echo sudo)
-    $as_root apt-get install -y libbdd-dev >"$work/apt.log" 2>&1 ||
-        { $as_root apt-get update && $as_root apt-get install -y libbdd-dev; } >"$work/apt.log" 2>&1 ||
-        { cat "$work/apt.log" >&2; exit 70; }
-fi
+. "$top/bench/buddy.sh"
 g++ -O3 -o "$work/buddy" "$top/bench/diagrams.cpp" -lbdd
 (cd "$top/crates/bdd_bench" && rt run -- queens 5 8192) >"$work/build.log" 2>&1 || { tail -n 20 "$work/build.log" >&2; exit 70; }
 cp "$top/crates/bdd_bench/out/bdd_bench" "$work/rattle"

@@ -11,14 +11,7 @@
 # the greatest ratio of the medians of memory.
 set -eu
 top=$(cd "$(dirname "$0")/.." && pwd)
-work=$(mktemp -d)
-trap 'rm -rf "$work"' EXIT
-if [ ! -f /usr/include/bdd.h ]; then
-    as_root=$([ "$(id -u)" = 0 ] || echo sudo)
-    $as_root apt-get install -y libbdd-dev >"$work/apt.log" 2>&1 ||
-        { $as_root apt-get update && $as_root apt-get install -y libbdd-dev; } >"$work/apt.log" 2>&1 ||
-        { cat "$work/apt.log" >&2; exit 70; }
-fi
+. "$top/bench/buddy.sh"
 for task in "gripper 20" "tiles 3" "psr 40" "switches 40"; do
     python3 "$top/bench/image_tasks.py" $task >"$work/${task% *}.sas"
 done

@@ -37,11 +37,10 @@ ghost use Rattle.explicit_space.specs.Members.{has_state, AreStates, HasThose};
 ghost use Rattle.explicit_space.specs.Explicit.{set_at};
 ghost use Rattle.explicit_space.specs.Seen.{seen};
 
-use crate::costs::costs;
 use crate::members::{difference, intersection, is_subset, single, union};
 use crate::states::all_states;
 use crate::steps::{cost_image, cost_preimage, goal_states, image, preimage};
-use space_api::{Space, SpaceFault};
+use space_api::{Space, SpaceFault, operator_costs};
 
 impl<'a> ExplicitSpace<'a> {
     /// The space of the task, with no valid set.
@@ -55,7 +54,7 @@ impl<'a> ExplicitSpace<'a> {
             task,
             rules: Rules::of(alloc, task)?,
             initial: task.start(alloc)?,
-            costs: costs(alloc, task)?,
+            costs: operator_costs(alloc, task)?,
             sets: Vec::new(alloc),
             alloc,
         })

@@ -11,7 +11,6 @@
 //! the task, and on `symk_task` for tasks and states.
 #![tactic(auto)]
 
-mod costs;
 mod explicit;
 mod fuse;
 mod members;

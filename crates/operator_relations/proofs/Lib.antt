@@ -3,7 +3,6 @@ pub mod Uniting
 pub mod Moving
 pub mod Kept
 pub mod Rooting
-pub mod CostSet
 pub mod OfCost
 pub mod Appended
 pub mod Answering

@@ -11,10 +11,9 @@
 //! grows. After every call, refused or not, each Id that was known means the same and the table is reduced; want of memory is
 //! the only refusal. Source of parting the steps by cost: Torralba, Alcázar, Kissmann and Edelkamp, "Efficient Symbolic Search
 //! for Cost-optimal Planning" (2017). It stands on `transitions` for one operator, on `trans_merge` for joining, and on
-//! `space_api` for what the list of costs is.
+//! `space_api` for the list of costs.
 #![tactic(auto)]
 
-mod costs;
 mod images;
 mod joining;
 mod members;

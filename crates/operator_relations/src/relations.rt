@@ -12,7 +12,6 @@ ghost use Rattle.operator_relations.specs.Steps.{StepOfCost, ImageBy, PreimageBy
 ghost use Rattle.operator_relations.specs.Relations.{AreRelationsOf, AreAsked};
 ghost use Rattle.operator_relations.specs.Roots.{roots_of, IsPushedInPart, AreMovedTo};
 
-use crate::costs::costs;
 use crate::images::{image_by, preimage_by};
 use crate::joining::joined_by_cost;
 use crate::roots::{push_roots, put_roots};
@@ -20,6 +19,7 @@ use crate::single::single_relations;
 use axiom_layers::Derived;
 use bdd_ops::Ops;
 use bdd_table::{FALSE, Id, TableFault};
+use space_api::operator_costs;
 use std::alloc::Global;
 use symk_task::{Memory, Task};
 use transitions::{Relation, image, preimage};
@@ -56,7 +56,7 @@ impl OperatorRelations {
         ensures reduced { IsReduced ops.new }
     {
         let single = single_relations(alloc, task, order, ops, derived)?;
-        let costs = costs(alloc, task)?;
+        let costs = operator_costs(alloc, task)?;
         let (joined, starts) = joined_by_cost(alloc, task, order, ops, &single, &costs, bound)?;
         Ok(OperatorRelations {
             costs,

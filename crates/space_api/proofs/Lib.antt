@@ -1,4 +1,5 @@
 pub mod CostList
+pub mod CostSet
 pub mod Runs
 pub mod Missed
 pub mod Keeping

@@ -1,4 +1,3 @@
-pub mod Owned
 pub mod Imaging
 pub mod Steps
 pub mod Rounding

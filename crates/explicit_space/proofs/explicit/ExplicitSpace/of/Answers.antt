@@ -5,6 +5,6 @@ invariant_of-result c = record {
   fits = c.parts.ensures.fits;
   rules = c.in_ok-of.ensures;
   initial = c.in_ok-start.ensures;
-  costs = c.in_ok-costs.ensures;
+  costs = c.in_ok-operator_costs.ensures;
   states = rw c.new.ensures.items (λ a s h. absurd (cc));
 }

@@ -31,8 +31,8 @@ fn members(alloc: Global, set: &BTreeSet<u64>) -> Result<Vec<u64>, Memory>
     set.iter().copied().collect(alloc)
 }
 
-/// The different costs, rising.
-pub fn costs(alloc: Global, task: &Task) -> Result<Vec<u64>, Memory>
+/// The different costs of the task's operators, rising. Memory is the only refusal.
+pub fn operator_costs(alloc: Global, task: &Task) -> Result<Vec<u64>, Memory>
     ensures { IfOk result (λ costs. costs.items ≡ costs_of (system_of task.now)) }
 {
     let set = cost_set(alloc, task)?;

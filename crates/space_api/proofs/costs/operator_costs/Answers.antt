@@ -2,8 +2,8 @@ use Rattle.std.proofs.Common.{◌≡◌}
 use Rattle.std.proofs.lemmas.Result.{IfOk-weaker}
 use Rattle.task_system.specs.Computed.{system_of}
 use Rattle.space_api.specs.Costs.{costs_of}
-use Rattle.explicit_space.proofs.CostSet.{listed}
-use Rattle.explicit_space.proofs.costs.costs.Goals as goal
+use Rattle.space_api.proofs.CostSet.{listed}
+use Rattle.space_api.proofs.costs.operator_costs.Goals as goal
 
 pub returns : goal.returns
 returns c =

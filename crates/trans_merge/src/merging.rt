@@ -70,10 +70,11 @@ fn add(
 }
 
 /// The relations, joined one after the other in their order: each into the last result where the joined relation has at most
-/// `bound` nodes, those counted that its root reaches, without the constants; else it begins a new result. The steps of a result are those of its members; as each member is in one result,
-/// the images by the results together are those by the members together, and so the preimages (Burch, Clarke and Long,
-/// "Symbolic Model Checking with Partitioned Transition Relations", 1991; for planning, Torralba, Edelkamp and Kissmann,
-/// "Transition Trees for Cost-Optimal Symbolic Planning", 2013). Relations of different costs are not to be merged.
+/// `bound` nodes, those counted that its root reaches, without the constants; else it begins a new result. The steps of a
+/// result are those of its members; as each member is in one result, the images by the results together are those by the
+/// members together, and so the preimages (Burch, Clarke and Long, "Symbolic Model Checking with Partitioned Transition
+/// Relations", 1991; for planning, Torralba, Edelkamp and Kissmann, "Transition Trees for Cost-Optimal Symbolic Planning",
+/// 2013). Relations of different costs are not to be merged.
 pub fn merge(
     alloc: Global,
     order: &Order,

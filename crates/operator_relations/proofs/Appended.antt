@@ -1,5 +1,5 @@
 -- The joined relations of one cost more.
-use Rattle.std.proofs.Common.{◌≡◌, ℕ, zero, suc, ◌+◌, ◌-◌, ◌<◌, ◌≤◌, ◌⊎◌, inl, inr, List, [], ◌∷◌, ◌++◌, length, get_or, take, drop, refl, sym, ◌∙◌, ap, subst, arith}
+use Rattle.std.proofs.Common.{◌≡◌, ℕ, zero, suc, ◌+◌, ◌-◌, ◌<◌, ◌≤◌, inl, inr, List, [], ◌∷◌, ◌++◌, length, get_or, take, drop, refl, sym, ◌∙◌, ap, subst, arith}
 use Rattle.std.specs.List.{slice_range}
 use Rattle.std.proofs.lemmas.List.{length-append, length-drop, take-append-le, drop-append-le, get_or_append_left}
 use Rattle.std.proofs.lemmas.List.Elements.{All-append}
@@ -11,6 +11,7 @@ use Rattle.transitions.specs.declared.relations.Relation.{Relation}
 use Rattle.trans_merge.specs.Merging.{IsRelation}
 use Rattle.operator_relations.specs.Steps.{StepOfCost, HaveSteps}
 use Rattle.operator_relations.specs.Gathered.{AreJoined}
+use Rattle.operator_relations.proofs.OfCost.{below_or_at}
 
 -- a range of the first list, and the second list whole
 range_front : {X : Type 0} (xs ys : List X) (from to : ℕ) → from ≤ to → to ≤ length xs → slice_range (xs ++ ys) from to ≡ slice_range xs from to
@@ -23,9 +24,6 @@ range_back : {X : Type 0} (xs ys : List X) (from to : ℕ) → from ≡ length x
 range_back {X} xs ys from to e f =
     let count : to - from ≡ length ys = (let g = length-append xs ys in omega (arith, e, f, g)) in
     ap (λ (n : ℕ). take n (drop from (xs ++ ys))) count ∙ ap (λ (n : ℕ). take (length ys) (drop n (xs ++ ys))) e ∙ ap (take (length ys)) (drop-append_seam xs ys) ∙ take-length ys
-
-below_or_at : (i n : ℕ) → i < n + 1 → (i < n) ⊎ (i ≡ n)
-below_or_at i n h = grind arith
 
 -- nothing is joined yet
 pub joined_none : (task : TaskParts) (o : Layout) (nodes : List Node) (costs : List ℕ) → AreJoined task o nodes costs 0 (0 ∷ []) []
@@ -43,7 +41,7 @@ joined_none task o nodes costs = record {
     at_none (suc i) = omega arith
 
 module _ (task : TaskParts) (o : Layout) (nodes : List Node) (costs : List ℕ) (n : ℕ) (starts : List ℕ) (joined part : List Relation)
-    (is : AreJoined task o nodes costs n starts joined) (have : HaveSteps o nodes (StepOfCost task (get_or costs n 0)) part) where
+    (is : AreJoined task o nodes costs n starts joined) where
   abbrev end : ℕ
   end = length (joined ++ part)
 
@@ -85,30 +83,29 @@ module _ (task : TaskParts) (o : Layout) (nodes : List Node) (costs : List ℕ) 
     | inr e ↦ (let a = ap (λ (k : ℕ). get_or after k 0) e ∙ late in omega (arith, a))
   ]
 
-  abbrev Right : ℕ → List Relation → Type 0
-  Right i rs = HaveSteps o nodes (StepOfCost task (get_or costs i 0)) rs
-
-  parts : (i : ℕ) → i < n + 1 → Right i (slice_range (joined ++ part) (get_or after i 0) (get_or after (i + 1) 0))
-  parts i lt = elim (below_or_at i n lt) [
+  -- what holds of the relations of each cost holds still, and of those that are added
+  pub parts : (Right : ℕ → List Relation → Type 0) → ((i : ℕ) → i < n → Right i (slice_range joined (get_or starts i 0) (get_or starts (i + 1) 0))) → Right n part
+      → (i : ℕ) → i < n + 1 → Right i (slice_range (joined ++ part) (get_or after i 0) (get_or after (i + 1) 0))
+  parts Right each added i lt = elim (below_or_at i n lt) [
     | inl less ↦ (
         let a = early i (omega (arith, less)) in
         let b = early (i + 1) (omega (arith, less)) in
         let e = ap (λ (x : ℕ). slice_range (joined ++ part) x (get_or after (i + 1) 0)) a ∙ ap (slice_range (joined ++ part) (get_or starts i 0)) b
         ∙ range_front joined part (get_or starts i 0) (get_or starts (i + 1) 0) (is.rising i less) (is.within (i + 1) (omega (arith, less))) in
-        subst (Right i) (sym e) (is.each i less))
+        subst (Right i) (sym e) (each i less))
     | inr e ↦ (
         let a = early i (omega (arith, e)) ∙ ap (λ (k : ℕ). get_or starts k 0) e ∙ is.last in
         let b = ap (λ (k : ℕ). get_or after (k + 1) 0) e ∙ late in
-        subst (Right i) (sym (range_back joined part (get_or after i 0) (get_or after (i + 1) 0) a b)) (subst (λ (k : ℕ). Right k part) (sym e) have))
+        subst (Right i) (sym (range_back joined part (get_or after i 0) (get_or after (i + 1) 0) a b)) (subst (λ (k : ℕ). Right k part) (sym e) added))
   ]
 
   -- one cost more
-  pub joined_more : AreJoined task o nodes costs (n + 1) after (joined ++ part)
-  joined_more = record {
+  pub joined_more : HaveSteps o nodes (StepOfCost task (get_or costs n 0)) part → AreJoined task o nodes costs (n + 1) after (joined ++ part)
+  joined_more have = record {
     count = (let e = length-append starts (end ∷ []) in let c = is.count in omega (arith, e, c));
     rising = rises;
     within = inside;
     last = late;
     all = All-append (IsRelation o nodes) joined part is.all have.relations;
-    each = parts;
+    each = parts (λ i rs. HaveSteps o nodes (StepOfCost task (get_or costs i 0)) rs) is.each have;
   }

@@ -5,4 +5,6 @@ pub mod Kept
 pub mod Rooting
 pub mod OfCost
 pub mod Appended
+pub mod Copied
+pub mod Walked
 pub mod Answering

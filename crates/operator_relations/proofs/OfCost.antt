@@ -35,7 +35,7 @@ all_one P y p zero d lt = p
 all_one P y p (suc i) d lt = absurd (omega (arith, lt))
 
 -- a copy has the steps of its original
-copy_has : (o : Layout) (nodes : List Node) (R : List ℕ → List ℕ → Type 0) (r q : Relation) → IsCopy r q → HasSteps o nodes R r → HasSteps o nodes R q
+pub copy_has : (o : Layout) (nodes : List Node) (R : List ℕ → List ℕ → Type 0) (r q : Relation) → IsCopy r q → HasSteps o nodes R r → HasSteps o nodes R q
 copy_has o nodes R r q copy is = record {
   relation = record {
     known = (let k = is.relation.known in let e = copy.root in omega (arith, k, e));
@@ -49,7 +49,7 @@ copy_has o nodes R r q copy is = record {
 abbrev pub StepBelow : TaskParts → ℕ → ℕ → List ℕ → List ℕ → Type 0
 StepBelow task cost n s t = (op : ℕ) × (op < n) × (cost_at task op ≡ cost) × Step task s op t
 
-below_or_at : (op n : ℕ) → op < n + 1 → (op < n) ⊎ (op ≡ n)
+pub below_or_at : (op n : ℕ) → op < n + 1 → (op < n) ⊎ (op ≡ n)
 below_or_at op n h = grind arith
 
 module _ (task : TaskParts) (o : Layout) (nodes : List Node) (cost : ℕ) where

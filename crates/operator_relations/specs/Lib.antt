@@ -4,3 +4,4 @@ pub mod Relations
 pub mod Roots
 pub mod Asked
 pub mod Copies
+pub mod Greedy

@@ -8,6 +8,7 @@ ghost use Rattle.transitions.specs.Ready.{IsReady};
 ghost use Rattle.operator_relations.specs.Steps.{StepOfCost, HaveSteps};
 ghost use Rattle.operator_relations.specs.Gathered.{AreSingle};
 ghost use Rattle.operator_relations.specs.Copies.{IsCopy, TakesTurn};
+ghost use Rattle.operator_relations.specs.Greedy.{operators_of, AreCopies};
 
 use std::alloc::Global;
 use symk_task::{Memory, Task};
@@ -50,7 +51,8 @@ pub fn members_of_cost(
 ) -> Result<Vec<Relation>, Memory>
     requires operators { length single.now ≡ length task.now.operators }
     requires ready { All IsReady single.now }
-    ensures { IfOk result (λ rs. (o : Layout) (nodes : List Node) → AreSingle task.now o nodes single.now
+    ensures copies { IfOk result (λ rs. AreCopies single.now (operators_of task.now cost) rs.items) }
+    ensures have { IfOk result (λ rs. (o : Layout) (nodes : List Node) → AreSingle task.now o nodes single.now
         → HaveSteps o nodes (StepOfCost task.now cost) rs.items) }
 {
     let mut members = Vec::new(alloc);

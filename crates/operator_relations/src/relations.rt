@@ -9,7 +9,7 @@ ghost use Rattle.var_order.specs.Layout.{Layout, IsOrderOf};
 ghost use Rattle.axiom_layers.specs.Roots.{AreRoots};
 ghost use Rattle.transitions.specs.Relations.{Names};
 ghost use Rattle.operator_relations.specs.Steps.{StepOfCost, ImageBy, PreimageBy};
-ghost use Rattle.operator_relations.specs.Relations.{AreRelationsOf, AreAsked};
+ghost use Rattle.operator_relations.specs.Relations.{AreRelationsOf, AreJoinedWithin, AreAsked};
 ghost use Rattle.operator_relations.specs.Roots.{roots_of, IsPushedInPart, AreMovedTo};
 
 use crate::images::{image_by, preimage_by};
@@ -39,8 +39,9 @@ pub struct OperatorRelations {
 }
 
 impl OperatorRelations {
-    /// The relations of the task's operators. Relations of one cost are joined as long as a joined one has at most `bound`
-    /// nodes, and relations of different costs never.
+    /// The relations of the task's operators. Relations of one cost are joined in the order of the operators, each into the
+    /// last joined one as long as that has at most `bound` nodes afterwards, those counted that its root reaches, without the
+    /// constants; else it begins a new one. Relations of different costs are never joined.
     pub fn of(
         alloc: Global,
         task: &Task,
@@ -52,6 +53,7 @@ impl OperatorRelations {
         requires order { IsOrderOf task.now order.now }
         requires roots { AreRoots task.now order.now ops.old derived.now }
         ensures relations { IfOk result (AreRelationsOf task.now order.now ops.new) }
+        ensures greedy { IfOk result (AreJoinedWithin task.now order.now bound ops.new) }
         ensures kept { Keeps ops.old ops.new }
         ensures reduced { IsReduced ops.new }
     {

@@ -21,5 +21,7 @@ mod members;
 mod relations;
 mod roots;
 mod single;
+#[cfg(test)]
+mod tests;
 
 pub use relations::OperatorRelations;

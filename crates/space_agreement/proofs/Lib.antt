@@ -1,0 +1,3 @@
+pub mod Amidst
+pub mod Sides
+pub mod Moving

@@ -1,0 +1,4 @@
+pub mod Random
+pub mod Calls
+pub mod Pairs
+pub mod Answers

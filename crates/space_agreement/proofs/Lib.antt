@@ -1,3 +1,5 @@
 pub mod Amidst
 pub mod Sides
 pub mod Moving
+pub mod Meaning
+pub mod Rounding

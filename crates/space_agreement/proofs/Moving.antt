@@ -8,6 +8,7 @@ use Rattle.task_system.specs.System.{State}
 use Rattle.space_api.specs.View.{View, Valid}
 use Rattle.space_api.specs.Frames.{Kept, Forgot, Stays}
 use Rattle.space_api.specs.Owned.{Amid, Trades}
+use Rattle.space_api.proofs.Owning.{amid_push}
 use Rattle.space_api.proofs.Trading.{trades_trans}
 use Rattle.space_agreement.specs.declared.pairs.Pair.{Pair}
 use Rattle.space_agreement.specs.Pairs.{lefts, rights, AreOwn, AreKept, IsAlike, AreAlike, Makes, Moves}
@@ -107,6 +108,13 @@ module _ {S T : Type 0} where
       subst (λ (ps : List (Pair S T)). Moves v v2 w w2 ps (remove pairs at)) (sym e) (moves_cut (take at pairs) p (drop (suc at) pairs) (subst (AreKept v w) e o) x y)
 
   -- the last pair
+  pub last_valid : {v : View S} {w : View T} (old new : List (Pair S T)) (p : Pair S T) → old ≡ new ++ p ∷ [] → AreKept v w old → Valid v p.left × Valid w p.right
+  last_valid {v = v} {w = w} old new p e o =
+      let k = subst (AreKept v w) e o in
+      let l = subst (AreOwn v) (map-append (λ (q : Pair S T). q.left) new (p ∷ [])) k.left in
+      let r = subst (AreOwn w) (map-append (λ (q : Pair S T). q.right) new (p ∷ [])) k.right in
+      (l.valid p.left ((amid_push (lefts new) p.left p.left).1 (inr refl)), r.valid p.right ((amid_push (rights new) p.right p.right).1 (inr refl)))
+
   pub moves_pop : {v v2 : View S} {w w2 : View T} (old new : List (Pair S T)) (p : Pair S T) → old ≡ new ++ p ∷ [] → AreKept v w old → Forgot v v2 p.left → Forgot w w2 p.right → Moves v v2 w w2 old new
   moves_pop {v = v} {v2 = v2} {w = w} {w2 = w2} old new p e o x y =
       let cut = moves_cut new p [] (subst (AreKept v w) e o) x y in

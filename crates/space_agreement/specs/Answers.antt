@@ -1,10 +1,10 @@
 -- When two spaces answer alike.
-use Rattle.std.specs.Prelude.{◌≡◌, ◌↔◌, ◌<◌, ℕ, List}
-use Rattle.std.specs.List.{AllByRecursion}
-use Rattle.task_system.specs.System.{System}
+use Rattle.std.specs.Prelude.{◌≡◌, ◌↔◌, ◌<◌, ℕ, Bool, IsTrue, List, [], ◌∷◌, ◌++◌, All}
+use Rattle.task_system.specs.System.{State, System}
 use Rattle.space_api.specs.View.{View, IsEmpty, HasSame}
 use Rattle.space_api.specs.Costs.{costs_of}
 use Rattle.space_agreement.specs.declared.pairs.Pair.{Pair}
+use Rattle.space_agreement.specs.Pairs.{Makes}
 
 -- the systems have equally many operators, each at the same cost
 pub record HaveSameOperators (y z : System) : Type 0 where
@@ -27,4 +27,11 @@ IsSameBeside v w p other = HasSame v p.left other.left ↔ HasSame w p.right oth
 -- both spaces answer alike about the pair, by itself and beside each of the others
 pub record AnswerAlike {S T : Type 0} (v : View S) (w : View T) (pairs : List (Pair S T)) (p : Pair S T) : Type 0 where
   pub alone : IsSameAlone v w p
-  pub beside : AllByRecursion (IsSameBeside v w p) pairs
+  pub beside : All (IsSameBeside v w p) pairs
+
+-- A call on each space gave a pair that stands behind the old ones, and the answer is whether the spaces answer alike about it.
+pub record Compares {S T : Type 0} (v v2 : View S) (w w2 : View T) (P Q : State → Type 0) (old new : List (Pair S T)) (yes : Bool) : Type 0 where
+  pub pair : Pair S T
+  pub made : Makes v v2 w w2 P Q pair
+  pub kept : new ≡ old ++ pair ∷ []
+  pub answer : IsTrue yes ↔ AnswerAlike v2 w2 old pair

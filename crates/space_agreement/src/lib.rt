@@ -1,6 +1,7 @@
 //! Whether two spaces agree.
 #![tactic(auto)]
 
+mod agreeing;
 mod calls;
 mod comparing;
 mod kinds;
@@ -8,4 +9,5 @@ mod pairs;
 mod random;
 mod tasks;
 
+pub use agreeing::agree;
 pub use tasks::random_task;

@@ -17,13 +17,13 @@ module _ {S T : Type 0} (v : View S) (w : View T) (first second : Pair S T) (e :
   means_to Unite s h = elim h [ inl a ↦ inl (sym (f s) ∙ a) | inr b ↦ inr (sym (g s) ∙ b) ]
   means_to Meet s h = (sym (f s) ∙ h.0, sym (g s) ∙ h.1)
   means_to Minus s h = (sym (f s) ∙ h.0, sym (g s) ∙ h.1)
-  means_to (ImageCost cost) s (op, is, t, has, leads) = (op, subst (λ (y : System). y.cost op ≡ cost) e is, t, sym (f t) ∙ has, subst (λ (y : System). Leads y op t s) e leads)
-  means_to (PreCost cost) s (within, op, is, t, has, leads) = (sym (g s) ∙ within, op, subst (λ (y : System). y.cost op ≡ cost) e is, t, sym (f t) ∙ has, subst (λ (y : System). Leads y op s t) e leads)
+  means_to (ImageCost cost) s (op, is, (t, has, leads)) = (op, subst (λ (y : System). y.cost op ≡ cost) e is, (t, sym (f t) ∙ has, subst (λ (y : System). Leads y op t s) e leads))
+  means_to (PreCost cost) s (within, (op, is, (t, has, leads))) = (sym (g s) ∙ within, (op, subst (λ (y : System). y.cost op ≡ cost) e is, (t, sym (f t) ∙ has, subst (λ (y : System). Leads y op s t) e leads)))
   means_to (ImageOp op) s (t, has, leads) = (t, sym (f t) ∙ has, subst (λ (y : System). Leads y op t s) e leads)
-  means_to (PreOp op) s (within, t, has, leads) = (sym (g s) ∙ within, t, sym (f t) ∙ has, subst (λ (y : System). Leads y op s t) e leads)
+  means_to (PreOp op) s (within, (t, has, leads)) = (sym (g s) ∙ within, (t, sym (f t) ∙ has, subst (λ (y : System). Leads y op s t) e leads))
 
 -- the sets of a pair, turned
-turned : {S T : Type 0} → Pair S T → Pair T S
+abbrev turned : {S T : Type 0} → Pair S T → Pair T S
 turned p = record { left = p.right; right = p.left }
 
 pub means_alike : {S T : Type 0} (v : View S) (w : View T) (first second : Pair S T) → v.system ≡ w.system → IsAlike v w first → IsAlike v w second → (call : Call) (s : State) → Means v call first.left second.left s ↔ Means w call first.right second.right s

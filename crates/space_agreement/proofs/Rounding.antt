@@ -1,16 +1,17 @@
 -- What a round comes to: the pair that it keeps, and that spaces of one system answer alike.
-use Rattle.std.proofs.Common.{◌≡◌, ◌<◌, ℕ, ◌↔◌, Bool, IsTrue, List, [], ◌∷◌, ◌++◌, length, refl, sym, ◌∙◌, subst, All}
+use Rattle.std.proofs.Common.{◌≡◌, ◌<◌, ◌≤◌, ℕ, ◌↔◌, Bool, IsTrue, List, [], ◌∷◌, ◌++◌, length, refl, sym, ◌∙◌, ap, subst, arith}
 use Rattle.std.specs.List.{AllByRecursion, Contains}
-use Rattle.std.proofs.lemmas.List.{append-nil}
 use Rattle.std.proofs.lemmas.List.Elements.{All-from_recursion}
-use Rattle.task_system.specs.System.{State, System}
+use Rattle.task_system.specs.System.{State, System, Listed}
 use Rattle.space_api.specs.View.{View, Valid}
-use Rattle.space_api.specs.Frames.{Kept, Gives, Forgot, Stays}
-use Rattle.space_api.proofs.Keeping.{given_back}
+use Rattle.space_api.specs.Frames.{Stays}
+use Rattle.space_agreement.specs.declared.calls.Call.{Call}
 use Rattle.space_agreement.specs.declared.pairs.Pair.{Pair}
-use Rattle.space_agreement.specs.Pairs.{lefts, rights, AreKept, AreAlike, IsAlike, Makes, Moves}
+use Rattle.space_agreement.specs.Calls.{Means}
+use Rattle.space_agreement.specs.Pairs.{AreKept, AreAlike, IsAlike, Makes, Moves}
 use Rattle.space_agreement.specs.Answers.{AnswerAlike, Compares}
-use Rattle.space_agreement.proofs.Moving.{moves_push, amid_at}
+use Rattle.space_agreement.proofs.Moving.{moves_push, moves_stay, moves_trans, amid_at}
+use Rattle.space_agreement.proofs.Meaning.{means_alike, listed_alike}
 
 -- a pair that is kept
 pub alike_at : {S T : Type 0} {v : View S} {w : View T} (pairs : List (Pair S T)) (p : Pair S T) → Contains pairs p → AreAlike v w pairs → IsAlike v w p
@@ -36,12 +37,85 @@ module _ {S T : Type 0} (v : View S) (w : View T) (pairs : List (Pair S T)) (p :
         ((λ k s. sym (h s) ∙ k s ∙ other s), (λ k s. h s ∙ k s ∙ sym (other s)));
   }
 
-module _ {S T : Type 0} {v v2 : View S} {w w2 : View T} {P Q : State → Type 0} {old new : List (Pair S T)} {yes : Bool} (o : AreKept v w old) (c : Compares v v2 w w2 P Q old new yes) (same : AreAlike v w old → (s : State) → P s ↔ Q s) where
+module _ {S T : Type 0} {v v2 : View S} {w w2 : View T} {P Q : State → Type 0} {old new : List (Pair S T)} {told : Bool} (o : AreKept v w old) (c : Compares v v2 w w2 P Q old new told) (same : AreAlike v w old → (s : State) → P s ↔ Q s) where
   pub compares_moves : Moves v v2 w w2 old new
   compares_moves = subst (λ (ps : List (Pair S T)). Moves v v2 w w2 old ps) (sym c.kept) (moves_push old c.pair o c.made same)
 
-  pub compares_yes : AreAlike v w old → IsTrue yes
+  pub compares_yes : AreAlike v w old → IsTrue told
   compares_yes h =
       let a = (moves_push old c.pair o c.made same).alike h in
       let l = last_of (IsAlike v2 w2) old c.pair a.each in
       c.answer.1 (alike_answers v2 w2 old c.pair a.system l.0 l.1)
+
+-- the pair of a call was compared with the old ones, and then put behind them
+pub compared : {S T : Type 0} {v v1 v2 : View S} {w w1 w2 : View T} {P Q : State → Type 0} {old slice new : List (Pair S T)} {pair : Pair S T} {told : Bool} → Makes v v1 w w1 P Q pair → slice ≡ old → new ≡ old ++ pair ∷ [] → v2 ≡ v1 → w2 ≡ w1 → (IsTrue told ↔ AnswerAlike v1 w1 slice pair) → Compares v v2 w w2 P Q old new told
+compared {S = S} {T = T} {v = v} {v1 = v1} {v2 = v2} {w = w} {w1 = w1} {w2 = w2} {P = P} {Q = Q} {old = old} {pair = pair} {told = told} m s n e f a = record {
+  pair = pair;
+  made = subst (λ (x : View S). Makes v x w w2 P Q pair) (sym e) (subst (λ (x : View T). Makes v v1 w x P Q pair) (sym f) m);
+  kept = n;
+  answer =
+      subst (λ (x : View S). IsTrue told ↔ AnswerAlike x w2 old pair) (sym e)
+        (subst (λ (x : View T). IsTrue told ↔ AnswerAlike v1 x old pair) (sym f)
+          (subst (λ (ps : List (Pair S T)). IsTrue told ↔ AnswerAlike v1 w1 ps pair) s a));
+}
+
+-- one call, with two pairs that are kept
+module _ {S T : Type 0} {v v2 : View S} {w w2 : View T} {old new : List (Pair S T)} {told : Bool} (o : AreKept v w old) (call : Call) (first second : Pair S T) (k : Contains old first) (l : Contains old second) (c : Compares v v2 w w2 (Means v call first.left second.left) (Means w call first.right second.right) old new told) where
+  same : AreAlike v w old → (s : State) → Means v call first.left second.left s ↔ Means w call first.right second.right s
+  same h s = means_alike v w first second h.system (alike_at old first k h) (alike_at old second l h) call s
+
+  pub call_moves : Moves v v2 w w2 old new
+  call_moves = compares_moves o c same
+
+  pub call_yes : AreAlike v w old → IsTrue told
+  call_yes = compares_yes o c same
+
+-- nothing is put behind them
+pub still : {S T : Type 0} {v v2 : View S} {w w2 : View T} {old new : List (Pair S T)} → AreKept v w old → new ≡ old → Stays v v2 → Stays w w2 → Moves v v2 w w2 old new
+still {v = v} {v2 = v2} {w = w} {w2 = w2} {old = old} o e x y = subst (λ (ps : List _). Moves v v2 w w2 old ps) (sym e) (moves_stay old o x y)
+
+-- In the midst of the rounds: what was made is kept, some pairs and not too many.
+pub record InRounds {S T : Type 0} (v v2 : View S) (w w2 : View T) (pairs : List (Pair S T)) : Type 0 where
+  pub moves : Moves v v2 w w2 [] pairs
+  pub some : 0 < length pairs
+  pub few : length pairs ≤ 16
+  pub operators : v2.system.operators ≡ w2.system.operators
+
+none_kept : {S T : Type 0} (v : View S) (w : View T) → AreKept v w []
+none_kept v w = record { left = record { valid = λ a m. absurd m; apart = tt }; right = record { valid = λ a m. absurd m; apart = tt } }
+
+-- so after the pair of all states
+module _ {S T : Type 0} {v v2 : View S} {w w2 : View T} {old new : List (Pair S T)} {told : Bool} (none : old ≡ []) (c : Compares v v2 w w2 (Listed v.system.states) (Listed w.system.states) old new told) where
+  first : Compares v v2 w w2 (Listed v.system.states) (Listed w.system.states) [] new told
+  first = subst (λ (ps : List (Pair S T)). Compares v v2 w w2 (Listed v.system.states) (Listed w.system.states) ps new told) none c
+
+  pub start_moves : Moves v v2 w w2 [] new
+  start_moves = compares_moves (none_kept v w) first (λ h. listed_alike v.system w.system h.system)
+
+  pub start_yes : v.system ≡ w.system → IsTrue told
+  start_yes e = compares_yes (none_kept v w) first (λ h. listed_alike v.system w.system h.system) (record { system = e; each = tt })
+
+  one : length new ≡ 1
+  one = ap length first.kept
+
+  pub start_in : v.system.operators ≡ w.system.operators → InRounds v v2 w w2 new
+  start_in e = record {
+    moves = start_moves;
+    some = omega (arith, one);
+    few = omega (arith, one);
+    operators = ap (λ (y : System). y.operators) start_moves.left.system ∙ e ∙ sym (ap (λ (y : System). y.operators) start_moves.right.system);
+  }
+
+-- and after each round
+module _ {S T : Type 0} {u v v2 : View S} {t w w2 : View T} {old new : List (Pair S T)} (i : InRounds u v t w old) (m : Moves v v2 w w2 old new) where
+  pub round_in : 0 < length new → length new ≤ 16 → InRounds u v2 t w2 new
+  round_in some few = record {
+    moves = moves_trans i.moves m;
+    some = some;
+    few = few;
+    operators = ap (λ (y : System). y.operators) m.left.system ∙ i.operators ∙ sym (ap (λ (y : System). y.operators) m.right.system);
+  }
+
+-- the pairs are alike where the systems are one
+pub in_alike : {S T : Type 0} {u v : View S} {t w : View T} {pairs : List (Pair S T)} → InRounds u v t w pairs → u.system ≡ t.system → AreAlike v w pairs
+in_alike i e = i.moves.alike (record { system = e; each = tt })

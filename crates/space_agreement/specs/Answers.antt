@@ -30,8 +30,8 @@ pub record AnswerAlike {S T : Type 0} (v : View S) (w : View T) (pairs : List (P
   pub beside : All (IsSameBeside v w p) pairs
 
 -- A call on each space gave a pair that stands behind the old ones, and the answer is whether the spaces answer alike about it.
-pub record Compares {S T : Type 0} (v v2 : View S) (w w2 : View T) (P Q : State → Type 0) (old new : List (Pair S T)) (yes : Bool) : Type 0 where
+pub record Compares {S T : Type 0} (v v2 : View S) (w w2 : View T) (P Q : State → Type 0) (old new : List (Pair S T)) (told : Bool) : Type 0 where
   pub pair : Pair S T
   pub made : Makes v v2 w w2 P Q pair
   pub kept : new ≡ old ++ pair ∷ []
-  pub answer : IsTrue yes ↔ AnswerAlike v2 w2 old pair
+  pub answer : IsTrue told ↔ AnswerAlike v2 w2 old pair

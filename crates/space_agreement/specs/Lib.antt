@@ -2,3 +2,4 @@ pub mod Random
 pub mod Calls
 pub mod Pairs
 pub mod Answers
+pub mod Small

@@ -1,6 +1,6 @@
 //! The variables of a task that is drawn.
 
-ghost use Rattle.std.specs.Prelude.{◌≡◌, ◌+◌, ◌^◌, ◌<◌, ◌≤◌, IfOk, vec_len};
+ghost use Rattle.std.specs.Prelude.{◌≡◌, ◌<◌, ◌≤◌, IfOk, length, vec_len};
 
 use crate::random::Random;
 use std::alloc::Global;
@@ -65,7 +65,7 @@ pub struct Kinds {
     bases: u32,
     ghost some: { 0 < bases },
     ghost within: { bases ≤ vec_len items },
-    ghost few: { vec_len items < 2 ^ 32 },
+    ghost few: { vec_len items ≤ 7 },
 }
 
 impl Kinds {
@@ -74,24 +74,29 @@ impl Kinds {
         let bases = 2 + random.below(3);
         let derived = random.below(4);
         let mut items = Vec::new(alloc);
-        for _ in 0..bases {
+        'bases: for _ in 0..bases {
             items.push(Kind::base(random))?;
         }
-        for _ in 0..derived {
+        'derived: for _ in 0..derived {
             items.push(Kind::derived(random))?;
         }
         Ok(Kinds { items, bases })
     }
 
     /// The variables, in order.
-    pub fn as_slice(&self) -> &[Kind] {
+    pub fn as_slice(&self) -> &[Kind]
+        ensures value { result.now ≡ self.now.items.items }
+        ensures few { length result.now ≤ 7 }
+    {
         &self.items
     }
 
     /// The task's variables.
-    pub fn variables(&self, alloc: Global) -> Result<List<Variable>, Memory> {
+    pub fn variables(&self, alloc: Global) -> Result<List<Variable>, Memory>
+        ensures { IfOk result (λ list. length list ≤ 7) }
+    {
         let mut variables = Vec::new(alloc);
-        for kind in self.items.as_slice() {
+        'kinds: for kind in self.items.as_slice() {
             variables.push(kind.variable(alloc)?)?;
         }
         Ok(List::of(variables))

@@ -1,6 +1,7 @@
 //! Small tasks, drawn.
 
-ghost use Rattle.std.specs.Prelude.{◌≡◌, ◌+◌, ◌<◌, ◌≤◌, IfOk};
+ghost use Rattle.std.specs.Prelude.{◌≤◌, IfOk, IfSome, length};
+ghost use Rattle.space_agreement.specs.Small.{IsSmall};
 
 use crate::kinds::{Kind, Kinds};
 use crate::random::Random;
@@ -9,7 +10,9 @@ use symk_task::{Effect, Fact, List, Memory, Name, Operator, Rule, Task, TaskPart
 
 /// A task that the seed draws: 2 to 4 base variables of 2 or 3 values, up to 3 derived ones with rules, and 1 to 6 operators of
 /// costs 0 to 3, some of whose effects have conditions. None where what was drawn is no task.
-pub fn random_task(alloc: Global, seed: u64) -> Result<Option<Task>, Memory> {
+pub fn random_task(alloc: Global, seed: u64) -> Result<Option<Task>, Memory>
+    ensures { IfOk result (λ found. IfSome found IsSmall) }
+{
     let parts = drawn_parts(alloc, &mut Random::of(seed))?;
     if !parts.fits() {
         return Ok(None);
@@ -17,7 +20,10 @@ pub fn random_task(alloc: Global, seed: u64) -> Result<Option<Task>, Memory> {
     Ok(Some(Task::of(parts)))
 }
 
-fn drawn_parts(alloc: Global, random: &mut Random) -> Result<TaskParts, Memory> {
+/// What the numbers that come draw.
+fn drawn_parts(alloc: Global, random: &mut Random) -> Result<TaskParts, Memory>
+    ensures { IfOk result IsSmall }
+{
     let kinds = Kinds::drawn(alloc, random)?;
     let metric = if random.one_in(4) { 0 } else { 1 };
     let count = 1 + random.below(2);
@@ -33,9 +39,11 @@ fn drawn_parts(alloc: Global, random: &mut Random) -> Result<TaskParts, Memory> 
 }
 
 /// 1 to 6 operators.
-fn operators(alloc: Global, random: &mut Random, kinds: &Kinds) -> Result<List<Operator>, Memory> {
+fn operators(alloc: Global, random: &mut Random, kinds: &Kinds) -> Result<List<Operator>, Memory>
+    ensures { IfOk result (λ list. length list ≤ 6) }
+{
     let mut operators = Vec::new(alloc);
-    for _ in 0..1 + random.below(6) {
+    'operators: for _ in 0..1 + random.below(6) {
         operators.push(operator(alloc, random, kinds)?)?;
     }
     Ok(List::of(operators))

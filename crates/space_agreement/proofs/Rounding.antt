@@ -1,5 +1,5 @@
 -- What a round comes to: the pair that it keeps, and that spaces of one system answer alike.
-use Rattle.std.proofs.Common.{◌≡◌, ◌<◌, ◌≤◌, ℕ, ◌↔◌, Bool, IsTrue, List, [], ◌∷◌, ◌++◌, length, refl, sym, ◌∙◌, ap, subst, arith}
+use Rattle.std.proofs.Common.{◌≡◌, ◌+◌, ◌<◌, ◌≤◌, ℕ, zero, suc, ◌↔◌, Bool, true, IsTrue, List, [], ◌∷◌, ◌++◌, length, refl, sym, ◌∙◌, ap, subst, arith}
 use Rattle.std.specs.List.{AllByRecursion, Contains}
 use Rattle.std.proofs.lemmas.List.Elements.{All-from_recursion}
 use Rattle.task_system.specs.System.{State, System, Listed}
@@ -10,6 +10,7 @@ use Rattle.space_agreement.specs.declared.pairs.Pair.{Pair}
 use Rattle.space_agreement.specs.Calls.{Means}
 use Rattle.space_agreement.specs.Pairs.{AreKept, AreAlike, IsAlike, Makes, Moves}
 use Rattle.space_agreement.specs.Answers.{AnswerAlike, Compares}
+use Rattle.space_agreement.specs.Rounds.{IsRound, AreRounds, AgreeFor}
 use Rattle.space_agreement.proofs.Moving.{moves_push, moves_stay, moves_trans, amid_at}
 use Rattle.space_agreement.proofs.Meaning.{means_alike, listed_alike}
 
@@ -74,48 +75,90 @@ module _ {S T : Type 0} {v v2 : View S} {w w2 : View T} {old new : List (Pair S 
 pub still : {S T : Type 0} {v v2 : View S} {w w2 : View T} {old new : List (Pair S T)} → AreKept v w old → new ≡ old → Stays v v2 → Stays w w2 → Moves v v2 w w2 old new
 still {v = v} {v2 = v2} {w = w} {w2 = w2} {old = old} o e x y = subst (λ (ps : List _). Moves v v2 w w2 old ps) (sym e) (moves_stay old o x y)
 
--- In the midst of the rounds: what was made is kept, some pairs and not too many.
-pub record InRounds {S T : Type 0} (v v2 : View S) (w w2 : View T) (pairs : List (Pair S T)) : Type 0 where
+-- the call was a round, if both spaces answered alike
+pub round_of : {S T : Type 0} {v v1 v2 : View S} {w w1 w2 : View T} {old mid new : List (Pair S T)} {told : Bool} (call : Call) (first second : Pair S T) → Contains old first → Contains old second → Compares v v1 w w1 (Means v call first.left second.left) (Means w call first.right second.right) old mid told → told ≡ true → Moves v1 v2 w1 w2 mid new → IsRound v v2 w w2 old new
+round_of {v = v} {v1 = v1} {w = w} {w1 = w1} {old = old} {mid = mid} call first second k l c e m = record {
+  call = call;
+  first = first;
+  first_kept = k;
+  second = second;
+  second_kept = l;
+  left = v1;
+  right = w1;
+  more = mid;
+  compares = subst (Compares v v1 w w1 (Means v call first.left second.left) (Means w call first.right second.right) old mid) e c;
+  moves = m;
+}
+
+-- In the midst of the rounds, n of which are done: what was made is kept, some pairs and not too many.
+pub record InRounds {S T : Type 0} (n : ℕ) (v v2 : View S) (w w2 : View T) (pairs : List (Pair S T)) : Type 0 where
   pub moves : Moves v v2 w w2 [] pairs
   pub some : 0 < length pairs
   pub few : length pairs ≤ 16
   pub operators : v2.system.operators ≡ w2.system.operators
+  pub left : View S
+  pub right : View T
+  pub first : List (Pair S T)
+  pub start : Compares v left w right (Listed v.system.states) (Listed w.system.states) [] first true
+  pub rounds : AreRounds n left v2 right w2 first pairs
 
 none_kept : {S T : Type 0} (v : View S) (w : View T) → AreKept v w []
 none_kept v w = record { left = record { valid = λ a m. absurd m; apart = tt }; right = record { valid = λ a m. absurd m; apart = tt } }
 
 -- so after the pair of all states
 module _ {S T : Type 0} {v v2 : View S} {w w2 : View T} {old new : List (Pair S T)} {told : Bool} (none : old ≡ []) (c : Compares v v2 w w2 (Listed v.system.states) (Listed w.system.states) old new told) where
-  first : Compares v v2 w w2 (Listed v.system.states) (Listed w.system.states) [] new told
-  first = subst (λ (ps : List (Pair S T)). Compares v v2 w w2 (Listed v.system.states) (Listed w.system.states) ps new told) none c
+  first_pair : Compares v v2 w w2 (Listed v.system.states) (Listed w.system.states) [] new told
+  first_pair = subst (λ (ps : List (Pair S T)). Compares v v2 w w2 (Listed v.system.states) (Listed w.system.states) ps new told) none c
 
   pub start_moves : Moves v v2 w w2 [] new
-  start_moves = compares_moves (none_kept v w) first (λ h. listed_alike v.system w.system h.system)
+  start_moves = compares_moves (none_kept v w) first_pair (λ h. listed_alike v.system w.system h.system)
 
   pub start_yes : v.system ≡ w.system → IsTrue told
-  start_yes e = compares_yes (none_kept v w) first (λ h. listed_alike v.system w.system h.system) (record { system = e; each = tt })
+  start_yes e = compares_yes (none_kept v w) first_pair (λ h. listed_alike v.system w.system h.system) (record { system = e; each = tt })
 
   one : length new ≡ 1
-  one = ap length first.kept
+  one = ap length first_pair.kept
 
-  pub start_in : v.system.operators ≡ w.system.operators → InRounds v v2 w w2 new
-  start_in e = record {
+  pub start_in : v.system.operators ≡ w.system.operators → told ≡ true → InRounds 0 v v2 w w2 new
+  start_in e is = record {
     moves = start_moves;
     some = omega (arith, one);
     few = omega (arith, one);
     operators = ap (λ (y : System). y.operators) start_moves.left.system ∙ e ∙ sym (ap (λ (y : System). y.operators) start_moves.right.system);
+    left = v2;
+    right = w2;
+    first = new;
+    start = subst (Compares v v2 w w2 (Listed v.system.states) (Listed w.system.states) [] new) is first_pair;
+    rounds = (refl, refl, refl);
   }
 
 -- and after each round
-module _ {S T : Type 0} {u v v2 : View S} {t w w2 : View T} {old new : List (Pair S T)} (i : InRounds u v t w old) (m : Moves v v2 w w2 old new) where
-  pub round_in : 0 < length new → length new ≤ 16 → InRounds u v2 t w2 new
-  round_in some few = record {
+module _ {S T : Type 0} {n : ℕ} {u v v2 : View S} {t w w2 : View T} {old new : List (Pair S T)} (i : InRounds n u v t w old) (m : Moves v v2 w w2 old new) where
+  next : IsRound v v2 w w2 old new → AreRounds (suc n) i.left v2 i.right w2 i.first new
+  next r = (v, w, old, i.rounds, r)
+
+  pub round_in : 0 < length new → length new ≤ 16 → IsRound v v2 w w2 old new → InRounds (n + 1) u v2 t w2 new
+  round_in some few r = record {
     moves = moves_trans i.moves m;
     some = some;
     few = few;
     operators = ap (λ (y : System). y.operators) m.left.system ∙ i.operators ∙ sym (ap (λ (y : System). y.operators) m.right.system);
+    left = i.left;
+    right = i.right;
+    first = i.first;
+    start = i.start;
+    rounds = (let e : suc n ≡ n + 1 = omega arith in subst (λ (k : ℕ). AreRounds k i.left v2 i.right w2 i.first new) e (next r));
   }
 
--- the pairs are alike where the systems are one
-pub in_alike : {S T : Type 0} {u v : View S} {t w : View T} {pairs : List (Pair S T)} → InRounds u v t w pairs → u.system ≡ t.system → AreAlike v w pairs
-in_alike i e = i.moves.alike (record { system = e; each = tt })
+-- all rounds are done
+pub agree_for : {S T : Type 0} {n m : ℕ} {u v : View S} {t w : View T} {pairs : List (Pair S T)} → InRounds n u v t w pairs → n ≡ m → AgreeFor m u t
+agree_for {S = S} {T = T} {u = u} {v = v} {t = t} {w = w} {pairs = pairs} i e = record {
+  left = i.left;
+  right = i.right;
+  pairs = i.first;
+  start = i.start;
+  last_left = v;
+  last_right = w;
+  last = pairs;
+  rounds = subst (λ (k : ℕ). AreRounds k i.left v i.right w i.first pairs) e i.rounds;
+}

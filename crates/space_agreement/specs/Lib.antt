@@ -2,4 +2,5 @@ pub mod Random
 pub mod Calls
 pub mod Pairs
 pub mod Answers
+pub mod Rounds
 pub mod Small

@@ -7,6 +7,7 @@ ghost use Rattle.space_api.specs.Frames.{Stays};
 ghost use Rattle.space_agreement.specs.Calls.{Means, IsAmong};
 ghost use Rattle.space_agreement.specs.Pairs.{AreKept, AreAlike, Makes, Moves};
 ghost use Rattle.space_agreement.specs.Answers.{HaveSameOperators, HaveSameCosts, Compares};
+ghost use Rattle.space_agreement.specs.Rounds.{IsRound, AgreeFor};
 
 use crate::calls::{Call, drawn_call};
 use crate::comparing::{alike, same_costs, same_operators, tidied};
@@ -114,6 +115,7 @@ fn round<A: Space, B: Space>(
     ensures some { 0 < length pairs.new.items }
     ensures few { length pairs.new.items ≤ MOST }
     ensures alike { AreAlike (A.view a.old) (B.view b.old) pairs.old.items → IfOk result IsTrue }
+    ensures round { IfOk result (λ told. IsTrue told → IsRound (A.view a.old) (A.view a.new) (B.view b.old) (B.view b.new) pairs.old.items pairs.new.items) }
 {
     let call = drawn_call(random, a.operators());
     let first = drawn_pair(random, pairs);
@@ -136,6 +138,7 @@ fn rounds<A: Space, B: Space>(
     requires none { pairs.old.items ≡ [] }
     ensures moves { Moves (A.view a.old) (A.view a.new) (B.view b.old) (B.view b.new) [] pairs.new.items }
     ensures alike { (A.view a.old).system ≡ (B.view b.old).system → IfOk result IsTrue }
+    ensures rounds { IfOk result (λ told. IsTrue told → AgreeFor count (A.view a.old) (B.view b.old)) }
 {
     let mut random = Random::of(seed);
     if !start(a, b, pairs)? {
@@ -163,8 +166,9 @@ pub fn agree<A: Space, B: Space>(
     ensures left { Stays (A.view a.old) (A.view a.new) }
     ensures right { Stays (B.view b.old) (B.view b.new) }
     ensures alike { (A.view a.old).system ≡ (B.view b.old).system → IfOk result IsTrue }
-    ensures operators { IfOk result (λ yes. IsTrue yes → HaveSameOperators (A.view a.old).system (B.view b.old).system) }
-    ensures costs { IfOk result (λ yes. IsTrue yes → HaveSameCosts (A.view a.old).system (B.view b.old).system) }
+    ensures operators { IfOk result (λ told. IsTrue told → HaveSameOperators (A.view a.old).system (B.view b.old).system) }
+    ensures costs { IfOk result (λ told. IsTrue told → HaveSameCosts (A.view a.old).system (B.view b.old).system) }
+    ensures rounds { IfOk result (λ told. IsTrue told → AgreeFor count (A.view a.old) (B.view b.old)) }
 {
     if !same_operators(a, b) || !same_costs(a, b) {
         return Ok(false);

@@ -21,7 +21,7 @@ pub fn random_task(alloc: Global, seed: u64) -> Result<Option<Task>, Memory>
 }
 
 /// What the numbers that come draw.
-fn drawn_parts(alloc: Global, random: &mut Random) -> Result<TaskParts, Memory>
+pub fn drawn_parts(alloc: Global, random: &mut Random) -> Result<TaskParts, Memory>
     ensures { IfOk result IsSmall }
 {
     let kinds = Kinds::drawn(alloc, random)?;

@@ -1,33 +1,93 @@
-//! The spaces of sets of states and of decision diagrams, on tasks that are drawn.
+//! The space over ordered sets of states and the space over decision diagrams, on tasks that are drawn.
 
+use crate::agree;
 use crate::random::Random;
-use crate::{agree, random_task};
+use crate::tasks::{drawn_parts, random_task};
 use bdd_space::BddSpace;
 use explicit_space::ExplicitSpace;
 use std::alloc::Global;
 use std::test::Fail;
-use symk_task::{Memory, Task};
+use symk_task::{List, Memory, Task, TaskParts};
 
-/// Whether both spaces of the tasks answer alike, over 40 calls.
+/// Whether a space of each of the tasks answers alike, over 40 calls.
 fn agrees(alloc: Global, left: &Task, right: &Task, seed: u64) -> Result<bool, Memory> {
     let mut explicit = ExplicitSpace::of(alloc, left)?;
     let mut diagrams = BddSpace::of(alloc, right)?;
     agree(alloc, &mut explicit, &mut diagrams, seed, 40)
 }
 
+/// Whether an effect of an operator has conditions.
+fn has_conditions(parts: &TaskParts) -> bool {
+    for operator in parts.operators.as_slice() {
+        for effect in operator.effects.as_slice() {
+            if !effect.conds.is_empty() {
+                return true;
+            }
+        }
+    }
+    false
+}
+
 #[test]
 fn both_spaces_agree_on_two_hundred_tasks(rt: HostRuntime) -> Result<(), Fail> {
     let alloc = rt.alloc();
     let mut tried = 0;
+    let mut with_rules = 0;
+    let mut with_conditions = 0;
     for seed in 0..1000 {
-        if tried < 200 {
-            if let Some(task) = random_task(alloc, seed)? {
-                assert!(rt; agrees(alloc, &task, &task, seed)?);
-                tried += 1;
-            }
+        if tried == 200 {
+            break;
+        }
+        if let Some(task) = random_task(alloc, seed)? {
+            assert!(rt; agrees(alloc, &task, &task, seed)?);
+            tried += 1;
+            with_rules += u32::from(!task.parts().rules.is_empty());
+            with_conditions += u32::from(has_conditions(task.parts()));
         }
     }
     assert_eq!(rt; tried, 200);
+    assert!(rt; with_rules >= 100);
+    assert!(rt; with_conditions >= 100);
+    Ok(())
+}
+
+/// The parts that a seed draws, without a goal.
+fn without_goal(alloc: Global, seed: u64) -> Result<TaskParts, Memory> {
+    let mut parts = drawn_parts(alloc, &mut Random::of(seed))?;
+    parts.goal = List::of(Vec::new(alloc));
+    Ok(parts)
+}
+
+/// The parts that a seed draws, without the rules.
+fn without_rules(alloc: Global, seed: u64) -> Result<TaskParts, Memory> {
+    let mut parts = drawn_parts(alloc, &mut Random::of(seed))?;
+    parts.rules = List::of(Vec::new(alloc));
+    Ok(parts)
+}
+
+/// Whether the task that the seed draws and that of the parts are told from one another.
+fn is_told(alloc: Global, seed: u64, parts: TaskParts) -> Result<bool, Memory> {
+    if !parts.fits() {
+        return Ok(false);
+    }
+    let changed = Task::of(parts);
+    match random_task(alloc, seed)? {
+        Some(task) => Ok(!agrees(alloc, &task, &changed, seed)?),
+        None => Ok(false),
+    }
+}
+
+#[test]
+fn tasks_without_their_goal_or_their_rules_are_told_from_them(rt: HostRuntime) -> Result<(), Fail> {
+    let alloc = rt.alloc();
+    let mut goals = 0;
+    let mut rules = 0;
+    for seed in 0..40 {
+        goals += u32::from(is_told(alloc, seed, without_goal(alloc, seed)?)?);
+        rules += u32::from(is_told(alloc, seed, without_rules(alloc, seed)?)?);
+    }
+    assert!(rt; goals > 0);
+    assert!(rt; rules > 0);
     Ok(())
 }
 

@@ -1,5 +1,5 @@
 -- One set more or less, anywhere in a list.
-use Rattle.std.proofs.Common.{◌≡◌, ◌≢◌, Bool, true, false, IsTrue, IsFalse, ◌⊎◌, ◌↔◌, List, [], ◌∷◌, ◌++◌, inl, inr, sym, ◌∙◌, subst, arith, refl}
+use Rattle.std.proofs.Common.{◌≡◌, ◌≢◌, ◌⊎◌, ◌↔◌, List, [], ◌∷◌, ◌++◌, inl, inr, sym, ◌∙◌, arith, refl}
 use Rattle.space_api.specs.Owned.{Amid, Absent, AllApart}
 
 -- the members are x and the others

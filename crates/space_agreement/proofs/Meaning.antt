@@ -1,5 +1,5 @@
 -- Spaces of one system give by one call, with sets that have the same states, sets that have the same states.
-use Rattle.std.proofs.Common.{◌≡◌, ℕ, ◌↔◌, IsTrue, inl, inr, sym, ◌∙◌, ap, subst}
+use Rattle.std.proofs.Common.{◌≡◌, ◌↔◌, IsTrue, inl, inr, sym, ◌∙◌, ap, subst}
 use Rattle.task_system.specs.System.{State, System, Listed, Leads}
 use Rattle.space_api.specs.View.{View}
 use Rattle.space_agreement.specs.declared.calls.Call.{Call}

@@ -1,12 +1,12 @@
 -- What the pairs come to: one more, one less, all kept, one move after the other.
-use Rattle.std.proofs.Common.{◌≡◌, ℕ, zero, suc, ◌<◌, ◌↔◌, Bool, true, IsTrue, List, [], ◌∷◌, ◌++◌, take, drop, length, get_or, map, inl, inr, refl, sym, ◌∙◌, ap, subst, arith}
+use Rattle.std.proofs.Common.{◌≡◌, ℕ, zero, suc, ◌<◌, ◌↔◌, List, [], ◌∷◌, ◌++◌, take, drop, length, get_or, map, inl, inr, refl, sym, ◌∙◌, ap, subst, arith}
 use Rattle.std.specs.List.{AllByRecursion, remove}
 use Rattle.std.proofs.Math.Seq.{split_at}
 use Rattle.std.proofs.lemmas.List.{map-append, append-nil}
 use Rattle.std.proofs.lemmas.Bool.Decides.{same_from_decides}
 use Rattle.task_system.specs.System.{State}
 use Rattle.space_api.specs.View.{View, Valid}
-use Rattle.space_api.specs.Frames.{Kept, Forgot, Stays}
+use Rattle.space_api.specs.Frames.{Forgot, Stays}
 use Rattle.space_api.specs.Owned.{Amid, Trades}
 use Rattle.space_api.proofs.Owning.{amid_push}
 use Rattle.space_api.proofs.Trading.{trades_trans}
@@ -102,10 +102,11 @@ module _ {S T : Type 0} where
     }
 
   -- the pair at a place
-  pub moves_out : {v v2 : View S} {w w2 : View T} (pairs : List (Pair S T)) (at : ℕ) (p : Pair S T) → at < length pairs → p ≡ get_or pairs at p → AreKept v w pairs → Forgot v v2 p.left → Forgot w w2 p.right → Moves v v2 w w2 pairs (remove pairs at)
-  moves_out {v = v} {v2 = v2} {w = w} {w2 = w2} pairs at p lt is o x y =
+  pub moves_out : {v v2 : View S} {w w2 : View T} (pairs : List (Pair S T)) (at : ℕ) (p : Pair S T) (new : List (Pair S T)) → at < length pairs → p ≡ get_or pairs at p → new ≡ remove pairs at → AreKept v w pairs → Forgot v v2 p.left → Forgot w w2 p.right → Moves v v2 w w2 pairs new
+  moves_out {v = v} {v2 = v2} {w = w} {w2 = w2} pairs at p new lt is rest o x y =
       let e : pairs ≡ take at pairs ++ p ∷ drop (suc at) pairs = split_at pairs at p lt ∙ ap (λ (q : Pair S T). take at pairs ++ q ∷ drop (suc at) pairs) (sym is) in
-      subst (λ (ps : List (Pair S T)). Moves v v2 w w2 ps (remove pairs at)) (sym e) (moves_cut (take at pairs) p (drop (suc at) pairs) (subst (AreKept v w) e o) x y)
+      let cut = moves_cut (take at pairs) p (drop (suc at) pairs) (subst (AreKept v w) e o) x y in
+      subst (λ (ps : List (Pair S T)). Moves v v2 w w2 ps new) (sym e) (subst (λ (ps : List (Pair S T)). Moves v v2 w w2 (take at pairs ++ p ∷ drop (suc at) pairs) ps) (sym rest) cut)
 
   -- the last pair
   pub last_valid : {v : View S} {w : View T} (old new : List (Pair S T)) (p : Pair S T) → old ≡ new ++ p ∷ [] → AreKept v w old → Valid v p.left × Valid w p.right

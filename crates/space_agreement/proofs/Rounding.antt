@@ -1,5 +1,5 @@
 -- What a round comes to: the pair that it keeps, and that spaces of one system answer alike.
-use Rattle.std.proofs.Common.{◌≡◌, ◌+◌, ◌<◌, ◌≤◌, ℕ, zero, suc, ◌↔◌, Bool, true, IsTrue, List, [], ◌∷◌, ◌++◌, length, refl, sym, ◌∙◌, ap, subst, arith}
+use Rattle.std.proofs.Common.{◌≡◌, ◌+◌, ◌<◌, ◌≤◌, ℕ, suc, ◌↔◌, Bool, true, IsTrue, List, [], ◌∷◌, ◌++◌, length, refl, sym, ◌∙◌, ap, subst, arith}
 use Rattle.std.specs.List.{AllByRecursion, Contains}
 use Rattle.std.proofs.lemmas.List.Elements.{All-from_recursion}
 use Rattle.task_system.specs.System.{State, System, Listed}
@@ -56,8 +56,8 @@ compared {S = S} {T = T} {v = v} {v1 = v1} {v2 = v2} {w = w} {w1 = w1} {w2 = w2}
   kept = n;
   answer =
       subst (λ (x : View S). IsTrue told ↔ AnswerAlike x w2 old pair) (sym e)
-        (subst (λ (x : View T). IsTrue told ↔ AnswerAlike v1 x old pair) (sym f)
-          (subst (λ (ps : List (Pair S T)). IsTrue told ↔ AnswerAlike v1 w1 ps pair) s a));
+      (subst (λ (x : View T). IsTrue told ↔ AnswerAlike v1 x old pair) (sym f)
+      (subst (λ (ps : List (Pair S T)). IsTrue told ↔ AnswerAlike v1 w1 ps pair) s a));
 }
 
 -- one call, with two pairs that are kept

@@ -1,5 +1,5 @@
 -- What an owner's sets in one space come to: one more, one less, all kept.
-use Rattle.std.proofs.Common.{◌≡◌, ◌≢◌, IsTrue, IsFalse, ◌⊎◌, List, [], ◌∷◌, ◌++◌, inl, inr, sym, subst, refl}
+use Rattle.std.proofs.Common.{◌≢◌, IsTrue, IsFalse, ◌⊎◌, List, [], ◌∷◌, ◌++◌, inl, inr, sym, subst}
 use Rattle.std.proofs.lemmas.List.{append-nil}
 use Rattle.task_system.specs.System.{State}
 use Rattle.space_api.specs.View.{View, Valid}

@@ -50,10 +50,7 @@ pub fn made<A: Space, B: Space>(
 }
 
 /// All states, in both spaces.
-pub fn whole<A: Space, B: Space>(
-    a: &mut A,
-    b: &mut B,
-) -> Result<Pair<A::Set, B::Set>, SpaceFault>
+pub fn whole<A: Space, B: Space>(a: &mut A, b: &mut B) -> Result<Pair<A::Set, B::Set>, SpaceFault>
     ensures ok { IfOk result (Makes (A.view a.old) (A.view a.new) (B.view b.old) (B.view b.new)
         (Listed (A.view a.old).system.states) (Listed (B.view b.old).system.states)) }
     ensures err_left { OnErr result (Stays (A.view a.old) (A.view a.new)) }
@@ -122,11 +119,7 @@ pub fn take_out<A: Space, B: Space>(
 }
 
 /// Gives the sets of all pairs back.
-pub fn give_back<A: Space, B: Space>(
-    a: &mut A,
-    b: &mut B,
-    mut pairs: Vec<Pair<A::Set, B::Set>>,
-)
+pub fn give_back<A: Space, B: Space>(a: &mut A, b: &mut B, mut pairs: Vec<Pair<A::Set, B::Set>>)
     requires { AreKept (A.view a.old) (B.view b.old) pairs.items }
     ensures left { Trades (A.view a.old) (A.view a.new) (Amid (lefts pairs.items)) (λ x. ⊥) }
     ensures right { Trades (B.view b.old) (B.view b.new) (Amid (rights pairs.items)) (λ x. ⊥) }

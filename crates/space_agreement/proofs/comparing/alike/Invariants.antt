@@ -1,5 +1,5 @@
 use Rattle.std.proofs.Common.{take, All}
-use Rattle.space_agreement.specs.Answers.{IsSameAlone, IsSameBeside}
+use Rattle.space_agreement.specs.Answers.{IsSameBeside}
 use Rattle.space_agreement.proofs.comparing.alike.Given as goal
 
 abbrev pub invariant-pairs : goal.invariant-pairs

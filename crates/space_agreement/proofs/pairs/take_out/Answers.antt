@@ -1,5 +1,3 @@
-use Rattle.std.proofs.Common.{subst, sym, List}
-use Rattle.space_agreement.specs.Pairs.{Moves}
 use Rattle.space_agreement.proofs.Moving.{amid_at, moves_out}
 use Rattle.space_agreement.proofs.pairs.take_out.Goals as goal
 
@@ -10,7 +8,4 @@ pub forget_pair-requires-clause-right : goal.forget_pair-requires-clause-right
 forget_pair-requires-clause-right g c = c.requires.kept.right.valid c.remove-pair.result.right (amid_at (λ p. p.right) c.args.pairs.now.items c.args.at c.remove-pair.result c.requires.at c.remove-pair.ensures.value)
 
 pub returns-clause-moves : goal.returns-clause-moves
-returns-clause-moves g c =
-    let view = g.A.Space.view in
-    let moves = moves_out c.args.pairs.now.items c.args.at c.remove-pair.result c.requires.at c.remove-pair.ensures.value c.requires.kept c.forget_pair.ensures.left c.forget_pair.ensures.right in
-    subst (λ (ps : List _). Moves (view c.args.a.now) (view c.forget_pair.new.a) (g.B.Space.view c.args.b.now) (g.B.Space.view c.forget_pair.new.b) c.args.pairs.now.items ps) (sym c.remove-pair.ensures.items) moves
+returns-clause-moves g c = moves_out c.args.pairs.now.items c.args.at c.remove-pair.result c.remove-pair.new.self.items c.requires.at c.remove-pair.ensures.value c.remove-pair.ensures.items c.requires.kept c.forget_pair.ensures.left c.forget_pair.ensures.right

@@ -1,4 +1,4 @@
-use Rattle.std.proofs.Common.{◌≡◌, ◌+◌, ◌≤◌, length}
+use Rattle.std.proofs.Common.{◌≡◌, ◌+◌, length}
 use Rattle.space_agreement.proofs.kinds.Kinds.drawn.Given as goal
 
 abbrev pub invariant-bases : goal.invariant-bases

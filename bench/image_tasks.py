@@ -14,12 +14,12 @@ def variable(name, layer, values):
     return ["begin_variable", name, str(layer), str(len(values)), *values, "end_variable"]
 
 
-def operator(name, prevail, effects):
-    """An operator of cost 1. An effect is (conditions, variable, value before or -1, value after)."""
+def operator(name, prevail, effects, cost=1):
+    """An operator. An effect is (conditions, variable, value before or -1, value after)."""
     lines = ["begin_operator", name, str(len(prevail)), *[f"{var} {val}" for var, val in prevail], str(len(effects))]
     for conds, var, pre, post in effects:
         lines.append(" ".join(map(str, [len(conds), *[n for cond in conds for n in cond], var, pre, post])))
-    return [*lines, "1", "end_operator"]
+    return [*lines, str(cost), "end_operator"]
 
 
 def rule(conds, var):

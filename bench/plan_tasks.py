@@ -1,0 +1,183 @@
+#!/usr/bin/env python3
+"""plan_tasks.py KIND SIZE.. > task.sas: a task whose plans bench/plan.sh lists. Each is the same at every run.
+
+gripper N        A robot with two grippers carries N balls between two rooms.
+hanoi N          N discs go from the first of three pegs to the last.
+board W H MOVES  Sliding tiles on a board of W columns and H rows, MOVES random moves away from their goal.
+blocks N         N blocks on a table, from random towers to random towers, with a hand that takes up one.
+logistics C L P  P packages between C cities of L places each, with a truck in each city and one plane.
+visitall W H     A robot visits each cell of a grid of W columns and H rows.
+psr N            A power net of N switches and breakers, after a fault.
+lights W H N     W times H lamps, N of which were pressed: a press turns a lamp and its neighbours over.
+roads N P        One bus on N places with one-way roads, some free of charge, and P passengers.
+switches N       N switches, each of which one operator turns over, and a rule that says that all are on.
+"""
+import random
+import sys
+
+from image_tasks import gripper, operator, psr, switches, task, variable
+
+
+def neighbours(width, height):
+    """Of each cell of a grid, row by row, those beside it."""
+    cells = [(x, y) for y in range(height) for x in range(width)]
+    sides = ((0, 1), (1, 0), (0, -1), (-1, 0))
+    return {(x, y): [(x + i, y + j) for i, j in sides if (x + i, y + j) in cells] for x, y in cells}
+
+
+def hanoi(discs):
+    """The peg of each disc, the smallest first. A disc moves where no smaller one lies on its peg or on the new one."""
+    variables = [variable(f"disc{d}", -1, [f"peg{p}" for p in range(3)]) for d in range(discs)]
+    operators = [
+        operator(f"move disc{d} peg{p} peg{q}", [(smaller, 3 - p - q) for smaller in range(d)], [((), d, p, q)])
+        for d in range(discs) for p in range(3) for q in range(3) if p != q
+    ]
+    return task(variables, [0] * discs, [(d, 2) for d in range(discs)], operators, [])
+
+
+def board(width, height, moves):
+    """The cell of each tile, and last that of the blank."""
+    near, draw = neighbours(width, height), random.Random(0)
+    cells = list(near)
+    number, blank = {cell: i for i, cell in enumerate(cells)}, cells[-1]
+    lies = {cell: i for i, cell in enumerate(cells)}
+    for _ in range(moves):
+        cell = draw.choice(near[blank])
+        lies[blank], lies[cell], blank = lies[cell], lies[blank], cell
+    tiles = len(cells) - 1
+    initial = [0] * len(cells)
+    for cell, tile in lies.items():
+        initial[tile] = number[cell]
+    names = [f"cell{x}-{y}" for x, y in cells]
+    variables = [variable(f"tile{i}", -1, names) for i in range(tiles)] + [variable("blank", -1, names)]
+    operators = [
+        operator(f"move tile{i} {names[number[a]]} {names[number[b]]}", [],
+                 [((), i, number[a], number[b]), ((), tiles, number[b], number[a])])
+        for i in range(tiles) for a in cells for b in near[a]
+    ]
+    return task(variables, initial, [(i, i) for i in range(tiles)], operators, [])
+
+
+def towers(count, draw):
+    """On which block each block stands, or None for the table."""
+    order, below, last = list(range(count)), {}, None
+    draw.shuffle(order)
+    for block in order:
+        below[block] = last if last is not None and draw.random() < 0.6 else None
+        last = block
+    return below
+
+
+def blocks(count):
+    """Whether the hand is full, where each block is, and whether each is clear. Place 0 is the table, 1 the hand."""
+    draw = random.Random(0)
+    first, wanted = towers(count, draw), towers(count, draw)
+    hand, place, clear = 0, range(1, count + 1), range(count + 1, 2 * count + 1)
+    on = lambda block, other: 2 + other - (other > block)
+    variables = [variable("hand", -1, ["empty", "full"])]
+    for b in range(count):
+        variables.append(variable(f"block{b}", -1, ["table", "hand"] + [f"on{c}" for c in range(count) if c != b]))
+    variables += [variable(f"clear{b}", -1, ["no", "yes"]) for b in range(count)]
+    initial = [0] + [0 if first[b] is None else on(b, first[b]) for b in range(count)]
+    initial += [0 if b in first.values() else 1 for b in range(count)]
+    operators = []
+    for b in range(count):
+        lift, lay = [((), hand, 0, 1), ((), clear[b], 1, 0)], [((), hand, 1, 0), ((), clear[b], -1, 1)]
+        operators.append(operator(f"pick-up {b}", [], [*lift, ((), place[b], 0, 1)]))
+        operators.append(operator(f"put-down {b}", [], [*lay, ((), place[b], 1, 0)]))
+        for c in range(count):
+            if c != b:
+                operators.append(operator(f"stack {b} {c}", [], [*lay, ((), place[b], 1, on(b, c)), ((), clear[c], 1, 0)]))
+                operators.append(operator(f"unstack {b} {c}", [], [*lift, ((), place[b], on(b, c), 1), ((), clear[c], -1, 1)]))
+    return task(variables, initial, [(place[b], on(b, c)) for b, c in wanted.items() if c is not None], operators, [])
+
+
+def logistics(cities, places, packages):
+    """Where each truck, the plane and each package is. The first place of a city has the airport."""
+    draw = random.Random(0)
+    sites = [(c, p) for c in range(cities) for p in range(places)]
+    plane, package = cities, range(cities + 1, cities + 1 + packages)
+    names = [f"site{c}-{p}" for c, p in sites] + [f"truck{c}" for c in range(cities)] + ["plane"]
+    variables = [variable(f"truck{c}", -1, [f"site{c}-{p}" for p in range(places)]) for c in range(cities)]
+    variables += [variable("plane", -1, [f"site{c}-0" for c in range(cities)])]
+    variables += [variable(f"package{i}", -1, names) for i in range(packages)]
+    initial, goal = [draw.randrange(places) for _ in range(cities)] + [draw.randrange(cities)], []
+    for i in range(packages):
+        start, end = draw.sample(range(len(sites)), 2)
+        initial.append(start)
+        goal.append((package[i], end))
+    moves = [(f"drive{c}", c, p, q) for c in range(cities) for p in range(places) for q in range(places) if p != q]
+    moves += [("fly", plane, c, d) for c in range(cities) for d in range(cities) if c != d]
+    operators = [operator(f"{name} {a} {b}", [], [((), var, a, b)]) for name, var, a, b in moves]
+    for i, var in enumerate(package):
+        for at, (c, p) in enumerate(sites):
+            rides = [(f"truck{c}", (c, p), len(sites) + c)] + [("plane", (plane, c), len(sites) + cities)] * (p == 0)
+            for name, where, inside in rides:
+                operators.append(operator(f"load {i} {name} {names[at]}", [where], [((), var, at, inside)]))
+                operators.append(operator(f"unload {i} {name} {names[at]}", [where], [((), var, inside, at)]))
+    return task(variables, initial, goal, operators, [])
+
+
+def visitall(width, height):
+    """Where the robot is, and which cells it has visited."""
+    near = neighbours(width, height)
+    cells = list(near)
+    number, start = {cell: i for i, cell in enumerate(cells)}, random.Random(0).randrange(len(cells))
+    variables = [variable("robot", -1, [f"cell{x}-{y}" for x, y in cells])]
+    variables += [variable(f"visited{x}-{y}", -1, ["no", "yes"]) for x, y in cells]
+    initial = [start] + [int(i == start) for i in range(len(cells))]
+    operators = [
+        operator(f"move {number[a]} {number[b]}", [], [((), 0, number[a], number[b]), ((), 1 + number[b], -1, 1)])
+        for a in cells for b in near[a]
+    ]
+    return task(variables, initial, [(1 + i, 1) for i in range(len(cells))], operators, [])
+
+
+def lights(width, height, presses):
+    """Whether each lamp is on. All are to be off."""
+    near, draw = neighbours(width, height), random.Random(0)
+    cells = list(near)
+    number, initial = {cell: i for i, cell in enumerate(cells)}, [0] * len(cells)
+    turned = {cell: [number[other] for other in [cell, *near[cell]]] for cell in cells}
+    for _ in range(presses):
+        for lamp in turned[draw.choice(cells)]:
+            initial[lamp] ^= 1
+    variables = [variable(f"lamp{x}-{y}", -1, ["off", "on"]) for x, y in cells]
+    operators = [
+        operator(f"press {x}-{y}", [], [(((lamp, v),), lamp, -1, 1 - v) for lamp in turned[x, y] for v in (0, 1)])
+        for x, y in cells
+    ]
+    return task(variables, initial, [(i, 0) for i in range(len(cells))], operators, [])
+
+
+def roads(places, passengers):
+    """Where the bus and each passenger is. A drive costs 0 to 5, to board costs nothing, to leave 1."""
+    draw = random.Random(0)
+    variables = [variable("bus", -1, [f"place{i}" for i in range(places)])]
+    variables += [variable(f"passenger{p}", -1, [f"place{i}" for i in range(places)] + ["bus"]) for p in range(passengers)]
+    initial, goal = [0], []
+    for p in range(passengers):
+        start, end = draw.sample(range(places), 2)
+        initial.append(start)
+        goal.append((1 + p, end))
+    ways = {(i, (i + 1) % places) for i in range(places)}
+    ways |= {((i + 1) % places, i) for i in range(places) if draw.random() < 0.5}
+    ways |= {tuple(draw.sample(range(places), 2)) for _ in range(places)}
+    operators = []
+    for a, b in sorted(ways):
+        cost = 0 if draw.random() < 0.4 else draw.randrange(1, 6)
+        operators.append(operator(f"drive {a} {b}", [], [((), 0, a, b)], cost))
+    for p in range(passengers):
+        for i in range(places):
+            operators.append(operator(f"board {p} {i}", [(0, i)], [((), 1 + p, i, places)], 0))
+            operators.append(operator(f"leave {p} {i}", [(0, i)], [((), 1 + p, places, i)], 1))
+    return task(variables, initial, goal, operators, [])
+
+
+KINDS = {"gripper": gripper, "hanoi": hanoi, "board": board, "blocks": blocks, "logistics": logistics,
+         "visitall": visitall, "psr": psr, "lights": lights, "roads": roads, "switches": switches}
+
+if __name__ == "__main__":
+    if len(sys.argv) < 3 or sys.argv[1] not in KINDS:
+        sys.exit(__doc__)
+    sys.stdout.write("\n".join(KINDS[sys.argv[1]](*map(int, sys.argv[2:]))) + "\n")

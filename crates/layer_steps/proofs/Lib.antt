@@ -5,3 +5,4 @@ pub mod Growing
 pub mod Seeding
 pub mod Making
 pub mod Counting
+pub mod Trying

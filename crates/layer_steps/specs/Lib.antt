@@ -4,3 +4,4 @@ pub mod Rooms
 pub mod Closed
 pub mod Gathered
 pub mod Opening
+pub mod Leaving

@@ -5,6 +5,7 @@ pub mod Cut
 pub mod Standing
 pub mod Taking
 pub mod Passing
+pub mod NoneOut
 pub mod Found
 pub mod Narrowed
 pub mod CutSets

@@ -11,8 +11,10 @@ ghost use Rattle.cost_search.specs.Meeting.{IsLeastAt, IsLayerMeeting};
 use cost_layers::Layers;
 use space_api::{Space, SpaceFault, meets};
 
-/// The next cost after this one that has a layer.
-pub(crate) fn cost_after<T: Copy>(layers: &Layers<T>, cost: u64) -> Option<u64>
+/// The next cost after this one that has a layer, or None where no later cost has one.
+///
+/// Public, so that who walks the layers of a search, as both its sides together do, need not prove it again.
+pub fn cost_after<T: Copy>(layers: &Layers<T>, cost: u64) -> Option<u64>
     ensures { MatchOption result ((c : ℕ) → cost < c → c < 2 ^ 64 → whole_at layers.now c ≡ None) (λ n. (cost < n) × (n < 2 ^ 64) × ((c : ℕ) → cost < c → c < n → whole_at layers.now c ≡ None)) }
 {
     if cost == u64::MAX {

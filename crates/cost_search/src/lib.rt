@@ -19,4 +19,5 @@ mod giving;
 mod queue;
 mod search;
 
+pub use costs::cost_after;
 pub use search::{Search, Step};

@@ -1,0 +1,4 @@
+pub mod Law
+pub mod Asked
+pub mod Rest
+pub mod Told

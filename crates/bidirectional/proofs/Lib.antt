@@ -1,0 +1,14 @@
+pub mod Pairs
+pub mod Moving
+pub mod Above
+pub mod Least
+pub mod Past
+pub mod Known
+pub mod Finding
+pub mod Advancing
+pub mod Firsts
+pub mod NextCut
+pub mod Rest
+pub mod Opening
+pub mod Giving
+pub mod Ends

@@ -1,0 +1,97 @@
+//! Which side goes on.
+
+ghost use Rattle.std.specs.Prelude.{◌≡◌, ◌<◌, ◌≤◌, ◌⊎◌, ◌↔◌, IsTrue, IsFalse, if◌then◌else◌};
+
+/// Chooses the side that goes on.
+pub trait Choose {
+    /// Whether the forward side goes on, from what the forward layers (`f`) and the backward layers (`b`) are known below.
+    fn forward_next(&mut self, f: u128, b: u128) -> bool;
+
+    /// Is told of each step of a side once it is done: whether it was the forward side's, and how many nodes more the space
+    /// holds than before, 0 where it holds fewer.
+    fn note_step(&mut self, forward: bool, nodes: usize);
+}
+
+/// Always the forward side.
+#[derive(Clone, Copy, Debug, PartialEq, Eq)]
+pub struct AlwaysForward;
+
+/// Always the backward side.
+#[derive(Clone, Copy, Debug, PartialEq, Eq)]
+pub struct AlwaysBackward;
+
+/// The side that is known below the lower cost; the forward one where both are known below the same.
+#[derive(Clone, Copy, Debug, PartialEq, Eq)]
+pub struct Lower;
+
+/// The side whose last step made fewer nodes; where both made as many, as `Lower`.
+#[derive(Clone, Copy, Debug, PartialEq, Eq)]
+pub struct Lighter {
+    /// How many nodes the last step of the forward side made, 0 before its first.
+    pub ahead: usize,
+    /// How many nodes the last step of the backward side made, 0 before its first.
+    pub back: usize,
+}
+
+impl Lighter {
+    /// No step is noted.
+    pub fn new() -> Lighter
+        ensures { (result.ahead ≡ 0) × (result.back ≡ 0) }
+    {
+        Lighter { ahead: 0, back: 0 }
+    }
+}
+
+impl Choose for AlwaysForward {
+    fn forward_next(&mut self, _f: u128, _b: u128) -> bool
+        ensures { IsTrue result }
+    {
+        true
+    }
+
+    fn note_step(&mut self, _forward: bool, _nodes: usize) {}
+}
+
+impl Choose for AlwaysBackward {
+    fn forward_next(&mut self, _f: u128, _b: u128) -> bool
+        ensures { IsFalse result }
+    {
+        false
+    }
+
+    fn note_step(&mut self, _forward: bool, _nodes: usize) {}
+}
+
+impl Choose for Lower {
+    fn forward_next(&mut self, f: u128, b: u128) -> bool
+        ensures { IsTrue result ↔ (f ≤ b) }
+    {
+        f <= b
+    }
+
+    fn note_step(&mut self, _forward: bool, _nodes: usize) {}
+}
+
+impl Choose for Lighter {
+    fn forward_next(&mut self, f: u128, b: u128) -> bool
+        ensures same { self.new ≡ self.old }
+        ensures lighter { IsTrue result ↔ ((self.old.ahead < self.old.back) ⊎ ((self.old.ahead ≡ self.old.back) × (f ≤ b))) }
+    {
+        if self.ahead == self.back {
+            f <= b
+        } else {
+            self.ahead < self.back
+        }
+    }
+
+    fn note_step(&mut self, forward: bool, nodes: usize)
+        ensures ahead { self.new.ahead ≡ (if forward then nodes else self.old.ahead) }
+        ensures back { self.new.back ≡ (if forward then self.old.back else nodes) }
+    {
+        if forward {
+            self.ahead = nodes;
+        } else {
+            self.back = nodes;
+        }
+    }
+}

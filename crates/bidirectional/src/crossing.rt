@@ -1,0 +1,188 @@
+//! The least cost at which layers of both sides meet.
+
+ghost use Rattle.std.specs.Prelude.{◌≡◌, ◌+◌, ◌<◌, ◌≤◌, ◌^◌, ◌↔◌, ℕ, None, IsTrue, IfOk, MatchOption};
+ghost use Rattle.task_system.specs.System.{State};
+ghost use Rattle.space_api.specs.View.{View, Valid, Has, CostPreimage};
+ghost use Rattle.space_api.specs.Frames.{Stays};
+ghost use Rattle.run_graph.specs.Layering.{InLayer};
+ghost use Rattle.cost_layers.specs.Layers.{whole_at, Held, Stands};
+ghost use Rattle.bidirectional.specs.Crossing.{MeetsBy, CrossAt, CrossBy, CrossIn, IsLeastOf, IsLeastWhole};
+
+use cost_layers::Layers;
+use cost_search::cost_after;
+use space_api::{Space, SpaceFault};
+
+/// The first cost from this bound on that has a layer.
+pub(crate) fn cost_from<T: Copy>(layers: &Layers<T>, bound: u128) -> Option<u64>
+    ensures { MatchOption result ((c : ℕ) → bound ≤ c → c < 2 ^ 64 → whole_at layers.now c ≡ None) (λ n. (bound ≤ n) × (n < 2 ^ 64) × ((c : ℕ) → bound ≤ c → c < n → whole_at layers.now c ≡ None)) }
+{
+    if bound < (1u128 << 64) {
+        layers.next_cost(bound as u64)
+    } else {
+        None
+    }
+}
+
+/// Whether an operator of cost `w` leads from one set into the other.
+fn meets_by<S: Space>(space: &mut S, from: S::Set, w: u64, to: S::Set) -> Result<bool, SpaceFault>
+    requires from { Valid (S.view space.old) from }
+    requires to { Valid (S.view space.old) to }
+    ensures stays { Stays (S.view space.old) (S.view space.new) }
+    ensures ok { IfOk result (λ r. IsTrue r ↔ ((s : State) × CostPreimage (S.view space.old) w to from s)) }
+{
+    let before = space.pre_cost(w, to, from)?;
+    let empty = space.is_empty(before);
+    space.forget(before);
+    Ok(!empty)
+}
+
+/// Whether an operator of cost `w` leads from layer `x` into the set.
+pub(crate) fn layer_meets<S: Space>(
+    space: &mut S,
+    front: &Layers<S::Set>,
+    x: u64,
+    w: u64,
+    to: S::Set,
+) -> Result<bool, SpaceFault>
+    requires front { Held (S.view space.old) front.now }
+    requires to { Valid (S.view space.old) to }
+    ensures stays { Stays (S.view space.old) (S.view space.new) }
+    ensures ok { IfOk result (λ r. IsTrue r ↔ MeetsBy (S.view space.old).system (Stands (S.view space.old) front.now) (Has (S.view space.old) to) x w) }
+{
+    match front.layer(x) {
+        Some(whole) => Ok(meets_by(space, whole, w, to)?),
+        None => Ok(false),
+    }
+}
+
+/// The least cost from `low` on and below `high` at which a forward layer meets the set by an operator of cost `w`, if what
+/// is left would no longer be below `b` with it; `high` where there is none.
+fn least_by<S: Space>(
+    space: &mut S,
+    front: &Layers<S::Set>,
+    b: u128,
+    z: u64,
+    w: u64,
+    to: S::Set,
+    low: u128,
+    high: u128,
+) -> Result<u128, SpaceFault>
+    requires front { Held (S.view space.old) front.now }
+    requires to { Valid (S.view space.old) to }
+    requires range { high ≤ 2 ^ 64 }
+    ensures stays { Stays (S.view space.old) (S.view space.new) }
+    ensures ok { IfOk result (IsLeastOf (CrossAt (S.view space.old).system (Stands (S.view space.old) front.now) (Has (S.view space.old) to) b z w) low high) }
+{
+    let part = w as u128 + z as u128;
+    if part < b {
+        return Ok(high);
+    }
+    let mut next = cost_from(front, low.saturating_sub(part));
+    'costs: while let Some(x) = next {
+        let cost = x as u128 + part;
+        if high <= cost {
+            return Ok(high);
+        }
+        if layer_meets(space, front, x, w, to)? {
+            return Ok(cost);
+        }
+        next = cost_after(front, x);
+    }
+    Ok(high)
+}
+
+/// The same, by an operator of any cost.
+fn least_into<S: Space>(
+    space: &mut S,
+    front: &Layers<S::Set>,
+    b: u128,
+    z: u64,
+    to: S::Set,
+    low: u128,
+    high: u128,
+) -> Result<u128, SpaceFault>
+    requires front { Held (S.view space.old) front.now }
+    requires to { Valid (S.view space.old) to }
+    requires range { high ≤ 2 ^ 64 }
+    ensures stays { Stays (S.view space.old) (S.view space.new) }
+    ensures ok { IfOk result (IsLeastOf (CrossBy (S.view space.old).system (Stands (S.view space.old) front.now) (Has (S.view space.old) to) b z) low high) }
+{
+    let mut least = high;
+    'costs: for i in 0..space.costs() {
+        let w = space.cost_at(i);
+        least = least_by(space, front, b, z, w, to, low, least)?;
+    }
+    Ok(least)
+}
+
+/// The same, into the backward layer of this cost.
+fn least_at<S: Space>(
+    space: &mut S,
+    front: &Layers<S::Set>,
+    back: &Layers<S::Set>,
+    b: u128,
+    z: u64,
+    low: u128,
+    high: u128,
+) -> Result<u128, SpaceFault>
+    requires front { Held (S.view space.old) front.now }
+    requires back { Held (S.view space.old) back.now }
+    requires range { high ≤ 2 ^ 64 }
+    ensures stays { Stays (S.view space.old) (S.view space.new) }
+    ensures ok { IfOk result (IsLeastOf (CrossBy (S.view space.old).system (Stands (S.view space.old) front.now) (InLayer (Stands (S.view space.old) back.now) z) b z) low high) }
+{
+    match back.layer(z) {
+        Some(whole) => least_into(space, front, b, z, whole, low, high),
+        None => Ok(high),
+    }
+}
+
+/// The least cost from `low` on and below `high` at which layers of both sides meet; `high` where there is none.
+pub(crate) fn least_cross<S: Space>(
+    space: &mut S,
+    front: &Layers<S::Set>,
+    back: &Layers<S::Set>,
+    b: u128,
+    low: u128,
+    high: u128,
+) -> Result<u128, SpaceFault>
+    requires front { Held (S.view space.old) front.now }
+    requires back { Held (S.view space.old) back.now }
+    requires range { high ≤ 2 ^ 64 }
+    ensures stays { Stays (S.view space.old) (S.view space.new) }
+    ensures ok { IfOk result (IsLeastOf (CrossIn (S.view space.old).system (Stands (S.view space.old) front.now) (Stands (S.view space.old) back.now) b) low high) }
+{
+    let mut least = high;
+    let mut next = cost_from(back, 0);
+    'costs: while let Some(z) = next {
+        least = least_at(space, front, back, b, z, low, least)?;
+        next = cost_after(back, z);
+    }
+    Ok(least)
+}
+
+/// Whether the backward layer of this cost has the initial state.
+pub(crate) fn has_start<S: Space>(space: &S, back: &Layers<S::Set>, z: u64) -> bool
+    requires { Held (S.view space.now) back.now }
+    ensures { IsTrue result ↔ InLayer (Stands (S.view space.now) back.now) z (S.view space.now).system.initial }
+{
+    match back.layer(z) {
+        Some(whole) => space.has_init(whole),
+        None => false,
+    }
+}
+
+/// The least cost from `low` on whose backward layer has the initial state.
+pub(crate) fn least_whole<S: Space>(space: &S, back: &Layers<S::Set>, low: u128) -> Option<u64>
+    requires { Held (S.view space.now) back.now }
+    ensures { IsLeastWhole (S.view space.now).system (Stands (S.view space.now) back.now) low result }
+{
+    let mut next = cost_from(back, low);
+    'costs: while let Some(z) = next {
+        if has_start(space, back, z) {
+            return Some(z);
+        }
+        next = cost_after(back, z);
+    }
+    None
+}

@@ -1,0 +1,117 @@
+//! What a search from both ends tells.
+
+ghost use Rattle.std.specs.Prelude.{◌≡◌, ◌≤◌};
+ghost use Rattle.task_system.specs.Computed.{system_of};
+ghost use Rattle.bidirectional.specs.Both.{IsBoth, GoesOn};
+
+use crate::listing::{all_cuts, first_cuts};
+use bidirectional::{Both, Choose, Cut, Next, Within};
+use space_api::{Space, SpaceFault};
+use std::alloc::Global;
+use symk_task::Task;
+
+/// What is known once costs are settled, and the cuts of one of them.
+#[derive(Debug, Drop)]
+pub struct Settled {
+    /// What the forward layers are known below.
+    pub f: u128,
+    /// What the backward layers are known below.
+    pub b: u128,
+    /// The cuts, by one call after the other; at most 99.
+    pub first: Vec<Cut>,
+    /// The cuts, by the iterator.
+    pub all: Vec<Cut>,
+}
+
+/// Begins over the space of the task, settles the one cost, and lists the cuts of the other.
+pub fn cuts_once_settled<S: Space, P: Choose + Drop>(
+    alloc: Global,
+    space: &mut S,
+    task: &Task,
+    choose: P,
+    settled: u64,
+    cost: u64,
+) -> Result<Settled, SpaceFault>
+    requires system { (S.view space.old).system ≡ system_of task.now }
+    requires cost { cost ≤ settled }
+{
+    // A task fits.
+    let _ = task.parts();
+    let mut both = Both::new(alloc, space, choose)?;
+    both.settle(alloc, space, settled)?;
+    let f = both.forward_layers().known_below();
+    let b = both.backward_layers().known_below();
+    let first = first_cuts(alloc, space, &both, cost, 99)?;
+    let all = all_cuts(alloc, space, &both, cost)?;
+    both.give_back(space);
+    Ok(Settled { f, b, first, all })
+}
+
+/// Costs of plans, what came after them, and whether a layer of a cost above the greatest one was made.
+#[derive(Debug, Drop)]
+pub struct Costs {
+    /// The costs of plans up to the greatest one, rising.
+    pub within: Vec<u64>,
+    /// The cost of a layer of either side that is above the greatest one.
+    pub above: Option<u64>,
+    /// What comes after the last of these costs.
+    pub next: Next,
+}
+
+/// The costs of plans up to the greatest one, rising.
+fn costs_within<S: Space, P: Choose>(
+    alloc: Global,
+    space: &mut S,
+    both: &mut Both<S::Set, P>,
+    most: u64,
+) -> Result<Vec<u64>, SpaceFault>
+    requires { IsBoth (S.view space.old) both.old }
+    ensures { GoesOn (S.view space.old) (S.view space.new) both.old both.new }
+{
+    let mut found = Vec::new(alloc);
+    let mut above = None;
+    'costs: for _ in 0..99 {
+        match both.advance_within(alloc, space, above, most)? {
+            Within::Plans { cost } => {
+                found.push(cost)?;
+                above = Some(cost);
+            }
+            Within::Past => return Ok(found),
+        }
+    }
+    Ok(found)
+}
+
+/// The least cost above this one that has a layer on either side.
+fn layer_above<T: Copy, P: Choose>(both: &Both<T, P>, most: u64) -> Option<u64> {
+    let first = most.checked_add(1)?;
+    let ahead = both.forward_layers().next_cost(first);
+    let back = both.backward_layers().next_cost(first);
+    ahead.or(back)
+}
+
+/// Begins over the space of the task, with all states for the backward side, and lists the costs of plans up to the greatest
+/// one, at most 99, then the next. The set of all states stays in the space.
+pub fn list_costs<S: Space, P: Choose + Drop>(
+    alloc: Global,
+    space: &mut S,
+    task: &Task,
+    choose: P,
+    most: u64,
+) -> Result<Costs, SpaceFault>
+    requires { (S.view space.old).system ≡ system_of task.now }
+{
+    // A task fits.
+    let _ = task.parts();
+    let all = space.all()?;
+    let mut both = Both::new_within(alloc, space, choose, all)?;
+    let within = costs_within(alloc, space, &mut both, most)?;
+    let above = layer_above(&both, most);
+    let next = both.advance(alloc, space, within.last().copied())?;
+    both.give_back(space);
+    Ok(Costs {
+        within,
+        above,
+        next,
+    })
+}

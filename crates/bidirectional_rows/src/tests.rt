@@ -1,0 +1,357 @@
+//! Worked rows, over each space and with each choice, and drawn tasks.
+
+use crate::{Chosen, Costs, PlanCut, Settled, cuts_once_settled, list_costs, plan_cuts_of};
+use bdd_space::BddSpace;
+use bidirectional::{Cut, Next};
+use explicit_space::ExplicitSpace;
+use small_tasks::{
+    near_and_far, no_plan, one_switch, past_64_bits, same_name_twice, switch_and_back,
+    two_switches, zero_costs,
+};
+use space_agreement::random_task;
+use space_api::SpaceFault;
+use std::alloc::Global;
+use std::test::Fail;
+use symk_task::{Memory, Task};
+
+/// Settles and lists over the space of ordered sets, or over that of diagrams; the cost is at most the greatest one.
+fn settles(
+    alloc: Global,
+    diagrams: bool,
+    task: &Task,
+    choose: Chosen,
+    most: u64,
+    cost: u64,
+) -> Result<Settled, SpaceFault> {
+    let cost = cost.min(most);
+    if diagrams {
+        let mut space = BddSpace::of(alloc, task)?;
+        cuts_once_settled(alloc, &mut space, task, choose, most, cost)
+    } else {
+        let mut space = ExplicitSpace::of(alloc, task)?;
+        cuts_once_settled(alloc, &mut space, task, choose, most, cost)
+    }
+}
+
+/// Lists the costs of plans over either space.
+fn costs_in(
+    alloc: Global,
+    diagrams: bool,
+    task: &Task,
+    choose: Chosen,
+    most: u64,
+) -> Result<Costs, SpaceFault> {
+    if diagrams {
+        let mut space = BddSpace::of(alloc, task)?;
+        list_costs(alloc, &mut space, task, choose, most)
+    } else {
+        list_costs(
+            alloc,
+            &mut ExplicitSpace::of(alloc, task)?,
+            task,
+            choose,
+            most,
+        )
+    }
+}
+
+/// A row: a task, a choice, what is settled, the cost that is cut, and its cuts in order.
+#[derive(Clone, Copy)]
+struct Row {
+    task: u32,
+    choose: Chosen,
+    most: u64,
+    cost: u64,
+    first: Option<Cut>,
+    second: Option<Cut>,
+}
+
+/// The tasks of the rows.
+fn task_of(alloc: Global, number: u32) -> Result<Task, Memory> {
+    match number {
+        0 => switch_and_back(alloc),
+        1 => two_switches(alloc),
+        2 => same_name_twice(alloc),
+        3 => one_switch(alloc),
+        4 => zero_costs(alloc),
+        5 => near_and_far(alloc),
+        6 => past_64_bits(alloc),
+        _ => no_plan(alloc),
+    }
+}
+
+fn begun_row(task: u32, choose: Chosen, most: u64, cost: u64) -> Row {
+    Row {
+        task,
+        choose,
+        most,
+        cost,
+        first: None,
+        second: None,
+    }
+}
+
+impl Row {
+    /// The row with one cut more.
+    fn whole(mut self) -> Row {
+        self.first = Some(Cut::Whole);
+        self
+    }
+
+    /// The row with one cut more.
+    fn cross(mut self, x: u64, op: u32, y: u64) -> Row {
+        if self.first.is_none() {
+            self.first = Some(Cut::Cross { x, op, y });
+        } else {
+            self.second = Some(Cut::Cross { x, op, y });
+        }
+        self
+    }
+}
+
+/// Whether these are the cuts of the row.
+fn are_cuts(row: Row, cuts: &[Cut]) -> bool {
+    match cuts {
+        [] => row.first.is_none(),
+        [one] => row.first == Some(*one) && row.second.is_none(),
+        [one, other] => row.first == Some(*one) && row.second == Some(*other),
+        _ => false,
+    }
+}
+
+/// Whether the row is met over each space.
+fn is_met(alloc: Global, row: Row) -> Result<bool, Memory> {
+    let task = task_of(alloc, row.task)?;
+    let sets = settles(alloc, false, &task, row.choose, row.most, row.cost)?;
+    let diagrams = settles(alloc, true, &task, row.choose, row.most, row.cost)?;
+    Ok(
+        are_cuts(row, &sets.first)
+            && are_cuts(row, &sets.all)
+            && are_cuts(row, &diagrams.first)
+            && are_cuts(row, &diagrams.all),
+    )
+}
+
+/// Rows of the switch, once costs up to 5 are settled.
+fn switch_rows() -> [Row; 8] {
+    [
+        begun_row(0, Chosen::Backward, 5, 3).whole(),
+        begun_row(0, Chosen::Backward, 5, 4),
+        begun_row(0, Chosen::Backward, 5, 5).cross(0, 0, 4),
+        begun_row(0, Chosen::Forward, 5, 4),
+        begun_row(0, Chosen::Forward, 5, 5).cross(4, 0, 0),
+        begun_row(0, Chosen::Lower, 5, 3).cross(0, 0, 2),
+        begun_row(0, Chosen::Lower, 5, 4),
+        begun_row(0, Chosen::Lower, 5, 5).cross(2, 0, 2),
+    ]
+}
+
+/// Rows of tasks where several operators cross, where one does, and where a plan is dear.
+fn crossing_rows() -> [Row; 8] {
+    [
+        begun_row(1, Chosen::Backward, 5, 2).whole(),
+        begun_row(1, Chosen::Backward, 2, 2)
+            .cross(0, 0, 1)
+            .cross(0, 1, 1),
+        begun_row(1, Chosen::Forward, 5, 2)
+            .cross(1, 0, 0)
+            .cross(1, 1, 0),
+        begun_row(1, Chosen::Lower, 2, 2)
+            .cross(1, 0, 0)
+            .cross(1, 1, 0),
+        begun_row(2, Chosen::Forward, 1, 1)
+            .cross(0, 0, 0)
+            .cross(0, 1, 0),
+        begun_row(3, Chosen::Forward, 1, 1).cross(0, 0, 0),
+        begun_row(4, Chosen::Forward, 1, 1).cross(0, 0, 0),
+        begun_row(5, Chosen::Forward, FAR + 1, FAR + 1).cross(1, 1, 0),
+    ]
+}
+
+const FAR: u64 = 1_000_000_000_000;
+
+#[test]
+fn cuts_are_those_of_the_rows(rt: HostRuntime) -> Result<(), Fail> {
+    for row in switch_rows() {
+        assert!(rt; is_met(rt.alloc(), row)?, "cost {}", row.cost);
+    }
+    for row in crossing_rows() {
+        assert!(rt; is_met(rt.alloc(), row)?, "task {}", row.task);
+    }
+    Ok(())
+}
+
+/// What both sides know of the switch once costs up to 5 are settled.
+fn known(alloc: Global, choose: Chosen) -> Result<(u128, u128), Memory> {
+    let task = switch_and_back(alloc)?;
+    let found = settles(alloc, false, &task, choose, 5, 5)?;
+    Ok((found.f, found.b))
+}
+
+#[test]
+fn the_chosen_side_goes_on(rt: HostRuntime) -> Result<(), Fail> {
+    assert_eq!(rt; known(rt.alloc(), Chosen::Backward)?, (1, 5));
+    assert_eq!(rt; known(rt.alloc(), Chosen::Forward)?, (5, 1));
+    assert_eq!(rt; known(rt.alloc(), Chosen::Lower)?, (3, 3));
+    Ok(())
+}
+
+/// A row: a task, the greatest cost, the first and the last cost of a plan up to it, how many there are, and what comes then.
+#[derive(Clone, Copy)]
+struct CostRow {
+    task: u32,
+    most: u64,
+    first: Option<u64>,
+    last: Option<u64>,
+    count: usize,
+    next: Next,
+}
+
+/// Whether the row is met over the space with the choice, and no layer is above the greatest cost.
+fn costs_are_met(
+    alloc: Global,
+    diagrams: bool,
+    choose: Chosen,
+    row: CostRow,
+) -> Result<bool, Memory> {
+    let task = task_of(alloc, row.task)?;
+    let found = costs_in(alloc, diagrams, &task, choose, row.most)?;
+    Ok(
+        found.within.first().copied() == row.first
+            && found.within.last().copied() == row.last
+            && found.within.len() == row.count
+            && found.above.is_none()
+            && found.next == row.next,
+    )
+}
+
+/// Whether the row is met over each space with each choice.
+fn costs_are_met_by_all(alloc: Global, row: CostRow) -> Result<bool, Memory> {
+    for number in 0..4 {
+        let choose = Chosen::of(number);
+        let sets = costs_are_met(alloc, false, choose, row)?;
+        let diagrams = costs_are_met(alloc, true, choose, row)?;
+        if !sets || !diagrams {
+            return Ok(false);
+        }
+    }
+    Ok(true)
+}
+
+fn cost_row(
+    task: u32,
+    most: u64,
+    costs: (Option<u64>, Option<u64>),
+    count: usize,
+    next: Next,
+) -> CostRow {
+    CostRow {
+        task,
+        most,
+        first: costs.0,
+        last: costs.1,
+        count,
+        next,
+    }
+}
+
+/// Rows of costs.
+fn cost_rows() -> [CostRow; 7] {
+    [
+        cost_row(0, 6, (Some(1), Some(5)), 3, Next::Plans { cost: 7 }),
+        cost_row(1, 2, (Some(2), Some(2)), 1, Next::Never),
+        cost_row(3, 1, (Some(1), Some(1)), 1, Next::Never),
+        cost_row(4, 1, (Some(1), Some(1)), 1, Next::Never),
+        cost_row(5, FAR + 1, (Some(FAR), Some(FAR + 1)), 2, Next::Never),
+        cost_row(6, u64::MAX, (None, None), 0, Next::Beyond),
+        cost_row(7, 3, (None, None), 0, Next::Never),
+    ]
+}
+
+#[test]
+fn the_costs_of_plans_come_rising_and_their_end_is_told(rt: HostRuntime) -> Result<(), Fail> {
+    for row in cost_rows() {
+        assert!(rt; costs_are_met_by_all(rt.alloc(), row)?, "task {}", row.task);
+    }
+    Ok(())
+}
+
+/// Whether the first cut stands before the second: whole plans first, then by the cost that is left, then by the operator.
+fn stands_before(first: Cut, second: Cut) -> bool {
+    match (first, second) {
+        (_, Cut::Whole) => false,
+        (Cut::Whole, _) => true,
+        (Cut::Cross { x: _, op, y }, Cut::Cross { x: _, op: k, y: z }) => {
+            y < z || (y == z && op < k)
+        }
+    }
+}
+
+/// Whether the cuts are those of the listed plans of this cost, in order.
+fn are_those(listed: &[PlanCut], cost: u64, cuts: &[Cut]) -> bool {
+    let mut after = None;
+    for cut in cuts {
+        if !listed.contains(&PlanCut { cost, cut: *cut }) {
+            return false;
+        }
+        if let Some(before) = after {
+            if !stands_before(before, *cut) {
+                return false;
+            }
+        }
+        after = Some(*cut);
+    }
+    listed.iter().filter(|plan| plan.cost == cost).count() == cuts.len()
+}
+
+/// Whether cuts agree with listed plans, and how many were compared.
+#[derive(Clone, Copy)]
+struct Compared {
+    agree: bool,
+    cuts: usize,
+}
+
+/// Whether the cuts of the costs up to 4 are those of listed plans; None where there are too many plans to list.
+fn compare(
+    alloc: Global,
+    diagrams: bool,
+    task: &Task,
+    choose: Chosen,
+) -> Result<Option<Compared>, Memory> {
+    let b = settles(alloc, diagrams, task, choose, 4, 4)?.b;
+    let Some(listed) = plan_cuts_of(alloc, task, b, 4)? else {
+        return Ok(None);
+    };
+    let mut agree = true;
+    for cost in 0..5 {
+        let found = settles(alloc, diagrams, task, choose, 4, cost)?;
+        agree = agree && found.first == found.all && are_those(&listed, cost, &found.all);
+    }
+    Ok(Some(Compared {
+        agree,
+        cuts: listed.len(),
+    }))
+}
+
+#[test]
+fn the_cuts_of_drawn_tasks_are_those_of_their_plans(rt: HostRuntime) -> Result<(), Fail> {
+    let alloc = rt.alloc();
+    let mut tried = 0_u32;
+    let mut cuts = 0_usize;
+    for seed in 0..1000 {
+        if tried == 200 {
+            break;
+        }
+        if let Some(task) = random_task(alloc, seed)? {
+            let diagrams = seed % 2 == 0;
+            if let Some(found) = compare(alloc, diagrams, &task, Chosen::of(seed / 2))? {
+                assert!(rt; found.agree, "seed {seed}");
+                tried = tried.saturating_add(1);
+                cuts = cuts.saturating_add(found.cuts);
+            }
+        }
+    }
+    assert_eq!(rt; tried, 200);
+    assert!(rt; cuts >= 200, "{cuts} cuts");
+    Ok(())
+}

@@ -1,0 +1,154 @@
+-- What the layers give of cuts, of what falls, and of layers that are cut to the useful states.
+use Rattle.std.proofs.Common.{◌≡◌, ℕ, suc, ◌+◌, ◌-◌, ◌<◌, ◌≤◌, Bool, true, false, not, ◌&&◌, IsTrue, ◌⊎◌, inl, inr, List, [], ◌∷◌, ◌++◌, Some, refl, sym, ◌∙◌, subst, arith, eq-eqb}
+use Rattle.std.proofs.lemmas.Bool.{eqb-true}
+use Rattle.task_system.specs.System.{State, System, Leads, Runs, IsPlan, cost_of}
+use Rattle.run_graph.specs.Reached.{ReachedAt, ToGoalAt, Useful}
+use Rattle.entry_laws.proofs.Ends.{fwd_of_ends, fwd_more, bwd_more}
+use Rattle.entry_laws.specs.Counts.{ind, at_some, begins}
+use Rattle.entry_laws.specs.Cuts.{IsCut, cut_of, same_cut}
+use Rattle.entry_laws.specs.Entries.{Plain, Head, Tail, FwdIn, BwdIn, Tables, into, onto, entry_hits, Stands, places, Lawful, zeros}
+use Rattle.plan_cuts.specs.declared.Cut.{Cut}
+use Rattle.plan_cuts.specs.declared.Cut.TheVariants.{Cross}
+use Rattle.entry_laws.proofs.Cutting.{falsum, leb_yes, Meeting, hits_spots, drawn_spots}
+use Rattle.entry_laws.proofs.Paths.{both, led, parted, joined, reach_run}
+
+-- the members of layer d from which the operator leads into layer r
+abbrev pub meeting : System → (ℕ → State → Bool) → (ℕ → State → Bool) → ℕ → ℕ → ℕ → State → Bool
+meeting y front back d op r s = front d s && at_some (y.step op s) (back r)
+
+zero_or : (n : ℕ) → (n ≡ 0) ⊎ (0 < n)
+zero_or n = grind arith
+
+module _ (y : System) (front back : ℕ → State → Bool) (f b : ℕ) (tab : Tables y front back f b) where
+  both_of : (a c : Bool) → a ≡ true → c ≡ true → (a && c) ≡ true
+  both_of a c e h = rw (e, h) refl
+
+  at_cut : (d op r c : ℕ) (s t : State) (p : List ℕ) → d < f → r < b → ReachedAt y c s → Runs y s p t → IsTrue (y.goal t) → begins y (op ∷ []) r p ≡ true → c ≡ d → meeting y front back d op r s ≡ true
+  at_cut d op r c s t [] low near g run goal h e = absurd (falsum h)
+  at_cut d op r c s t (a ∷ p) low near g (m, leads, run) goal h e =
+      let parts = both _ _ h in
+      let is : a ≡ op = eqb-true a op parts.0 in
+      let left : cost_of y p ≡ r = eqb-true _ _ parts.1 in
+      let lead : Leads y op s m = subst (λ (k : ℕ). Leads y k s m) is leads in
+      let bwd : ToGoalAt y r m = (p, t, run, goal, left) in
+      let fwd : ReachedAt y d s = subst (λ (k : ℕ). ReachedAt y k s) e g in
+      let u : Useful y s = record { before = (d, fwd); after = (y.cost op + r, bwd_more y r op s m lead bwd) } in
+      let w : Useful y m = record { before = (d + y.cost op, fwd_more y d op s m fwd lead); after = (r, bwd) } in
+      rw lead.step (both_of _ _ (tab.front_all d s low u fwd) (tab.back_all r m near w bwd))
+
+  meets : (d op r c : ℕ) (s t : State) (p : List ℕ) → d < f → r < b → ReachedAt y c s → Runs y s p t → IsTrue (y.goal t) → Meeting y (meeting y front back d op r) d (begins y (op ∷ []) r) c s p
+  meets d op r c s t [] low near g run goal = (λ h e. at_cut d op r c s t [] low near g run goal h e)
+  meets d op r c s t (a ∷ p) low near g (m, leads, run) goal = (
+    (λ h e. at_cut d op r c s t (a ∷ p) low near g (m, leads, run) goal h e),
+    (m, leads.step, meets d op r (c + y.cost a) m t p low near (fwd_more y c a s m g leads) run goal),
+  )
+
+  -- a plan extends the entry that a cut begins with exactly where the cut is its own
+  pub cross_hits : (d op r ring : ℕ) (p : List ℕ) → d < f → r < b → b ≤ y.cost op + r → IsPlan y p → entry_hits y (Head (meeting y front back d op r) d ring (op ∷ []) r) p ≡ ind (same_cut (cut_of y b p) (Cross d op r))
+  cross_hits d op r ring p low near far (t, run, goal) =
+      hits_spots y (meeting y front back d op r) d (begins y (op ∷ []) r) 0 y.initial p (meets d op r 0 y.initial t p low near ([], refl, refl) run goal)
+      ∙ drawn_spots y b d op r p near far
+
+  -- each plan's cut is found where the layers meet
+  pub cross_there : (p : List ℕ) (d op r : ℕ) → IsPlan y p → IsCut y b p (Cross d op r) → d < f → (s : State) × (meeting y front back d op r s ≡ true)
+  cross_there p d op r (t, run, goal) (q, rest, is, x, z, near, far) low =
+      let m = parted y q (op ∷ rest) y.initial t (subst (λ (l : List ℕ). Runs y y.initial l t) is run) in
+      let test : begins y (op ∷ []) r (op ∷ rest) ≡ true = rw (eq-eqb op op refl) (eq-eqb _ _ z) in
+      (m.0, at_cut d op r d m.0 t (op ∷ rest) low near (q, m.1, x) m.2 goal test refl)
+
+  -- where the layers meet, a plan has this cut
+  pub cross_plan : (d op r : ℕ) (s : State) → op < y.operators → d < f → r < b → b ≤ y.cost op + r → meeting y front back d op r s ≡ true → (p : List ℕ) × IsPlan y p × IsCut y b p (Cross d op r)
+  cross_plan d op r s number low near far h =
+      let m = both _ _ h in
+      let g = tab.front_sound d s low m.0 in
+      let t = led y op s (back r) (y.step op s) number refl m.1 in
+      let e = tab.back_sound r t.0 near t.1 in
+      (g.0 ++ op ∷ e.0, (e.1, joined y g.0 (op ∷ e.0) y.initial s e.1 g.1 (t.0, t.2, e.2), e.3), (g.0, e.0, refl, g.2, e.4, near, far))
+
+  -- what the first entry of a cut stands on
+  pub cross_stands : (d op r ring listed : ℕ) → op < y.operators → d < f → r < b → d + y.cost op + r ≡ listed → ((s : State) × (meeting y front back d op r s ≡ true) × FwdIn y d ring s) → Stands y f b listed (Head (meeting y front back d op r) d ring (op ∷ []) r)
+  cross_stands d op r ring listed number low near c member = (
+    member,
+    (λ s h. tab.front_sound d s low (both (front d s) (at_some (y.step op s) (back r)) h).0),
+    (λ s h. let t = led y op s (back r) (y.step op s) number refl (both (front d s) (at_some (y.step op s) (back r)) h).1 in (t.0, (t.0, t.2, refl), tab.back_sound r t.0 near t.1)),
+    omega (arith, c),
+    low,
+    near,
+  )
+
+  -- layers cut to a set that has every useful state stay right
+  pub narrowed : (u : State → Bool) → ((s : State) → Useful y s → u s ≡ true) → Tables y (λ c s. front c s && u s) (λ c s. back c s && u s) f b
+  narrowed u all = record {
+    front_sound = λ c s low h. tab.front_sound c s low (both (front c s) (u s) h).0;
+    front_all = λ c s low serves g. both_of _ _ (tab.front_all c s low serves g) (all s serves);
+    back_sound = λ c s low h. tab.back_sound c s low (both (back c s) (u s) h).0;
+    back_all = λ c s low serves g. both_of _ _ (tab.back_all c s low serves g) (all s serves);
+  }
+
+  into_parts : (has : State → Bool) (cost k : ℕ) (s t : State) → y.cost k ≤ cost → front (cost - y.cost k) s ≡ true → y.step k s ≡ Some t → has t ≡ true → into y front has cost k s ≡ true
+  into_parts has cost k s t le there step h = rw (leb_yes (y.cost k) cost le, there, step) h
+
+  -- some child falls, or the prefix is whole
+  pub head_falls : (has : State → Bool) (cost ring listed : ℕ) (ops : List ℕ) (after : ℕ) → Stands y f b listed (Head has cost ring ops after) → ((cost ≡ 0) × (has y.initial ≡ true)) ⊎ ((k : ℕ) × (n : ℕ) × (t : State) × (k < y.operators) × (into y front has cost k t ≡ true) × FwdIn y (cost - y.cost k) n t × ((0 < y.cost k) ⊎ ((y.cost k ≡ 0) × (n + 1 ≡ ring))))
+  head_falls has cost ring listed ops after ((s, member, ([], ends, c, z)), sound, leads, costs, low, near) = inl (sym c, subst (λ (x : State). has x ≡ true) ends member)
+  head_falls has cost ring listed ops after ((s, member, (k ∷ q, (t, lead, ends), c, z)), sound, leads, costs, low, near) =
+      let left : cost_of y q ≡ cost - y.cost k = omega (arith, c) in
+      let le : y.cost k ≤ cost = omega (arith, c) in
+      let m = leads s member in
+      let fwd : ReachedAt y (cost_of y q) t = fwd_of_ends y q t ends in
+      let e = m.2 in
+      let bwd : ToGoalAt y (cost_of y (k ∷ ops ++ e.0)) t = (k ∷ ops ++ e.0, e.1, (s, lead, joined y ops e.0 s m.0 e.1 m.1 e.2), e.3, refl) in
+      let serves : Useful y t = record { before = (cost_of y q, fwd); after = (cost_of y (k ∷ ops ++ e.0), bwd) } in
+      let there : front (cost - y.cost k) t ≡ true = tab.front_all (cost - y.cost k) t (omega (arith, low)) serves (subst (λ (x : ℕ). ReachedAt y x t) left fwd) in
+      let fall : (0 < y.cost k) ⊎ ((y.cost k ≡ 0) × (zeros y q + 1 ≡ ring)) = elim (zero_or (y.cost k)) [
+        | inl w ↦ inr (w, (let one : zeros y (k ∷ q) ≡ suc (zeros y q) = rw (eq-eqb (y.cost k) 0 w) refl in omega (arith, one, z)))
+        | inr w ↦ inl w
+      ] in
+      inr (k, zeros y q, t, lead.number, into_parts has cost k t s le there lead.step member, (q, ends, left, refl), fall)
+
+  pub tail_falls : (cost ring listed : ℕ) (ops : List ℕ) → Stands y f b listed (Tail cost ring ops) → ((cost ≡ 0) × IsPlan y ops) ⊎ ((k : ℕ) × (n : ℕ) × (t : State) × (k < y.operators) × (onto y back cost ops k ≡ true) × Runs y y.initial (ops ++ k ∷ []) t × BwdIn y (cost - y.cost k) n t × ((0 < y.cost k) ⊎ ((y.cost k ≡ 0) × (n + 1 ≡ ring))))
+  tail_falls cost ring listed ops ((s, run, ([], t, e, goal, c, z)), costs, near) = inl (sym c, (s, run, subst (λ (x : State). IsTrue (y.goal x)) (sym e) goal))
+  tail_falls cost ring listed ops ((s, run, (k ∷ p, u, (t, lead, rest), goal, c, z)), costs, near) =
+      let left : cost_of y p ≡ cost - y.cost k = omega (arith, c) in
+      let le : y.cost k ≤ cost = omega (arith, c) in
+      let bwd : ToGoalAt y (cost - y.cost k) t = (p, u, rest, goal, left) in
+      let serves : Useful y t = record { before = (cost_of y ops + y.cost k, fwd_more y (cost_of y ops) k s t (ops, run, refl) lead); after = (cost - y.cost k, bwd) } in
+      let there : back (cost - y.cost k) t ≡ true = tab.back_all (cost - y.cost k) t (omega (arith, near)) serves bwd in
+      let ok : onto y back cost ops k ≡ true = rw (leb_yes (y.cost k) cost le, reach_run y y.initial ops s run, lead.step) there in
+      let fall : (0 < y.cost k) ⊎ ((y.cost k ≡ 0) × (zeros y p + 1 ≡ ring)) = elim (zero_or (y.cost k)) [
+        | inl w ↦ inr (w, (let one : zeros y (k ∷ p) ≡ suc (zeros y p) = rw (eq-eqb (y.cost k) 0 w) refl in omega (arith, one, z)))
+        | inr w ↦ inl w
+      ] in
+      inr (k, zeros y p, t, lead.number, ok, joined y ops (k ∷ []) y.initial s t run (t, lead, refl), (p, u, rest, goal, left, refl), fall)
+
+-- narrowing in the middle of a listing
+pub narrow_lawful : (y : System) (front back : ℕ → State → Bool) (f b listed : ℕ) (queue : List Plain) (undrawn : Cut → Bool) (u : State → Bool) → ((s : State) → Useful y s → u s ≡ true) → Lawful y front back f b listed queue undrawn → Lawful y (λ c s. front c s && u s) (λ c s. back c s && u s) f b listed queue undrawn
+narrow_lawful y front back f b listed queue undrawn u all ok = record {
+  tables = narrowed y front back f b ok.tables u all;
+  stands = ok.stands;
+  once = ok.once;
+}
+
+rebuilt : (y : System) (front back : ℕ → State → Bool) (u : State → Bool) (d op r : ℕ) (s t : State) → front d s ≡ true → u s ≡ true → y.step op s ≡ Some t → back r t ≡ true → u t ≡ true → meeting y (λ c x. front c x && u x) (λ c x. back c x && u x) d op r s ≡ true
+rebuilt y front back u d op r s t a e step h k = rw (step, a, e, h, k) refl
+
+-- both meet in the same states before and after
+pub meeting_same : (y : System) (front back : ℕ → State → Bool) (f b : ℕ) (tab : Tables y front back f b) (u : State → Bool) → ((s : State) → Useful y s → u s ≡ true) → (d op r : ℕ) (s : State) → op < y.operators → d < f → r < b → meeting y front back d op r s ≡ true → meeting y (λ c x. front c x && u x) (λ c x. back c x && u x) d op r s ≡ true
+meeting_same y front back f b tab u all d op r s number low near h =
+    let m = both _ _ h in
+    let g = tab.front_sound d s low m.0 in
+    let t = led y op s (back r) (y.step op s) number refl m.1 in
+    let e = tab.back_sound r t.0 near t.1 in
+    let serves : Useful y s = record { before = (d, g); after = (y.cost op + r, bwd_more y r op s t.0 t.2 e) } in
+    let used : Useful y t.0 = record { before = (d + y.cost op, fwd_more y d op s t.0 g t.2); after = (r, e) } in
+    rebuilt y front back u d op r s t.0 m.0 (all s serves) t.2.step t.1 (all t.0 used)
+
+spent : (a c : Bool) (x : Bool) → (c ≡ true → a ≡ true) → x ≡ (a && not c) → ind c + ind x ≡ ind a
+spent true true x h e = rw e (omega arith)
+spent true false x h e = rw e (omega arith)
+spent false true x h e = absurd (falsum (h refl))
+spent false false x h e = rw e (omega arith)
+
+-- a cut that is drawn goes on as its first entry
+pub draws : (y : System) (b : ℕ) (e : Plain) (c : Cut) (undrawn left : Cut → Bool) (p : List ℕ) → entry_hits y e p ≡ ind (same_cut (cut_of y b p) c) → (same_cut (cut_of y b p) c ≡ true → undrawn (cut_of y b p) ≡ true) → left (cut_of y b p) ≡ (undrawn (cut_of y b p) && not (same_cut (cut_of y b p) c)) → places y b (e ∷ []) left p ≡ places y b [] undrawn p
+draws y b e c undrawn left p one owed rest = omega (arith, one, spent _ _ _ owed rest)

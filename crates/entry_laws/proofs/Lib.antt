@@ -1,0 +1,12 @@
+pub mod Ends
+pub mod Sums
+pub mod Cutting
+pub mod Before
+pub mod After
+pub mod Paths
+pub mod Splitting
+pub mod Queue
+pub mod Drawing
+pub mod Adding
+pub mod Assembling
+pub mod Draws

@@ -1,0 +1,59 @@
+-- How the children of an entry are gathered, operator by operator.
+use Rattle.std.specs.Prelude.{◌≡◌, ℕ, ◌+◌, ◌-◌, ◌<◌, ◌≤◌, ◌⊎◌, Bool, true, List, [], ◌∷◌, ◌++◌, length}
+use Rattle.std.specs.List.{AllByRecursion}
+use Rattle.task_system.specs.System.{State, System, Runs}
+use Rattle.entry_laws.specs.Counts.{sum_ops}
+use Rattle.entry_laws.specs.Entries.{Plain, Head, Tail, FwdIn, BwdIn, into, onto, total, child_hits, IsChild, height, weight}
+
+-- a child that the walk can go to by operator k
+abbrev pub Fallable : System → (ℕ → State → Bool) → (ℕ → State → Bool) → Plain → ℕ → Type 0
+Fallable y front back (Head has cost ring ops after) k = (n : ℕ) × (t : State) × (into y front has cost k t ≡ true) × FwdIn y (cost - y.cost k) n t × ((0 < y.cost k) ⊎ ((y.cost k ≡ 0) × (n + 1 ≡ ring)))
+Fallable y front back (Tail cost ring ops) k = (n : ℕ) × (t : State) × (onto y back cost ops k ≡ true) × Runs y y.initial (ops ++ k ∷ []) t × BwdIn y (cost - y.cost k) n t × ((0 < y.cost k) ⊎ ((y.cost k ≡ 0) × (n + 1 ≡ ring)))
+
+-- there is no child by operator k
+abbrev pub NoChild : System → (ℕ → State → Bool) → (ℕ → State → Bool) → Plain → ℕ → Type 0
+NoChild y front back e k = ((p : List ℕ) → child_hits y front back e p k ≡ 0) × ¬ Fallable y front back e k
+
+abbrev pub SomeChild : System → (ℕ → State → Bool) → (ℕ → State → Bool) → Plain → Plain → Type 0
+SomeChild y front back e c = (k : ℕ) × IsChild y front back e k c
+
+abbrev pub Falling : System → (ℕ → State → Bool) → (ℕ → State → Bool) → Plain → Plain → Type 0
+Falling y front back e c = SomeChild y front back e c × (height c < height e) × (weight c ≡ weight e + 1)
+
+-- the child by operator k was added, if there is one
+pub record Added (y : System) (front back : ℕ → State → Bool) (e : Plain) (k : ℕ) (level falling level2 falling2 : List Plain) : Type 0 where
+  pub counts : (p : List ℕ) → total y level2 p + total y falling2 p ≡ total y level p + total y falling p + child_hits y front back e p k
+  pub each : AllByRecursion (SomeChild y front back e) level → AllByRecursion (SomeChild y front back e) level2
+  pub each_falls : AllByRecursion (Falling y front back e) falling → AllByRecursion (Falling y front back e) falling2
+  pub more : length falling ≤ length falling2
+  pub falls : Fallable y front back e k → 0 < length falling2
+
+-- the sum over the operators of a list
+abbrev pub sum_list : List ℕ → (ℕ → ℕ) → ℕ
+sum_list [] f = 0
+sum_list (k ∷ ks) f = f k + sum_list ks f
+
+-- k stands in the list
+abbrev pub IsIn : List ℕ → ℕ → Type 0
+IsIn [] k = ⊥
+IsIn (i ∷ is) k = (i ≡ k) ⊎ IsIn is k
+
+-- the list has each operator once, in some order
+pub record IsOrder (n : ℕ) (order : List ℕ) : Type 0 where
+  pub range : AllByRecursion (λ k. k < n) order
+  pub all : (k : ℕ) → k < n → IsIn order k
+  pub sums : (f : ℕ → ℕ) → sum_list order f ≡ sum_ops n f
+
+-- the children by the operators of the list
+pub record Sofar (y : System) (front back : ℕ → State → Bool) (e : Plain) (done : List ℕ) (level falling : List Plain) : Type 0 where
+  pub counts : (p : List ℕ) → total y level p + total y falling p ≡ sum_list done (child_hits y front back e p)
+  pub each : AllByRecursion (SomeChild y front back e) level
+  pub each_falls : AllByRecursion (Falling y front back e) falling
+  pub falls : (k : ℕ) → IsIn done k → Fallable y front back e k → 0 < length falling
+
+-- the children by all operators
+pub record Gathered (y : System) (front back : ℕ → State → Bool) (e : Plain) (level falling : List Plain) : Type 0 where
+  pub counts : (p : List ℕ) → total y level p + total y falling p ≡ sum_ops y.operators (child_hits y front back e p)
+  pub each : AllByRecursion (SomeChild y front back e) level
+  pub each_falls : AllByRecursion (Falling y front back e) falling
+  pub falls : (k : ℕ) → k < y.operators → Fallable y front back e k → 0 < length falling

@@ -1,0 +1,5 @@
+pub mod Cuts
+pub mod Counts
+pub mod Entries
+pub mod Growing
+pub mod Drawing

@@ -1,0 +1,16 @@
+pub mod Sets
+pub mod Joining
+pub mod Kept
+pub mod Barren
+pub mod OneChild
+pub mod Adding
+pub mod Gathering
+pub mod Expanding
+pub mod Reaching
+pub mod Beginning
+pub mod Following
+pub mod Turning
+pub mod RightLayers
+pub mod Staying
+pub mod Walks
+pub mod Opens

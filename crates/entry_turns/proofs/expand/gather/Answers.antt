@@ -1,0 +1,72 @@
+use Rattle.std.proofs.Common.{arith, refl, ◌∙◌, sym, ◌++◌}
+use Rattle.cost_layers.specs.Layers.{rings_at, whole_at}
+use Rattle.cost_layers.proofs.Holding.{holds_kept}
+use Rattle.space_api.proofs.Keeping.{kept_trans, stays_refl}
+use Rattle.entry_turns.proofs.Sets.{makes_stays, ok_valid, ok_kept}
+use Rattle.entry_turns.proofs.Gathering.{sofar_on, sofar_end, way_kept, way_from}
+use Rattle.entry_turns.proofs.expand.gather.Goals as goal
+
+pub way_for-requires-clause-front : goal.way_for-requires-clause-front
+way_for-requires-clause-front g c =
+    let view = g.S.Space.view in
+    holds_kept (view c.args.space.now) (view c.operators.space) (rings_at c.args.front.now) (whole_at c.args.front.now) c.operators.invariant.makes.kept c.requires.front
+
+pub way_for-requires-clause-back : goal.way_for-requires-clause-back
+way_for-requires-clause-back g c =
+    let view = g.S.Space.view in
+    holds_kept (view c.args.space.now) (view c.operators.space) (rings_at c.args.back.now) (whole_at c.args.back.now) c.operators.invariant.makes.kept c.requires.back
+
+pub returns-in_err-way-clause-makes : goal.returns-in_err-way-clause-makes
+returns-in_err-way-clause-makes g c =
+    let view = g.S.Space.view in
+    makes_stays (view c.args.space.now) (view c.operators.space) (view c.way_for.new.space) (c.operators.children.level.items ++ c.operators.children.falling.items) c.operators.invariant.makes c.way_for.ensures.stays
+
+pub try_operator-requires-clause-front : goal.try_operator-requires-clause-front
+try_operator-requires-clause-front g c =
+    let view = g.S.Space.view in
+    holds_kept (view c.args.space.now) (view c.way_for.new.space) (rings_at c.args.front.now) (whole_at c.args.front.now) (kept_trans c.operators.invariant.makes.kept c.way_for.ensures.stays.kept) c.requires.front
+
+pub try_operator-requires-clause-back : goal.try_operator-requires-clause-back
+try_operator-requires-clause-back g c =
+    let view = g.S.Space.view in
+    holds_kept (view c.args.space.now) (view c.way_for.new.space) (rings_at c.args.back.now) (whole_at c.args.back.now) (kept_trans c.operators.invariant.makes.kept c.way_for.ensures.stays.kept) c.requires.back
+
+pub try_operator-requires-clause-way : goal.try_operator-requires-clause-way
+try_operator-requires-clause-way g c =
+    let view = g.S.Space.view in
+    let u = view c.args.space.now in
+    let v = view c.operators.space in
+    let j = c.operators.invariant.makes.kept in
+    let e = c.args.entry.now in
+    way_kept v (view c.way_for.new.space) c.args.front.now c.args.back.now e c.in_ok-way.way c.way_for.ensures.stays.kept
+    (holds_kept u v (rings_at c.args.front.now) (whole_at c.args.front.now) j c.requires.front)
+    (holds_kept u v (rings_at c.args.back.now) (whole_at c.args.back.now) j c.requires.back)
+    (ok_valid v e (ok_kept u v e j c.requires.entry)) c.in_ok-way.ensures.ok
+
+pub returns-in_err-try_operator-clause-makes : goal.returns-in_err-try_operator-clause-makes
+returns-in_err-try_operator-clause-makes g c =
+    let view = g.S.Space.view in
+    c.try_operator.ensures.makes (view c.args.space.now) (makes_stays (view c.args.space.now) (view c.operators.space) (view c.way_for.new.space) (c.operators.children.level.items ++ c.operators.children.falling.items) c.operators.invariant.makes c.way_for.ensures.stays)
+
+pub operators-preserved : goal.operators-preserved
+operators-preserved g c =
+    let view = g.S.Space.view in
+    let u = view c.args.space.now in
+    let v = view c.operators.space in
+    let v1 = view c.way_for.new.space in
+    let w = view c.try_operator.new.space in
+    let i = c.operators.invariant in
+    let e = c.args.entry.now in
+    let level = c.operators.children.level.items in
+    let falling = c.operators.children.falling.items in
+    let made = c.try_operator.ensures.makes u (makes_stays u v v1 (level ++ falling) i.makes c.way_for.ensures.stays) in
+    record {
+      last = way_from u v w c.args.front.now c.args.back.now e c.in_ok-way.way i.makes.kept made.kept c.requires.front c.requires.back c.requires.entry c.in_ok-way.ensures.ok;
+      makes = made;
+      sofar = sofar_on u v v1 w c.args.front.now c.args.back.now e c.requires.front c.requires.back c.requires.entry i.makes.kept c.way_for.ensures.stays.kept c.args.order.now c.operators.i _ level falling c.try_operator.new.children.level.items c.try_operator.new.children.falling.items c.operators-test.true refl i.makes.each i.sofar c.in_ok-try_operator.ensures.added;
+    }
+
+pub returns-clause-ok : goal.returns-clause-ok
+returns-clause-ok g c =
+    let view = g.S.Space.view in
+    sofar_end (view c.args.space.now) (view c.operators.space) c.args.front.now c.args.back.now c.args.entry.now c.args.order.now c.operators.i c.operators.children.level.items c.operators.children.falling.items (omega (arith, c.operators-test.false)) c.requires.order c.operators.invariant.sofar

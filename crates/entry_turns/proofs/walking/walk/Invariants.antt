@@ -1,0 +1,24 @@
+use Rattle.std.proofs.Common.{◌+◌, ◌<◌, ◌≤◌, length}
+use Rattle.space_api.specs.Owned.{Trades}
+use Rattle.entry_laws.specs.Entries.{height, weight}
+use Rattle.entry_laws.proofs.Queue.{last_by}
+use Rattle.entry_turns.specs.Entries.{plains, SetIn}
+use Rattle.entry_turns.specs.Turned.{IsQueue}
+use Rattle.entry_turns.proofs.Walks.{WalkedTo}
+use Rattle.entry_turns.proofs.walking.walk.Given as goal
+
+abbrev pub invariant-turns : goal.invariant-turns
+invariant-turns g l =
+    let view = g.S.Space.view in
+    let u = view l.fn.space in
+    let v = view l.space in
+    record {
+      trades : Trades u v (SetIn l.fn.queue.items) (SetIn l.queue.items);
+      queue : IsQueue v l.queue.items;
+      some : 0 < length l.queue.items;
+      walked : WalkedTo u l.front l.back l.cost l.fn.queue.items (plains v l.queue.items);
+      steps : l.steps ≤ l.fn.steps + last_by weight (plains v l.queue.items);
+    }
+
+abbrev pub decreases-turns : goal.decreases-turns
+decreases-turns g l = last_by height (plains (g.S.Space.view l.space) l.queue.items)

@@ -1,0 +1,90 @@
+-- Entries over sets of a space, as plain ones; which sets they have.
+use Rattle.std.specs.Prelude.{◌≡◌, ℕ, ◌<◌, ◌≤◌, ◌⊎◌, ◌↔◌, IsFalse, Bool, false, List, [], ◌∷◌, Option, Some, None}
+use Rattle.std.specs.List.{AllByRecursion}
+use Rattle.task_system.specs.System.{State, System, Runs}
+use Rattle.space_api.specs.View.{View, Valid, Has}
+use Rattle.space_api.specs.Frames.{Kept}
+use Rattle.run_graph.specs.Reached.{Useful}
+use Rattle.cost_layers.specs.Layers.{whole_at, Stands as StandsIn}
+use Rattle.cost_layers.specs.declared.layers.Layers.{Layers}
+use Rattle.entry_laws.specs.Entries.{Plain, Head, Tail, FwdIn, BwdIn, Tables, Stands}
+use Rattle.entry_turns.specs.declared.entries.Prefix.{Prefix}
+use Rattle.entry_turns.specs.declared.entries.Suffix.{Suffix}
+use Rattle.entry_turns.specs.declared.entries.Entry.{Entry}
+use Rattle.entry_turns.specs.declared.entries.Entry.TheVariants.{Before, After}
+
+abbrev pub set_in : {Set : Type 0} → Entry Set → Set
+set_in (Before e) = e.set
+set_in (After e) = e.set
+
+abbrev pub cost_in : {Set : Type 0} → Entry Set → ℕ
+cost_in (Before e) = e.cost
+cost_in (After e) = e.cost
+
+abbrev pub ring_in : {Set : Type 0} → Entry Set → ℕ
+ring_in (Before e) = e.ring
+ring_in (After e) = e.ring
+
+abbrev pub operators_in : {Set : Type 0} → Entry Set → List ℕ
+operators_in (Before e) = e.operators.items
+operators_in (After e) = e.operators.items
+
+-- the entry as its set's states
+abbrev pub plain : {Set : Type 0} → View Set → Entry Set → Plain
+plain v (Before e) = Head (v.has e.set) e.cost e.ring e.operators.items e.after
+plain v (After e) = Tail e.cost e.ring e.operators.items
+
+abbrev pub plains : {Set : Type 0} → View Set → List (Entry Set) → List Plain
+plains v [] = []
+plains v (e ∷ es) = plain v e ∷ plains v es
+
+-- each is the number of an operator
+abbrev pub AreOperators : System → List ℕ → Type 0
+AreOperators y ops = AllByRecursion (λ op. op < y.operators) ops
+
+-- the set is valid, and that of a suffix has the one state that the operators reach
+abbrev pub EntryOk : {Set : Type 0} → View Set → Entry Set → Type 0
+EntryOk v (Before e) = Valid v e.set × AreOperators v.system e.operators.items
+EntryOk v (After e) = Valid v e.set × AreOperators v.system e.operators.items × ((t : State) → Has v e.set t ↔ Runs v.system v.system.initial e.operators.items t)
+
+-- a is the set of an entry
+abbrev pub SetIn : {Set : Type 0} → List (Entry Set) → Set → Type 0
+SetIn [] a = ⊥
+SetIn (e ∷ es) a = (a ≡ set_in e) ⊎ SetIn es a
+
+-- no two entries have one set
+abbrev pub AreDistinct : {Set : Type 0} → List (Entry Set) → Type 0
+AreDistinct [] = Unit {0}
+AreDistinct (e ∷ es) = ¬ SetIn es (set_in e) × AreDistinct es
+
+-- the entries were made, each with a new set of its own, and no other set became valid
+pub record Makes {Set : Type 0} (u v : View Set) (es : List (Entry Set)) : Type 0 where
+  pub kept : Kept u v
+  pub each : AllByRecursion (EntryOk v) es
+  pub distinct : AreDistinct es
+  pub fresh : (a : Set) → SetIn es a → IsFalse (u.valid a)
+  pub only : (a : Set) → Valid v a → SetIn es a ⊎ Valid u a
+
+abbrev pub in_some : {Set : Type 0} → View Set → Option Set → State → Bool
+in_some v None s = false
+in_some v (Some a) s = v.has a s
+
+-- s is in the layer of cost c
+abbrev pub member_in : {Set : Type 0} → View Set → Layers Set → ℕ → State → Bool
+member_in v l c s = in_some v (whole_at l c) s
+
+-- rings tell the least number for each useful state
+pub record RingsOk {Set : Type 0} (y : System) (v : View Set) (l : Layers Set) (In : ℕ → ℕ → State → Type 0) (known : ℕ) : Type 0 where
+  pub sound : (c n : ℕ) (s : State) → c < known → Useful y s → StandsIn v l c n s → In c n s
+  pub there : (c n : ℕ) (s : State) → c < known → Useful y s → In c n s → (m : ℕ) × (m ≤ n) × StandsIn v l c m s
+
+-- both sides' layers are right below f and b
+pub record RightSides {Set : Type 0} (y : System) (v : View Set) (front back : Layers Set) (f b : ℕ) : Type 0 where
+  pub tables : Tables y (member_in v front) (member_in v back) f b
+  pub front_rings : RingsOk y v front (FwdIn y) f
+  pub back_rings : RingsOk y v back (BwdIn y) b
+
+-- what a turn on an entry rests on
+pub record Ready {Set : Type 0} (y : System) (v : View Set) (front back : Layers Set) (f b listed : ℕ) (e : Plain) : Type 0 where
+  pub sides : RightSides y v front back f b
+  pub stands : Stands y f b listed e

@@ -1,0 +1,65 @@
+-- A child of an entry, and where it is put.
+use Rattle.std.specs.Prelude.{◌≡◌, ℕ, ◌-◌, ◌^◌, ◌<◌, ◌≤◌, ◌⊎◌, List, [], ◌∷◌, ◌++◌}
+use Rattle.std.specs.List.{AllByRecursion}
+use Rattle.task_system.specs.System.{State, System, Runs}
+use Rattle.space_api.specs.View.{View, Valid, Has}
+use Rattle.run_graph.specs.Reached.{ToGoalAt}
+use Rattle.cost_layers.specs.declared.layers.Layers.{Layers}
+use Rattle.entry_laws.specs.Growing.{Added, Gathered}
+use Rattle.entry_laws.specs.Entries.{BwdIn, Plain, Goes, Gives, Stands}
+use Rattle.entry_turns.specs.Entries.{set_in, cost_in, ring_in, plain, plains, EntryOk, Makes, member_in, RightSides, RingsOk, Ready}
+use Rattle.entry_turns.specs.Ways.{IsLeast}
+use Rattle.entry_turns.specs.declared.entries.Prefix.{Prefix}
+use Rattle.entry_turns.specs.declared.entries.Suffix.{Suffix}
+use Rattle.entry_turns.specs.declared.entries.Entry.{Entry}
+use Rattle.entry_turns.specs.declared.entries.Entry.TheVariants.{Before, After}
+
+-- the prefix c grows out of e by an operator of cost w, from this set on
+pub record GrownBefore {Set : Type 0} (v : View Set) (front : Layers Set) (e : Prefix Set) (op w : ℕ) (set : Set) (c : Prefix Set) : Type 0 where
+  pub set_is : c.set ≡ set
+  pub cost_is : c.cost ≡ e.cost - w
+  pub operators_are : c.operators.items ≡ op ∷ e.operators.items
+  pub after_is : c.after ≡ e.after
+  pub least : IsLeast v front (e.cost - w) set c.ring
+  pub fits : c.ring < 2 ^ 64
+
+-- the suffix c grows out of e
+pub record GrownAfter {Set : Type 0} (v : View Set) (back : Layers Set) (e : Suffix Set) (op w : ℕ) (set : Set) (c : Suffix Set) : Type 0 where
+  pub set_is : c.set ≡ set
+  pub cost_is : c.cost ≡ e.cost - w
+  pub operators_are : c.operators.items ≡ e.operators.items ++ op ∷ []
+  pub least : IsLeast v back (e.cost - w) set c.ring
+  pub fits : c.ring < 2 ^ 64
+
+abbrev pub IsGrown : {Set : Type 0} → View Set → Layers Set → Layers Set → Entry Set → ℕ → ℕ → Set → Entry Set → Type 0
+IsGrown v front back (Before e) op w set (Before c) = GrownBefore v front e op w set c
+IsGrown v front back (Before e) op w set (After c) = ⊥
+IsGrown v front back (After e) op w set (Before c) = ⊥
+IsGrown v front back (After e) op w set (After c) = GrownAfter v back e op w set c
+
+-- c was put after the others, with the falling ones where its cost or ring is less than that of e
+abbrev pub IsPut : {Set : Type 0} → Entry Set → Entry Set → List (Entry Set) → List (Entry Set) → List (Entry Set) → List (Entry Set) → Type 0
+IsPut e c level falling level2 falling2 =
+    (((cost_in c < cost_in e) ⊎ (ring_in c < ring_in e)) × (level2 ≡ level) × (falling2 ≡ falling ++ c ∷ []))
+    ⊎ ((cost_in e ≤ cost_in c) × (ring_in e ≤ ring_in c) × (level2 ≡ level ++ c ∷ []) × (falling2 ≡ falling))
+
+abbrev pub GrowsInto : {Set : Type 0} → View Set → Layers Set → Layers Set → Entry Set → ℕ → ℕ → Set → List (Entry Set) → List (Entry Set) → List (Entry Set) → List (Entry Set) → Type 0
+GrowsInto {Set} v front back e op w set level falling level2 falling2 = (c : Entry Set) × IsGrown v front back e op w set c × IsPut e c level falling level2 falling2
+
+-- what was made so far and what is more was made since
+abbrev pub MakesOn : {Set : Type 0} → View Set → View Set → List (Entry Set) → List (Entry Set) → Type 0
+MakesOn {Set} v w old new = (u : View Set) → Makes u v old → Makes u w new
+
+-- where the layers are right, the child by the operator was added, if there is one
+abbrev pub AddsChild : {Set : Type 0} → View Set → View Set → Layers Set → Layers Set → Entry Set → ℕ → List (Entry Set) → List (Entry Set) → List (Entry Set) → List (Entry Set) → Type 0
+AddsChild v w front back e op level falling level2 falling2 = (f b listed : ℕ) → AllByRecursion (EntryOk v) level → AllByRecursion (EntryOk v) falling
+    → Ready v.system v front back f b listed (plain v e)
+    → Added v.system (member_in v front) (member_in v back) (plain v e) op (plains v level) (plains v falling) (plains w level2) (plains w falling2)
+
+-- where the layers are right, all children were gathered
+abbrev pub Gathers : {Set : Type 0} → View Set → View Set → Layers Set → Layers Set → Entry Set → List (Entry Set) → List (Entry Set) → Type 0
+Gathers v w front back e level falling = (f b listed : ℕ) → Ready v.system v front back f b listed (plain v e) → Gathered v.system (member_in v front) (member_in v back) (plain v e) (plains w level) (plains w falling)
+
+-- the entries are new ones: all children, the falling ones last
+abbrev pub Expands : {Set : Type 0} → View Set → View Set → Layers Set → Layers Set → Entry Set → List (Entry Set) → Type 0
+Expands {Set} v w front back e es = Makes v w es × ((level : List (Entry Set)) × (falling : List (Entry Set)) × (es ≡ level ++ falling) × Gathers v w front back e level falling)

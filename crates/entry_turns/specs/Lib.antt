@@ -1,0 +1,6 @@
+pub mod Entries
+pub mod Ways
+pub mod Grown
+pub mod Turned
+pub mod Walked
+pub mod Opened

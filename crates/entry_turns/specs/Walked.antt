@@ -1,0 +1,32 @@
+-- What a walk does to what is owed.
+use Rattle.std.specs.Prelude.{◌≡◌, ℕ, ◌+◌, ◌<◌, ◌≤◌, ◌⊎◌, ◌↔◌, Bool, List, Option}
+use Rattle.std.specs.List.{AllByRecursion}
+use Rattle.task_system.specs.System.{State, System}
+use Rattle.space_api.specs.View.{View, Valid}
+use Rattle.symk_task.specs.declared.parts.Mode.TheVariants.{TopK}
+use Rattle.lazy_plans.specs.Law.{Gave, top, Stays as OwesAsBefore}
+use Rattle.cost_layers.specs.Layers.{known_of, Keeps}
+use Rattle.cost_layers.specs.declared.layers.Layers.{Layers}
+use Rattle.plan_cuts.specs.declared.Cut.{Cut}
+use Rattle.entry_laws.specs.Entries.{Plain, Owed, Lawful}
+use Rattle.entry_turns.specs.Entries.{plains, SetIn, member_in}
+use Rattle.entry_turns.specs.declared.entries.Entry.{Entry}
+
+-- the sets of the entries are none that the layers keep
+abbrev pub AreApart : {Set : Type 0} → List (Entry Set) → Layers Set → Type 0
+AreApart {Set} es l = (a : Set) → SetIn es a → ¬ Keeps l a
+
+-- the entries and the cuts not yet drawn are lawful, by these layers
+abbrev pub IsLawful : {Set : Type 0} → View Set → Layers Set → Layers Set → ℕ → List (Entry Set) → (Cut → Bool) → Type 0
+IsLawful v front back listed es undrawn = Lawful v.system (member_in v front) (member_in v back) (known_of front) (known_of back) listed (plains v es) undrawn
+
+abbrev pub IsOwed : {Set : Type 0} → View Set → Layers Set → ℕ → List (Entry Set) → (Cut → Bool) → List ℕ → Type 0
+IsOwed v back listed es undrawn p = Owed v.system (known_of back) listed (plains v es) undrawn p
+
+-- whatever isn't drawn: the queue stays lawful, and owes what it owed
+abbrev pub OwesOn : {Set : Type 0} → View Set → View Set → Layers Set → Layers Set → ℕ → List (Entry Set) → List (Entry Set) → Type 0
+OwesOn v w front back listed old new = (undrawn : Cut → Bool) → IsLawful v front back listed old undrawn → IsLawful w front back listed new undrawn × OwesAsBefore (IsOwed v back listed old undrawn) (IsOwed w back listed new undrawn)
+
+-- whatever isn't drawn, and whatever greatest cost has room for the listed one: the queue stays lawful, and gave the plan
+abbrev pub GaveFrom : {Set : Type 0} → View Set → View Set → Layers Set → Layers Set → ℕ → List (Entry Set) → List (Entry Set) → List ℕ → Type 0
+GaveFrom v w front back listed old new p = (most : Option ℕ) → listed ≤ top most → (undrawn : Cut → Bool) → IsLawful v front back listed old undrawn → IsLawful w front back listed new undrawn × Gave v.system TopK most (IsOwed v back listed old undrawn) (IsOwed w back listed new undrawn) p

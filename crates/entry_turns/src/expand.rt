@@ -1,0 +1,103 @@
+//! All children of an entry.
+
+ghost use Rattle.std.specs.Prelude.{◌≡◌, ◌<◌, length, ◌++◌, ◌∷◌, [], IfOk, OnOk, OnErr};
+ghost use Rattle.space_api.specs.View.{View, Valid};
+ghost use Rattle.space_api.specs.Frames.{Stays};
+ghost use Rattle.cost_layers.specs.Layers.{Held};
+ghost use Rattle.entry_laws.specs.Growing.{IsOrder};
+ghost use Rattle.entry_turns.specs.Entries.{EntryOk, Makes};
+ghost use Rattle.entry_turns.specs.Grown.{Gathers, Expands};
+
+use crate::children::{Children, give_back_children, try_operator};
+use crate::entries::Entry;
+use crate::ways::way_for;
+use cost_layers::Layers;
+use space_api::{Space, SpaceFault};
+use std::alloc::Global;
+
+/// Whether the operator after the one at `i` has another cost than `w`, or there is none.
+fn is_last_of_cost<S: Space>(space: &S, order: &[u32], i: usize, w: u64) -> bool
+    requires order { IsOrder (S.view space.now).system.operators order.now }
+    requires at { i < length order.now }
+{
+    match order.get(i + 1) {
+        Some(next) => space.cost_of(*next) != w,
+        None => true,
+    }
+}
+
+/// Adds the children by all operators, in this order. After a refusal the children so far are there.
+fn gather<S: Space>(
+    alloc: Global,
+    space: &mut S,
+    front: &Layers<S::Set>,
+    back: &Layers<S::Set>,
+    order: &[u32],
+    entry: &Entry<S::Set>,
+    children: &mut Children<S::Set>,
+) -> Result<(), SpaceFault>
+    requires front { Held (S.view space.old) front.now }
+    requires back { Held (S.view space.old) back.now }
+    requires entry { EntryOk (S.view space.old) entry.now }
+    requires order { IsOrder (S.view space.old).system.operators order.now }
+    requires level { children.old.level.items ≡ [] }
+    requires falling { children.old.falling.items ≡ [] }
+    ensures makes { Makes (S.view space.old) (S.view space.new) (children.new.level.items ++ children.new.falling.items) }
+    ensures ok { OnOk result (Gathers (S.view space.old) (S.view space.new) front.now back.now entry.now children.new.level.items children.new.falling.items) }
+{
+    let mut last = None;
+    'operators: for (i, op) in order.iter().enumerate() {
+        let w = space.cost_of(*op);
+        let alone = is_last_of_cost(space, order, i, w);
+        let way = way_for(space, front, back, entry, last, w, alone)?;
+        try_operator(alloc, space, front, back, entry, way, *op, children)?;
+        last = Some(way);
+    }
+    Ok(())
+}
+
+/// All children in one list, the falling ones last; or all are given back.
+fn join<S: Space>(
+    space: &mut S,
+    children: Children<S::Set>,
+) -> Result<Vec<Entry<S::Set>>, SpaceFault>
+    requires { (u : View S.Set) × Makes u (S.view space.old) (children.level.items ++ children.falling.items) }
+    ensures ok { IfOk result (λ es. es.items ≡ children.level.items ++ children.falling.items) }
+    ensures stays { IfOk result (λ es. S.view space.new ≡ S.view space.old) }
+    ensures back { OnErr result ((u : View S.Set) → Makes u (S.view space.old) (children.level.items ++ children.falling.items) → Stays u (S.view space.new)) }
+{
+    let mut children = children;
+    match children.level.append(&mut children.falling) {
+        Ok(()) => Ok(children.level),
+        Err(fault) => {
+            give_back_children(space, &children);
+            Err(fault)
+        }
+    }
+}
+
+/// The children of an entry, the falling ones last. A refusal gives back what was made.
+pub(crate) fn expand<S: Space>(
+    alloc: Global,
+    space: &mut S,
+    front: &Layers<S::Set>,
+    back: &Layers<S::Set>,
+    order: &[u32],
+    entry: &Entry<S::Set>,
+) -> Result<Vec<Entry<S::Set>>, SpaceFault>
+    requires front { Held (S.view space.old) front.now }
+    requires back { Held (S.view space.old) back.now }
+    requires entry { EntryOk (S.view space.old) entry.now }
+    requires order { IsOrder (S.view space.old).system.operators order.now }
+    ensures ok { IfOk result (λ es. Expands (S.view space.old) (S.view space.new) front.now back.now entry.now es.items) }
+    ensures err { OnErr result (Stays (S.view space.old) (S.view space.new)) }
+{
+    let mut children = Children::new(alloc);
+    match gather(alloc, space, front, back, order, entry, &mut children) {
+        Ok(()) => join(space, children),
+        Err(fault) => {
+            give_back_children(space, &children);
+            Err(fault)
+        }
+    }
+}

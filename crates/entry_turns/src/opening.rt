@@ -1,0 +1,142 @@
+//! Cuts, opened.
+
+ghost use Rattle.std.specs.Prelude.{◌≡◌, ℕ, ◌<◌, Some, IfOk, OnErr};
+ghost use Rattle.space_api.specs.View.{View, Valid};
+ghost use Rattle.space_api.specs.Frames.{Stays};
+ghost use Rattle.cost_layers.specs.Layers.{Held, whole_at};
+ghost use Rattle.entry_turns.specs.Opened.{IsDrawable, OpensWhole, OpensCross, Opened};
+
+use crate::entries::{Entry, Prefix, Suffix};
+use crate::ways::least_ring;
+use cost_layers::Layers;
+use plan_cuts::Cut;
+use space_api::{Space, SpaceFault};
+use std::alloc::{AllocError, Global};
+
+/// The suffix of this cost from this set on.
+fn whole_from<S: Space>(
+    alloc: Global,
+    space: &mut S,
+    back: &Layers<S::Set>,
+    cost: u64,
+    set: S::Set,
+) -> Result<Suffix<S::Set>, SpaceFault>
+    requires back { Held (S.view space.old) back.now }
+    requires set { Valid (S.view space.old) set }
+    ensures stays { Stays (S.view space.old) (S.view space.new) }
+    ensures ok { IfOk result (OpensWhole (S.view space.old) back.now cost set) }
+{
+    let ring = least_ring(space, back, cost, set)?;
+    Ok(Suffix {
+        set,
+        cost,
+        ring,
+        operators: Vec::new(alloc),
+    })
+}
+
+/// The entry of plans that are not cut.
+fn open_whole<S: Space>(
+    alloc: Global,
+    space: &mut S,
+    front: &Layers<S::Set>,
+    back: &Layers<S::Set>,
+    cost: u64,
+) -> Result<Entry<S::Set>, SpaceFault>
+    requires back { Held (S.view space.old) back.now }
+    ensures ok { IfOk result (Opened (S.view space.old) (S.view space.new) front.now back.now cost Cut.Whole) }
+    ensures err { OnErr result (Stays (S.view space.old) (S.view space.new)) }
+{
+    let set = space.init()?;
+    match whole_from(alloc, space, back, cost, set) {
+        Ok(suffix) => Ok(Entry::After(suffix)),
+        Err(fault) => {
+            space.forget(set);
+            Err(fault)
+        }
+    }
+}
+
+/// The prefix of cost `x` from this set on, which ends with the crossing operator.
+fn cross_from<S: Space>(
+    alloc: Global,
+    space: &mut S,
+    front: &Layers<S::Set>,
+    x: u64,
+    op: u32,
+    y: u64,
+    set: S::Set,
+) -> Result<Prefix<S::Set>, SpaceFault>
+    requires front { Held (S.view space.old) front.now }
+    requires set { Valid (S.view space.old) set }
+    ensures stays { Stays (S.view space.old) (S.view space.new) }
+    ensures ok { IfOk result (OpensCross (S.view space.old) front.now x op y set) }
+{
+    let ring = least_ring(space, front, x, set)?;
+    let mut operators = Vec::new(alloc);
+    operators.push(op)?;
+    Ok(Prefix {
+        set,
+        cost: x,
+        ring,
+        operators,
+        after: y,
+    })
+}
+
+/// The entry of plans that are cut at this operator, from one layer into the other.
+fn open_cross<S: Space>(
+    alloc: Global,
+    space: &mut S,
+    front: &Layers<S::Set>,
+    back: &Layers<S::Set>,
+    cost: u64,
+    x: u64,
+    op: u32,
+    y: u64,
+    before: S::Set,
+    after: S::Set,
+) -> Result<Entry<S::Set>, SpaceFault>
+    requires front { Held (S.view space.old) front.now }
+    requires back { Held (S.view space.old) back.now }
+    requires op { op < (S.view space.old).system.operators }
+    requires before { whole_at front.now x ≡ Some before }
+    requires after { whole_at back.now y ≡ Some after }
+    ensures ok { IfOk result (Opened (S.view space.old) (S.view space.new) front.now back.now cost (Cut.Cross x op y)) }
+    ensures err { OnErr result (Stays (S.view space.old) (S.view space.new)) }
+{
+    let set = space.pre_op(op, after, before)?;
+    match cross_from(alloc, space, front, x, op, y, set) {
+        Ok(prefix) => Ok(Entry::Before(prefix)),
+        Err(fault) => {
+            space.forget(set);
+            Err(fault)
+        }
+    }
+}
+
+/// The first entry of a cut of plans of this cost. Want of memory leaves all sets as they were.
+pub fn open_cut<S: Space>(
+    alloc: Global,
+    space: &mut S,
+    front: &Layers<S::Set>,
+    back: &Layers<S::Set>,
+    cost: u64,
+    cut: Cut,
+) -> Result<Entry<S::Set>, SpaceFault>
+    requires front { Held (S.view space.old) front.now }
+    requires back { Held (S.view space.old) back.now }
+    requires cut { IsDrawable (S.view space.old) front.now back.now cut }
+    ensures ok { IfOk result (Opened (S.view space.old) (S.view space.new) front.now back.now cost cut) }
+    ensures err { OnErr result (Stays (S.view space.old) (S.view space.new)) }
+{
+    match cut {
+        Cut::Whole => open_whole(alloc, space, front, back, cost),
+        Cut::Cross { x, op, y } => match (front.layer(x), back.layer(y)) {
+            (Some(before), Some(after)) => open_cross(
+                alloc, space, front, back, cost, x, op, y, before, after,
+            ),
+            _ => Err(AllocError),
+        },
+    }
+}

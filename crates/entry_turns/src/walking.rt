@@ -1,0 +1,56 @@
+//! The next plan of the cost that is being listed.
+
+ghost use Rattle.std.specs.Prelude.{◌≡◌, ℕ, ◌+◌, ◌<◌, ◌≤◌, Bool, length, IfOk, OnErr};
+ghost use Rattle.space_api.specs.View.{View};
+ghost use Rattle.space_api.specs.Owned.{Trades};
+ghost use Rattle.cost_layers.specs.Layers.{Held, known_of};
+ghost use Rattle.plan_cuts.specs.declared.Cut.{Cut};
+ghost use Rattle.entry_laws.specs.Growing.{IsOrder};
+ghost use Rattle.entry_turns.specs.Entries.{SetIn, RightSides};
+ghost use Rattle.entry_turns.specs.Turned.{IsQueue};
+ghost use Rattle.entry_turns.specs.Walked.{AreApart, IsLawful, OwesOn, GaveFrom};
+
+use crate::entries::Entry;
+use crate::turns::turn;
+use cost_layers::Layers;
+use lazy_plans::Steps;
+use space_api::{Space, SpaceFault};
+use std::alloc::Global;
+use std::sync::ledger::Ledger;
+
+/// Turns until a plan is given: at most as many as it has operators, and two.
+///
+/// Want of memory leaves a queue that owes what it owed; no set is lost.
+pub fn walk<S: Space, L: Ledger>(
+    alloc: Global,
+    space: &mut S,
+    front: &Layers<S::Set>,
+    back: &Layers<S::Set>,
+    order: &[u32],
+    cost: u64,
+    queue: &mut Vec<Entry<S::Set>>,
+    steps: &mut Steps<L>,
+) -> Result<Vec<u32>, SpaceFault>
+    requires front { Held (S.view space.old) front.now }
+    requires back { Held (S.view space.old) back.now }
+    requires sides { RightSides (S.view space.old).system (S.view space.old) front.now back.now (known_of front.now) (known_of back.now) }
+    requires order { IsOrder (S.view space.old).system.operators order.now }
+    requires queue { IsQueue (S.view space.old) queue.old.items }
+    requires some { 0 < length queue.old.items }
+    requires front_apart { AreApart queue.old.items front.now }
+    requires back_apart { AreApart queue.old.items back.now }
+    requires lawful { (undrawn : Cut → Bool) × IsLawful (S.view space.old) front.now back.now cost queue.old.items undrawn }
+    ensures queue { IsQueue (S.view space.new) queue.new.items }
+    ensures trades { Trades (S.view space.old) (S.view space.new) (SetIn queue.old.items) (SetIn queue.new.items) }
+    ensures gave { IfOk result (λ p. GaveFrom (S.view space.old) (S.view space.new) front.now back.now cost queue.old.items queue.new.items p.items) }
+    ensures steps { IfOk result (λ p. steps.new ≤ steps.old + length p.items + 2) }
+    ensures owes { OnErr result (OwesOn (S.view space.old) (S.view space.new) front.now back.now cost queue.old.items queue.new.items) }
+{
+    'turns: loop {
+        steps.tick();
+        match turn(alloc, space, front, back, order, queue)? {
+            Some(plan) => return Ok(plan),
+            None => {}
+        }
+    }
+}

@@ -1,0 +1,199 @@
+-- One call, by how it ends.
+use Rattle.std.proofs.Common.{◌≡◌, ◌≢◌, ℕ, ◌↔◌, inl, inr, List, [], Option, Some, None, Result, Ok, Err, refl, sym, ◌∙◌, ap, subst}
+use Rattle.task_system.specs.System.{System, IsPlan}
+use Rattle.symk_task.specs.declared.parts.Mode.TheVariants.{TopK}
+use Rattle.space_api.specs.View.{View, Valid}
+use Rattle.space_api.specs.Frames.{Stays as SetsStay}
+use Rattle.space_api.specs.Owned.{Trades}
+use Rattle.space_api.proofs.Trading.{valid_clash}
+use Rattle.lazy_plans.specs.Law.{Turned, Ended, Last, last_of}
+use Rattle.lazy_plans.specs.declared.stop.Stop.{Stop}
+use Rattle.lazy_plans.specs.declared.stop.Stop.TheVariants.{Memory}
+use Rattle.lazy_plans.proofs.Given.{ended_by, again_none, again_stop}
+use Rattle.entry_laws.specs.Growing.{IsOrder}
+use Rattle.entry_turns.specs.declared.entries.Entry.{Entry}
+use Rattle.bidirectional.specs.Both.{IsBeneath, IsBoth, IsOwnOf, front_layers, back_layers}
+use Rattle.bidirectional.specs.declared.search.Both.{Both}
+use Rattle.reconstruct.specs.declared.drawing.Place.{Place}
+use Rattle.reconstruct.specs.Working.{IsWorking, InRange, Owes, TradesAll}
+use Rattle.reconstruct.specs.Pending.{Pending, IsTidy, IsHeld, IsKept, IsReady, IsSound, Answered}
+use Rattle.reconstruct.specs.Engine.{IsReadyFor}
+use Rattle.reconstruct.proofs.Ends.{right_ends, stays_ends}
+use Rattle.reconstruct.proofs.Tidying.{at_kept, owes_kept}
+use Rattle.reconstruct.proofs.Pends.{memory_stops, pends_owed, turned_both, turned_to, held_stays}
+
+-- it goes on, so no plan is held
+pub none_held : (y : System) (held : Option (List ℕ)) → IsHeld y held None → held ≡ None
+none_held y None h = refl
+none_held y (Some p) h = absurd (none_some h.1)
+  where
+    none_some : None ≡ Some (Some Memory) → ⊥
+    none_some e = cc
+
+none_left : (s : Stop) → Some (Some s) ≡ Some None → ⊥
+none_left s e = cc
+
+none_some : ◌≡◌ {A = Last} None (Some None) → ⊥
+none_some e = cc
+
+-- a call of an engine, by what its parts did
+module _ {Set P : Type 0} (order : List ℕ) (most : Option ℕ) (within : Option Set) where
+  -- what is told at the end of a call
+  sound_of : (y : System) (x : View Set) (both : Both Set P) (listed : Option Place) (queue : List (Entry Set)) (held : Option (List ℕ)) (ended : Last) (before : List ℕ → Type 0) (r : Result (Option (List ℕ)) Stop)
+      → x.system ≡ y → IsReady x both order most within listed queue → IsHeld x.system held ended → Turned y TopK most before (Pending x (back_layers both) listed queue held) r → ended ≡ last_of r → (ended ≡ Some None → IsTidy x) → IsSound x both order most within listed queue held ended
+  sound_of y x both listed queue held ended before r sys ready holds turned last room = record {
+    ready = ready;
+    holds = holds;
+    said = subst (λ (z : System). Ended z most (Pending x (back_layers both) listed queue held) ended) (sym sys) (subst (λ (l : Last). Ended y most (Pending x (back_layers both) listed queue held) l) (sym last) (ended_by y TopK most before (Pending x (back_layers both) listed queue held) r turned));
+    room = room;
+  }
+
+  module _ (v w : View Set) (both both2 : Both Set P) (listed listed2 : Option Place) (queue queue2 : List (Entry Set))
+      (ready : IsReady v both order most within listed queue) (t : TradesAll v w both both2 queue queue2) (working : IsWorking w both2 listed2 queue2) (range : InRange most listed2) where
+    abbrev Before : List ℕ → Type 0
+    Before = Owes v (back_layers both) listed queue
+
+    abbrev After : List ℕ → Type 0
+    After = Owes w (back_layers both2) listed2 queue2
+
+    abbrev PendedBefore : List ℕ → Type 0
+    PendedBefore = Pending v (back_layers both) listed queue None
+
+    -- a set that is valid afterwards is kept
+    keeps_on : (a : Set) → Valid w a → IsKept both2 within queue2 a
+    keeps_on a h = elim (t.only a h) [
+      | inl k ↦ inl k
+      | inr k ↦ elim (ready.keeps a k) [ inl o ↦ inl (t.given a o h) | inr e ↦ inr e ]
+    ]
+
+    -- ready after the parts went on
+    ready_given : IsReady w both2 order most within listed2 queue2
+    ready_given = record {
+      working = working;
+      order_is = subst (λ (y : System). IsOrder y.operators order) (sym t.system) ready.order_is;
+      range = range;
+      keeps = keeps_on;
+    }
+
+    law_given : (r : Result (Option (List ℕ)) Stop) → Turned v.system TopK most Before After r → Turned v.system TopK most PendedBefore (Pending w (back_layers both2) listed2 queue2 None) r
+    law_given r h = turned_both v.system TopK most Before PendedBefore After (Pending w (back_layers both2) listed2 queue2 None) r (λ q. let p = pends_owed v (back_layers both) listed queue q in (p.1, p.0)) h (λ q. pends_owed w (back_layers both2) listed2 queue2 q)
+
+    pub stopped : (stop : Stop) → Turned v.system TopK most Before After (Err stop) → Answered v w most PendedBefore (Pending w (back_layers both2) listed2 queue2 None) (IsSound w both2 order most within listed2 queue2 None (Some (Some stop))) (Some (Some stop)) (Err stop)
+    stopped stop h =
+        let law = law_given (Err stop) h in
+        record {
+          engine = sound_of v.system w both2 listed2 queue2 None (Some (Some stop)) PendedBefore (Err stop) t.system ready_given tt law refl (λ e. absurd (none_left stop e));
+          system = t.system;
+          law = law;
+          last = refl;
+          room = tt;
+        }
+
+    -- the space was tidied, or that was refused
+    module _ (x : View Set) (s : SetsStay w x) where
+      ready_tidied : IsReady x both2 order most within listed2 queue2
+      ready_tidied = record {
+        working = record { stands = stays_ends w x both2 s.kept working.stands; at = at_kept w x (IsBeneath both2) (front_layers both2) (back_layers both2) (right_ends w both2 working.stands) s listed2 queue2 working.at };
+        order_is = subst (λ (y : System). IsOrder y.operators order) (sym s.kept.system) ready_given.order_is;
+        range = range;
+        keeps = λ a h. ready_given.keeps a (s.only a h);
+      }
+
+      system_tidied : x.system ≡ v.system
+      system_tidied = s.kept.system ∙ t.system
+
+      owes_tidied : (q : List ℕ) → Owes x (back_layers both2) listed2 queue2 q ↔ After q
+      owes_tidied q = owes_kept w x (IsBeneath both2) (front_layers both2) (back_layers both2) (right_ends w both2 working.stands) s listed2 queue2 working.at q
+
+      law_tidied : (r : Result (Option (List ℕ)) Stop) → Turned v.system TopK most Before After r → Turned v.system TopK most PendedBefore (Pending x (back_layers both2) listed2 queue2 None) r
+      law_tidied r h = turned_to v.system TopK most PendedBefore (Pending w (back_layers both2) listed2 queue2 None) (Pending x (back_layers both2) listed2 queue2 None) r (law_given r h)
+          (λ q. let a = pends_owed x (back_layers both2) listed2 queue2 q in let b = pends_owed w (back_layers both2) listed2 queue2 q in let o = owes_tidied q in ((λ k. b.1 (o.0 (a.0 k))), (λ k. a.1 (o.1 (b.0 k)))))
+
+      pub tidied_none : IsTidy x → Turned v.system TopK most Before After (Ok None) → Answered v x most PendedBefore (Pending x (back_layers both2) listed2 queue2 None) (IsSound x both2 order most within listed2 queue2 None (Some None)) (Some None) (Ok None)
+      tidied_none few h =
+          let law = law_tidied (Ok None) h in
+          record {
+            engine = sound_of v.system x both2 listed2 queue2 None (Some None) PendedBefore (Ok None) system_tidied ready_tidied tt law refl (λ e. few);
+            system = system_tidied;
+            law = law;
+            last = refl;
+            room = few;
+          }
+
+      pub tidied_some : (p : List ℕ) → IsTidy x → Turned v.system TopK most Before After (Ok (Some p)) → Answered v x most PendedBefore (Pending x (back_layers both2) listed2 queue2 None) (IsSound x both2 order most within listed2 queue2 None None) None (Ok (Some p))
+      tidied_some p few h =
+          let law = law_tidied (Ok (Some p)) h in
+          record {
+            engine = sound_of v.system x both2 listed2 queue2 None None PendedBefore (Ok (Some p)) system_tidied ready_tidied tt law refl (λ e. absurd (none_some e));
+            system = system_tidied;
+            law = law;
+            last = refl;
+            room = few;
+          }
+
+      -- what is owed, and the plan that is held, are what was owed
+      held_law : (found : Option (List ℕ)) → Turned v.system TopK most Before After (Ok found) → Turned v.system TopK most PendedBefore (Pending x (back_layers both2) listed2 queue2 found) (Err Memory)
+      held_law None h = (memory_stops v.system most PendedBefore, λ q. let l = (law_tidied (Ok None) h).1 q in l)
+      held_law (Some p) h = (
+        memory_stops v.system most PendedBefore,
+        λ q.
+            let k = held_stays v.system most Before After p h q in
+            let o = owes_tidied q in
+            let a = pends_owed v (back_layers both) listed queue q in (
+              (λ z. a.1 (k.0 (elim z [ inl m ↦ inl (o.0 m) | inr e ↦ inr e ]))),
+              (λ z. elim (k.1 (a.0 z)) [ inl m ↦ inl (o.1 m) | inr e ↦ inr e ]),
+            ),
+      )
+
+      owed_plan : (l : Option Place) (q : List ℕ) → Owes v (back_layers both) l queue q → IsPlan v.system q
+      owed_plan None q h = h
+      owed_plan (Some place) q h = h.0
+
+      held_fine : (found : Option (List ℕ)) → Turned v.system TopK most Before After (Ok found) → IsHeld x.system found (Some (Some Memory))
+      held_fine None h = tt
+      held_fine (Some p) h = (subst (λ (y : System). IsPlan y p) (sym system_tidied) (owed_plan listed p h.pended), refl)
+
+      pub untidied : (found : Option (List ℕ)) → Turned v.system TopK most Before After (Ok found) → Answered v x most PendedBefore (Pending x (back_layers both2) listed2 queue2 found) (IsSound x both2 order most within listed2 queue2 found (Some (Some Memory))) (Some (Some Memory)) (Err Memory)
+      untidied found h =
+          let law = held_law found h in
+          record {
+            engine = sound_of v.system x both2 listed2 queue2 found (Some (Some Memory)) PendedBefore (Err Memory) system_tidied ready_tidied (held_fine found h) law refl (λ e. absurd (none_left Memory e));
+            system = system_tidied;
+            law = law;
+            last = refl;
+            room = tt;
+          }
+
+  -- a call of an engine that has ended
+  pub repeated : (v : View Set) (both : Both Set P) (listed : Option Place) (queue : List (Entry Set)) (held : Option (List ℕ)) (ended : Last) (r : Result (Option (List ℕ)) Stop) → IsSound v both order most within listed queue held ended → ended ≢ None → ended ≡ last_of r → Answered v v most (Pending v (back_layers both) listed queue held) (Pending v (back_layers both) listed queue held) (IsSound v both order most within listed queue held ended) ended r
+  repeated v both listed queue held ended (Ok (Some p)) e some is = absurd (some is)
+  repeated v both listed queue held ended (Ok None) e some is = record {
+    engine = e;
+    system = refl;
+    law = again_none v.system TopK most (Pending v (back_layers both) listed queue held) (subst (λ (l : Last). Ended v.system most (Pending v (back_layers both) listed queue held) l) is e.said);
+    last = is;
+    room = e.room is;
+  }
+  repeated v both listed queue held ended (Err stop) e some is = record {
+    engine = e;
+    system = refl;
+    law = again_stop v.system TopK most (Pending v (back_layers both) listed queue held) stop (subst (λ (l : Last). Ended v.system most (Pending v (back_layers both) listed queue held) l) is e.said);
+    last = is;
+    room = tt;
+  }
+
+  -- an engine of which nothing was asked yet: no set is valid but those of the search and the one that was handed over
+  pub engine_begins : (u v : View Set) (both : Both Set P) (queue : List (Entry Set)) → IsReadyFor u within → Trades u v (λ a. ⊥) (IsOwnOf both) → IsBoth v both → IsOrder v.system.operators order → queue ≡ [] → IsSound v both order most within None queue None None
+  engine_begins u v both queue start t stands is empty = record {
+    ready = record { working = record { stands = stands; at = empty }; order_is = is; range = tt; keeps = λ a h. elim (t.only a h) [ inl o ↦ inl (inl o) | inr k ↦ kept_first within start a k ] };
+    holds = tt;
+    said = tt;
+    room = λ e. absurd (none_some e);
+  }
+    where
+      kept_first : (o : Option Set) → IsReadyFor u o → (a : Set) → Valid u a → IsKept both o queue a
+      kept_first None r a k = absurd (valid_clash k (r a))
+      kept_first (Some b) r a k = inr (some_is (r.1 a k))
+        where
+          some_is : a ≡ b → Some b ≡ Some a
+          some_is e = sym (ap (λ (z : Set). Some z) e)

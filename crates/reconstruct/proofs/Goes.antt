@@ -1,0 +1,95 @@
+-- On to the next cost.
+use Rattle.std.proofs.Common.{◌≡◌, ℕ, ◌≤◌, ◌⊎◌, ◌↔◌, inl, inr, Bool, true, false, List, [], Option, Some, None, sym, ap, subst, arith}
+use Rattle.task_system.specs.System.{System, IsPlan, cost_of}
+use Rattle.space_api.specs.View.{View, Valid}
+use Rattle.space_api.specs.Owned.{Trades}
+use Rattle.space_api.proofs.Trading.{trades_trans, trades_beside}
+use Rattle.cost_layers.specs.Layers.{known_of}
+use Rattle.cost_layers.specs.declared.layers.Layers.{Layers}
+use Rattle.entry_laws.specs.Entries.{Owed}
+use Rattle.entry_turns.specs.Entries.{SetIn, member_in}
+use Rattle.entry_turns.specs.declared.entries.Entry.{Entry}
+use Rattle.entry_laws.specs.Drawing.{undrawn, Above}
+use Rattle.entry_laws.proofs.Draws.{next_lawful, next_owed}
+use Rattle.reconstruct.specs.Sides.{AreRightLayers, IsNextCost}
+use Rattle.reconstruct.specs.Listing.{IsListing, OwedAt}
+use Rattle.reconstruct.specs.declared.drawing.Place.{Place}
+use Rattle.reconstruct.proofs.Placing.{sides_of}
+use Rattle.reconstruct.specs.Going.{cost_at, HasMore, IsFilled}
+
+abbrev pub fresh_place : ℕ → Place
+fresh_place cost = record { cost = cost; after = None; left = true }
+
+-- a new cost, nothing drawn
+pub first_listing : {Set : Type 0} (v : View Set) (Uses : Set → Type 0) (front back : Layers Set) (above most : Option ℕ) (cost : ℕ) (y : System) → AreRightLayers v front back → IsNextCost y above most front back cost → IsListing v Uses front back (fresh_place cost) []
+first_listing v Uses front back above most cost y r n = record {
+  queue_is = record { each = tt; distinct = tt };
+  apart = λ a h. absurd h;
+  settled = n.settled;
+  lawful = next_lawful v.system (member_in v front) (member_in v back) (known_of front) (known_of back) cost (sides_of v front back r).tables;
+}
+
+plan_of : (y : System) (l : Option ℕ) (p : List ℕ) → Above y l p → IsPlan y p
+plan_of y None p h = h
+plan_of y (Some c) p h = h.0
+
+from_cost : (y : System) (l : Option ℕ) (q p : List ℕ) → Above y l q → IsPlan y p → cost_of y q ≤ cost_of y p → Above y l p
+from_cost y None q p h plan le = plan
+from_cost y (Some c) q p h plan le = (plan, omega (arith, h.1, le))
+
+module _ {Set : Type 0} (v v1 w : View Set) (Uses : Set → Type 0) (front back : Layers Set) (most : Option ℕ) (old : Option Place) (cost : ℕ) (place : Place) (queue : List (Entry Set)) (sys : v1.system ≡ v.system) (w_sys : w.system ≡ v.system) (n : IsNextCost v.system (cost_at old) most front back cost) (l : IsListing w Uses front back place queue) (same : place.cost ≡ cost)
+    (owes : (p : List ℕ) → OwedAt w back place queue p ↔ OwedAt v1 back (fresh_place cost) [] p) where
+  first_owed : (p : List ℕ) → OwedAt v1 back (fresh_place cost) [] p ↔ Above v.system (cost_at old) p
+  first_owed p =
+      let base = next_owed v.system (known_of back) (known_of back) (cost_at old) cost n.least (λ q plan le. from_cost v.system (cost_at old) n.plan.0 q n.plan.1 plan (omega (arith, n.plan.2, le))) p in
+      subst (λ (y : System). Owed y (known_of back) cost [] (undrawn true None) p ↔ Above v.system (cost_at old) p) (sym sys) base
+
+  all_owed : (p : List ℕ) → OwedAt w back place queue p ↔ Above v.system (cost_at old) p
+  all_owed p = ((λ h. (first_owed p).0 ((owes p).0 h)), (λ h. (owes p).1 ((first_owed p).1 h)))
+
+  -- the cost has a plan, so a cut was there
+  not_empty : (queue ≡ []) × (place.left ≡ false) → ⊥
+  not_empty h =
+      let p = n.plan in
+      let o = (all_owed p.0).1 p.1 in
+      let o2 = subst (λ (q : List (Entry Set)). OwedAt w back place q p.0) h.0 o in
+      let o3 = subst (λ (b : Bool). OwedAt w back (record { cost = place.cost; after = place.after; left = b }) [] p.0) h.1 o2 in
+      let is : cost_of w.system p.0 ≡ cost_of v.system p.0 = ap (λ (y : System). cost_of y p.0) w_sys in
+      elim o3.1 [ inl a ↦ omega (arith, a, is, p.2, same) | inr k ↦ omega (arith, k.1) ]
+
+  pub filled : HasMore queue (Some place) → IsFilled v w Uses front back most old place queue
+  filled h = record {
+    listing = l;
+    some = elim h [ inl lt ↦ lt | inr e ↦ absurd (not_empty e) ];
+    wanted = omega (arith, same, n.wanted);
+    owes = all_owed;
+  }
+
+-- what the sides trade, and then what the queue gets
+pub trades_on : {Set : Type 0} (v v1 w : View Set) (Old Mid : Set → Type 0) (queue queue2 : List (Entry Set)) → queue ≡ [] → ((a : Set) → Mid a → Valid v1 a) → Trades v v1 Old Mid → Trades v1 w (SetIn queue) (SetIn queue2) → Trades v w Old (λ a. Mid a ⊎ SetIn queue2 a)
+trades_on v v1 w Old Mid queue queue2 empty valid j k =
+    let none : (a : _) → ¬ SetIn queue a = λ a h. subst (λ (q : List (Entry _)). SetIn q a) empty h in
+    let both = trades_beside Mid k (λ a h. (valid a h, none a)) in
+    let first : Trades v v1 Old (λ a. Mid a ⊎ SetIn queue a) = record {
+      system = j.system;
+      owned = λ a h. elim h [ inl m ↦ j.owned a m | inr q ↦ absurd (none a q) ];
+      fresh = λ a h n. elim h [ inl m ↦ j.fresh a m n | inr q ↦ absurd (none a q) ];
+      given = λ a o h. inl (j.given a o h);
+      others = j.others;
+      only = λ a h. elim (j.only a h) [ inl m ↦ inl (inl m) | inr o ↦ inr o ];
+      same = j.same;
+    } in
+    trades_trans first both
+
+pub trades_alone : {Set : Type 0} (v w : View Set) (Old New : Set → Type 0) (queue : List (Entry Set)) → queue ≡ [] → Trades v w Old New → Trades v w Old (λ a. New a ⊎ SetIn queue a)
+trades_alone v w Old New queue empty j =
+    let none : (a : _) → ¬ SetIn queue a = λ a h. subst (λ (q : List (Entry _)). SetIn q a) empty h in
+    record {
+      system = j.system;
+      owned = λ a h. elim h [ inl m ↦ j.owned a m | inr q ↦ absurd (none a q) ];
+      fresh = λ a h n. elim h [ inl m ↦ j.fresh a m n | inr q ↦ absurd (none a q) ];
+      given = λ a o h. inl (j.given a o h);
+      others = j.others;
+      only = λ a h. elim (j.only a h) [ inl m ↦ inl (inl m) | inr o ↦ inr o ];
+      same = j.same;
+    }

@@ -1,0 +1,10 @@
+pub mod Ends
+pub mod Answered
+pub mod Placing
+pub mod Goes
+pub mod Moves
+pub mod Walked
+pub mod Tidying
+pub mod Pends
+pub mod Asks
+pub mod Ordering

@@ -1,0 +1,225 @@
+-- The first entry of a cut is put into the queue.
+use Rattle.std.proofs.Common.{◌≡◌, ℕ, ◌+◌, ◌<◌, ◌↔◌, inl, inr, Bool, true, false, List, [], ◌∷◌, Option, Some, None, Result, Ok, Err, OnOk, OnErr, refl, sym, ◌∙◌, ap, subst, arith}
+use Rattle.task_system.specs.System.{State, System, Runs, IsPlan, cost_of}
+use Rattle.space_api.specs.View.{View, Valid}
+use Rattle.space_api.specs.Frames.{Kept, Stays}
+use Rattle.space_api.specs.Owned.{Trades}
+use Rattle.cost_layers.specs.Layers.{whole_at, known_of, Held}
+use Rattle.cost_layers.specs.declared.layers.Layers.{Layers}
+use Rattle.plan_cuts.specs.declared.Cut.{Cut}
+use Rattle.plan_cuts.specs.declared.Cut.TheVariants.{Whole, Cross}
+use Rattle.entry_laws.specs.Cuts.{cut_of, same_cut}
+use Rattle.entry_laws.specs.Counts.{ind, at_some}
+use Rattle.entry_laws.specs.Entries.{Plain, Owed, Lawful, Stands, entry_hits}
+use Rattle.entry_laws.proofs.Cutting.{cut_inside}
+use Rattle.entry_laws.proofs.Paths.{both, parted, led}
+use Rattle.entry_laws.proofs.Drawing.{cross_there}
+use Rattle.entry_turns.specs.Entries.{set_in, plain, SetIn, member_in, RightSides}
+use Rattle.entry_turns.specs.Turned.{IsQueue}
+use Rattle.entry_turns.specs.declared.entries.Entry.{Entry}
+use Rattle.entry_turns.proofs.Barren.{in_layer}
+use Rattle.entry_turns.proofs.Kept.{member_kept, sides_kept}
+use Rattle.entry_turns.proofs.Reaching.{not_valid}
+use Rattle.space_api.proofs.Keeping.{kept_trans}
+use Rattle.entry_turns.specs.Walked.{IsLawful, IsOwed}
+use Rattle.entry_turns.proofs.RightLayers.{serve}
+use Rattle.plan_cuts.specs.Cuts.{IsCutAt, IsNextCut}
+use Rattle.entry_turns.specs.Opened.{IsDrawable, Opened}
+use Rattle.entry_laws.specs.Drawing.{undrawn}
+use Rattle.reconstruct.specs.Listing.{IsListing, OwedAt, Drew, Draws, PutsOne, LeavesAll}
+use Rattle.reconstruct.specs.declared.drawing.Drawn.{Drawn}
+use Rattle.reconstruct.specs.declared.drawing.Place.{Place}
+use Rattle.entry_turns.proofs.Sets.{new_back}
+use Rattle.space_api.proofs.Trading.{trades_stays}
+use Rattle.entry_laws.proofs.Draws.{drawn_lawful, drawn_owed, none_lawful, none_owed}
+use Rattle.bidirectional.specs.Both.{IsBeneath, IsBoth, front_layers, back_layers}
+use Rattle.bidirectional.specs.declared.search.Both.{Both}
+use Rattle.reconstruct.specs.Sides.{AreRightLayers}
+use Rattle.reconstruct.proofs.Ends.{stays_ends}
+
+pub sides_of : {Set : Type 0} (v : View Set) (front back : Layers Set) → AreRightLayers v front back → RightSides v.system v front back (known_of front) (known_of back)
+sides_of v front back r = serve v front back (known_of front) (known_of back) r.front_held r.back_held r.front_right r.back_right
+
+-- the layers of a plan's cut are there, and its operator is one
+pub drawable : {Set : Type 0} (v : View Set) (front back : Layers Set) (cost : ℕ) (cut : Cut) → AreRightLayers v front back → cost < known_of front + known_of back → IsCutAt v.system (known_of back) cost cut → IsDrawable v front back cut
+drawable v front back cost Whole r lt c = tt
+drawable v front back cost (Cross x op y) r lt c =
+    let s = sides_of v front back r in
+    let z = v.system in
+    let i = cut_inside z (known_of front) (known_of back) c.0 x op y c.2 (omega (arith, c.1.1, lt)) in
+    let m = cross_there z (member_in v front) (member_in v back) (known_of front) (known_of back) s.tables c.0 x op y c.1.0 c.2 i.1 in
+    let run = parted z c.2.0 (op ∷ c.2.1) z.initial c.1.0.0 (subst (λ (l : List ℕ). Runs z z.initial l c.1.0.0) c.2.2 c.1.0.1) in
+    let number : op < z.operators = run.2.1.number in
+    let p = both (member_in v front x m.0) (at_some (z.step op m.0) (member_in v back y)) m.1 in
+    let a = in_layer v (whole_at front x) m.0 p.0 in
+    let t = led z op m.0 (member_in v back y) (z.step op m.0) number refl p.1 in
+    let b = in_layer v (whole_at back y) t.0 t.1 in
+    (number, (a.0, a.1), (b.0, b.1))
+
+clash : (b : Bool) → b ≡ true → b ≡ false → ⊥
+clash b e f = cc
+
+-- a law in a later view that keeps all sets
+module _ {Set : Type 0} (v w : View Set) (front back : Layers Set) (k : Kept v w) (hf : Held v front) (hb : Held v back) where
+  pub lawful_on : (cost : ℕ) (es : List Plain) (u : Cut → Bool) → Lawful v.system (member_in v front) (member_in v back) (known_of front) (known_of back) cost es u → Lawful w.system (member_in w front) (member_in w back) (known_of front) (known_of back) cost es u
+  lawful_on cost es u l =
+      let f = known_of front in
+      let b = known_of back in
+      let l1 = subst (λ (y : System). Lawful y (member_in v front) (member_in v back) f b cost es u) (sym k.system) l in
+      let l2 = subst (λ (p : ℕ → State → Bool). Lawful w.system p (member_in v back) f b cost es u) (sym (member_kept v w k front hf)) l1 in
+      subst (λ (p : ℕ → State → Bool). Lawful w.system (member_in w front) p f b cost es u) (sym (member_kept v w k back hb)) l2
+
+  pub owed_on : (b cost : ℕ) (es : List Plain) (u : Cut → Bool) (p : List ℕ) → Owed w.system b cost es u p ↔ Owed v.system b cost es u p
+  owed_on b cost es u p = (
+    (λ h. subst (λ (y : System). Owed y b cost es u p) k.system h),
+    (λ h. subst (λ (y : System). Owed y b cost es u p) (sym k.system) h),
+  )
+
+module _ {Set : Type 0} (v w : View Set) (front back : Layers Set) (cost : ℕ) (after : Option Cut) (r : AreRightLayers v front back) (lt : cost < known_of front + known_of back) where
+  -- a cut was drawn
+  module _ (cut : Cut) (e : Entry Set) (next : IsNextCut v.system (known_of back) cost after (Some cut)) (o : Opened v w front back cost cut e) where
+    stands_at : Stands v.system (known_of front) (known_of back) cost (plain w e)
+    stands_at = o.stands (known_of front) (known_of back) (sides_of v front back r) lt next.0
+
+    hits_at : (p : List ℕ) → IsPlan v.system p → cost_of v.system p ≡ cost → entry_hits v.system (plain w e) p ≡ ind (same_cut (cut_of v.system (known_of back) p) cut)
+    hits_at = o.hits (known_of front) (known_of back) (sides_of v front back r) lt next.0
+
+    pub one_lawful : IsLawful v front back cost [] (undrawn true after) → IsLawful w front back cost (e ∷ []) (undrawn true (Some cut))
+    one_lawful l = lawful_on v w front back o.kept r.front_held r.back_held cost (plain w e ∷ []) (undrawn true (Some cut))
+        (drawn_lawful v.system (known_of back) cost (member_in v front) (member_in v back) (known_of front) r.begun.1 after cut (plain w e) next stands_at hits_at l)
+
+    pub one_owed : (p : List ℕ) → IsOwed w back cost (e ∷ []) (undrawn true (Some cut)) p ↔ IsOwed v back cost [] (undrawn true after) p
+    one_owed p =
+        let a = owed_on v w front back o.kept r.front_held r.back_held (known_of back) cost (plain w e ∷ []) (undrawn true (Some cut)) p in
+        let d = drawn_owed v.system (known_of back) cost (member_in v front) (member_in v back) (known_of front) r.begun.1 after cut (plain w e) next stands_at hits_at p in
+        ((λ h. d.0 (a.0 h)), (λ h. a.1 (d.1 h)))
+
+    pub one_queue : IsQueue w (e ∷ [])
+    one_queue = record { each = (o.fine, tt); distinct = ((λ x. x), tt) }
+
+    pub one_trades : Trades v w (SetIn {Set = Set} []) (SetIn (e ∷ []))
+    one_trades = record {
+      system = o.kept.system;
+      owned = λ a h. elim h [ inl s ↦ subst (λ (x : Set). Valid w x) (sym s) o.new.valid | inr x ↦ absurd x ];
+      fresh = λ a h n. elim h [ inl s ↦ subst (λ (x : Set). v.valid x ≡ false) (sym s) o.new.fresh | inr x ↦ absurd x ];
+      given = λ a h valid. absurd h;
+      others = λ a h n. o.kept.valid a h;
+      only = λ a h. elim (o.new.only a h) [ inl k ↦ inr k | inr s ↦ inl (inl s) ];
+      same = λ a h n s. o.kept.same a h s;
+    }
+
+    pub one_apart : (Uses : Set → Type 0) → ((a : Set) → Uses a → Valid v a) → (a : Set) → SetIn (e ∷ []) a → ¬ Uses a
+    one_apart Uses valid a h use1 = elim h [ inl s ↦ clash (v.valid a) (valid a use1) (subst (λ (x : Set). v.valid x ≡ false) (sym s) o.new.fresh) | inr x ↦ x ]
+
+  -- no cut is left
+  module _ (none : IsNextCut v.system (known_of back) cost after None) (s : Stays v w) where
+    pub none_left : IsLawful v front back cost [] (undrawn true after) → IsLawful w front back cost [] (undrawn false after)
+    none_left l = lawful_on v w front back s.kept r.front_held r.back_held cost [] (undrawn false after) (none_lawful v.system (known_of back) cost (member_in v front) (member_in v back) (known_of front) r.begun.1 after none l.tables)
+
+    pub none_owes : (p : List ℕ) → IsOwed w back cost [] (undrawn false after) p ↔ IsOwed v back cost [] (undrawn true after) p
+    none_owes p =
+        let a = owed_on v w front back s.kept r.front_held r.back_held (known_of back) cost [] (undrawn false after) p in
+        let d = none_owed v.system (known_of back) cost (member_in v front) (member_in v back) (known_of front) r.begun.1 after none p in
+        ((λ h. d.0 (a.0 h)), (λ h. a.1 (d.1 h)))
+
+-- nothing changes but the view, which keeps all sets
+pub listing_stays : {Set : Type 0} (v w : View Set) (Uses : Set → Type 0) (front back : Layers Set) (place : Place) → AreRightLayers v front back → Stays v w → IsListing v Uses front back place [] → IsListing w Uses front back place []
+listing_stays v w Uses front back place r s l = record {
+  queue_is = record { each = tt; distinct = tt };
+  apart = l.apart;
+  settled = l.settled;
+  lawful = lawful_on v w front back s.kept r.front_held r.back_held place.cost [] (undrawn place.left place.after) l.lawful;
+}
+
+pub owed_stays : {Set : Type 0} (v w : View Set) (front back : Layers Set) (place : Place) → AreRightLayers v front back → Stays v w → (p : List ℕ) → OwedAt w back place [] p ↔ OwedAt v back place [] p
+owed_stays v w front back place r s p = owed_on v w front back s.kept r.front_held r.back_held (known_of back) place.cost [] (undrawn place.left place.after) p
+
+pub trades_empty : {Set : Type 0} (v w : View Set) → Stays v w → Trades v w (SetIn {Set = Set} []) (SetIn {Set = Set} [])
+trades_empty v w s = trades_stays v w (SetIn []) s (λ a h. absurd h)
+
+module _ {Set : Type 0} (v : View Set) (Uses : Set → Type 0) (front back : Layers Set) (cost : ℕ) (after : Option Cut) (r : AreRightLayers v front back) (valid : (a : Set) → Uses a → Valid v a) (l : IsListing v Uses front back (record { cost = cost; after = after; left = true }) []) where
+  drew_none : (w : View Set) → Stays v w → IsNextCut v.system (known_of back) cost after None → Drew v w Uses front back (record { cost = cost; after = after; left = true }) (record { cost = cost; after = after; left = false }) [] []
+  drew_none w s none = record {
+    kept = s.kept;
+    listing = record { queue_is = record { each = tt; distinct = tt }; apart = l.apart; settled = l.settled; lawful = none_left v w front back cost after r l.settled none s l.lawful };
+    cost = refl;
+    trades = trades_empty v w s;
+    owes = none_owes v w front back cost after r l.settled none s;
+  }
+
+  drew_one : (w : View Set) (cut : Cut) (e : Entry Set) → IsNextCut v.system (known_of back) cost after (Some cut) → Opened v w front back cost cut e → Drew v w Uses front back (record { cost = cost; after = after; left = true }) (record { cost = cost; after = Some cut; left = true }) [] (e ∷ [])
+  drew_one w cut e next o = record {
+    kept = o.kept;
+    listing = record { queue_is = one_queue v w front back cost after r l.settled cut e next o; apart = one_apart v w front back cost after r l.settled cut e next o Uses valid; settled = l.settled; lawful = one_lawful v w front back cost after r l.settled cut e next o l.lawful };
+    cost = refl;
+    trades = one_trades v w front back cost after r l.settled cut e next o;
+    owes = one_owed v w front back cost after r l.settled cut e next o;
+  }
+
+  drew_stays : (w : View Set) → Stays v w → Drew v w Uses front back (record { cost = cost; after = after; left = true }) (record { cost = cost; after = after; left = true }) [] []
+  drew_stays w s = record {
+    kept = s.kept;
+    listing = listing_stays v w Uses front back (record { cost = cost; after = after; left = true }) r s l;
+    cost = refl;
+    trades = trades_empty v w s;
+    owes = owed_stays v w front back (record { cost = cost; after = after; left = true }) r s;
+  }
+
+module _ {Set : Type 0} (v : View Set) (Uses : Set → Type 0) (front back : Layers Set) (place : Place) (queue : List (Entry Set)) (r : AreRightLayers v front back) (valid : (a : Set) → Uses a → Valid v a) (left : place.left ≡ true) (empty : queue ≡ []) (l : IsListing v Uses front back place queue) where
+  abbrev at : Place
+  at = record { cost = place.cost; after = place.after; left = true }
+
+  place_is : place ≡ at
+  place_is = ap (λ (b : Bool). record { cost = place.cost; after = place.after; left = b }) left
+
+  l2 : IsListing v Uses front back at []
+  l2 = subst (λ (q : Place). IsListing v Uses front back q []) place_is (subst (λ (q : List (Entry Set)). IsListing v Uses front back place q) empty l)
+
+  back_to : (w : View Set) (place2 : Place) (queue2 : List (Entry Set)) → Drew v w Uses front back at place2 [] queue2 → Drew v w Uses front back place place2 queue queue2
+  back_to w place2 queue2 d = subst (λ (q : Place). Drew v w Uses front back q place2 queue queue2) (sym place_is) (subst (λ (q : List (Entry Set)). Drew v w Uses front back at place2 q queue2) (sym empty) d)
+
+  pub none_drew : (w : View Set) → Stays v w → IsNextCut v.system (known_of back) place.cost place.after None → Drew v w Uses front back place (record { cost = place.cost; after = place.after; left = false }) queue queue
+  none_drew w s none = back_to w _ queue (subst (λ (q : List (Entry Set)). Drew v w Uses front back at (record { cost = place.cost; after = place.after; left = false }) [] q) (sym empty) (drew_none v Uses front back place.cost place.after r valid l2 w s none))
+
+  pub stays_drew : (w : View Set) → Stays v w → Drew v w Uses front back place place queue queue
+  stays_drew w s = back_to w place queue (subst (λ (q : List (Entry Set)). Drew v w Uses front back at place [] q) (sym empty) (subst (λ (q : Place). Drew v w Uses front back at q [] []) (sym place_is) (drew_stays v Uses front back place.cost place.after r valid l2 w s)))
+
+  -- by what putting the entry answers
+  pub put_drew : {A : Type 0} {E : Type 0} (v1 w : View Set) (d : Drawn Set) (place2 : Place) (queue2 : List (Entry Set)) (x : Result A E) → IsNextCut v.system (known_of back) place.cost place.after (Some d.cut) → Opened v v1 front back place.cost d.cut d.entry → OnOk x (PutsOne v1 w place place2 queue2 d) → OnErr x (LeavesAll v1 w place place2 queue queue2 d) → Drew v w Uses front back place place2 queue queue2
+  put_drew v1 w d place2 queue2 (Ok a) next o ok err =
+      let cut = d.cut in
+      let e = d.entry in
+      let here = drew_one v Uses front back place.cost place.after r valid l2 v1 cut e next o in
+      let is : place2 ≡ record { cost = place.cost; after = Some cut; left = true } = ok.1 ∙ ap (λ (b : Bool). record { cost = place.cost; after = Some cut; left = b }) left in
+      let h1 = subst (λ (z : View Set). Drew v z Uses front back at (record { cost = place.cost; after = Some cut; left = true }) [] (e ∷ [])) (sym ok.0) here in
+      let h2 = subst (λ (q : Place). Drew v w Uses front back at q [] (e ∷ [])) (sym is) h1 in
+      back_to w place2 queue2 (subst (λ (q : List (Entry Set)). Drew v w Uses front back at place2 [] q) (sym ok.2) h2)
+  put_drew v1 w d place2 queue2 (Err b) next o ok err =
+      let s : Stays v w = new_back v v1 w (set_in d.entry) o.kept o.new err.0 in
+      subst (λ (q : Place). Drew v w Uses front back place q queue queue2) (sym err.1) (subst (λ (q : List (Entry Set)). Drew v w Uses front back place place queue q) (sym err.2) (stays_drew w s))
+
+pub drawable_on : {Set : Type 0} (v w : View Set) (front back : Layers Set) (cut : Cut) → Kept v w → IsDrawable v front back cut → IsDrawable w front back cut
+drawable_on v w front back Whole k d = tt
+drawable_on v w front back (Cross x op y) k d = (subst (λ (z : System). op < z.operators) (sym k.system) d.0, d.1, d.2)
+
+-- a cut that is opened in a later view in which the same sets are valid
+pub opened_from : {Set : Type 0} (v v1 w : View Set) (front back : Layers Set) (cost : ℕ) (cut : Cut) (e : Entry Set) → Stays v v1 → Held v front → Held v back → Opened v1 w front back cost cut e → Opened v w front back cost cut e
+opened_from v v1 w front back cost cut e s hf hb o = record {
+  kept = kept_trans s.kept o.kept;
+  new = record {
+    fresh = not_valid (v.valid (set_in e)) (λ h. clash (v1.valid (set_in e)) (s.kept.valid (set_in e) h) o.new.fresh);
+    valid = o.new.valid;
+    only = λ a h. elim (o.new.only a h) [ inl k ↦ inl (s.only a k) | inr q ↦ inr q ];
+  };
+  fine = o.fine;
+  stands = λ f b sides lt c.
+      subst (λ (y : System). Stands y f b cost (plain w e)) s.kept.system
+      (o.stands f b (subst (λ (y : System). RightSides y v1 front back f b) (sym s.kept.system) (sides_kept v v1 s.kept v.system front back f b hf hb sides)) lt (subst (λ (y : System). IsCutAt y b cost cut) (sym s.kept.system) c));
+  hits = λ f b sides lt c.
+      subst (λ (y : System). (p : List ℕ) → IsPlan y p → cost_of y p ≡ cost → entry_hits y (plain w e) p ≡ ind (same_cut (cut_of y b p) cut)) s.kept.system
+      (o.hits f b (subst (λ (y : System). RightSides y v1 front back f b) (sym s.kept.system) (sides_kept v v1 s.kept v.system front back f b hf hb sides)) lt (subst (λ (y : System). IsCutAt y b cost cut) (sym s.kept.system) c));
+}
+
+-- the search stands on
+pub drew_draws : {Set P : Type 0} (v w : View Set) (both : Both Set P) (place place2 : Place) (queue queue2 : List (Entry Set)) → IsBoth v both → Drew v w (IsBeneath both) (front_layers both) (back_layers both) place place2 queue queue2 → Draws v w both place place2 queue queue2
+drew_draws v w both place place2 queue queue2 z d = (stays_ends v w both d.kept z, d)

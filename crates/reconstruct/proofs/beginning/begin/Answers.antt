@@ -1,0 +1,20 @@
+use Rattle.std.proofs.Common.{refl}
+use Rattle.bidirectional.specs.Both.{back_layers}
+use Rattle.reconstruct.proofs.Asks.{engine_begins}
+use Rattle.reconstruct.proofs.Pends.{pends_all}
+use Rattle.reconstruct.proofs.beginning.begin.Goals as goal
+
+pub returns : goal.returns
+returns g c =
+    let view = g.S.Space.view in
+    let u = view c.args.space in
+    let v = view c.both_of.new.space in
+    let both = c.in_ok-both.both in
+    let t = c.in_ok-both.ensures.trades in
+    record {
+      lawful = engine_begins c.in_ok-order.order.items c.args.most c.args.within u v both c.new.result.items c.requires.ready t c.in_ok-both.ensures.both c.in_ok-order.ensures.each c.new.ensures.items;
+      system = t.system;
+      most_is = refl;
+      all = pends_all u v (back_layers both) c.new.result.items t.system;
+      goes_on = refl;
+    }

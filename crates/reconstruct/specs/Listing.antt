@@ -1,0 +1,59 @@
+-- A cost that is being listed, and the drawing of its cuts.
+use Rattle.std.specs.Prelude.{◌≡◌, ℕ, ◌+◌, ◌<◌, ◌↔◌, List, [], ◌∷◌, Option, Some, None}
+use Rattle.space_api.specs.View.{View}
+use Rattle.space_api.specs.Frames.{Kept, Stays, Forgot}
+use Rattle.space_api.specs.Owned.{Trades}
+use Rattle.cost_layers.specs.Layers.{known_of}
+use Rattle.cost_layers.specs.declared.layers.Layers.{Layers}
+use Rattle.plan_cuts.specs.Cuts.{IsNextCut}
+use Rattle.plan_cuts.specs.declared.Cut.{Cut}
+use Rattle.entry_laws.specs.Drawing.{undrawn}
+use Rattle.entry_turns.specs.Entries.{set_in, SetIn}
+use Rattle.entry_turns.specs.Turned.{IsQueue}
+use Rattle.entry_turns.specs.declared.entries.Entry.{Entry}
+use Rattle.entry_turns.specs.Walked.{IsLawful, IsOwed}
+use Rattle.entry_turns.specs.Opened.{Opened}
+use Rattle.bidirectional.specs.Both.{IsBeneath, IsBoth, front_layers, back_layers}
+use Rattle.bidirectional.specs.declared.search.Both.{Both}
+use Rattle.reconstruct.specs.declared.drawing.Place.{Place}
+use Rattle.reconstruct.specs.declared.drawing.Drawn.{Drawn}
+
+-- the queue and the cuts that are left are lawful, and the queue's sets are its own
+pub record IsListing {Set : Type 0} (v : View Set) (Uses : Set → Type 0) (front back : Layers Set) (place : Place) (queue : List (Entry Set)) : Type 0 where
+  pub queue_is : IsQueue v queue
+  pub apart : (a : Set) → SetIn queue a → ¬ Uses a
+  pub settled : place.cost < known_of front + known_of back
+  pub lawful : IsLawful v front back place.cost queue (undrawn place.left place.after)
+
+-- the same, by the search from both ends
+abbrev pub Lists : {Set P : Type 0} → View Set → Both Set P → Place → List (Entry Set) → Type 0
+Lists v both place queue = IsListing v (IsBeneath both) (front_layers both) (back_layers both) place queue
+
+-- what is owed of this cost and of dearer ones
+abbrev pub OwedAt : {Set : Type 0} → View Set → Layers Set → Place → List (Entry Set) → List ℕ → Type 0
+OwedAt v back place queue p = IsOwed v back place.cost queue (undrawn place.left place.after) p
+
+-- the cut is the next one, and the entry its first; or no cut follows
+abbrev pub DrawsNext : {Set : Type 0} → View Set → View Set → Layers Set → Layers Set → ℕ → Option Cut → Option (Drawn Set) → Type 0
+DrawsNext v w front back cost after None = Stays v w × IsNextCut v.system (known_of back) cost after None
+DrawsNext v w front back cost after (Some d) = IsNextCut v.system (known_of back) cost after (Some d.cut) × Opened v w front back cost d.cut d.entry
+
+-- the entry is the queue, and the cut the last one that was drawn
+abbrev pub PutsOne : {Set : Type 0} → View Set → View Set → Place → Place → List (Entry Set) → Drawn Set → Type 0
+PutsOne v w place place2 queue2 d = (w ≡ v) × (place2 ≡ record { cost = place.cost; after = Some d.cut; left = place.left }) × (queue2 ≡ d.entry ∷ [])
+
+-- the entry's set is given back, and all else stays
+abbrev pub LeavesAll : {Set : Type 0} → View Set → View Set → Place → Place → List (Entry Set) → List (Entry Set) → Drawn Set → Type 0
+LeavesAll v w place place2 queue queue2 d = Forgot v w (set_in d.entry) × (place2 ≡ place) × (queue2 ≡ queue)
+
+-- all that drawing a cut does: the same cost is listed, it owes what it owed, and no set is lost
+pub record Drew {Set : Type 0} (v w : View Set) (Uses : Set → Type 0) (front back : Layers Set) (place place2 : Place) (queue queue2 : List (Entry Set)) : Type 0 where
+  pub kept : Kept v w
+  pub listing : IsListing w Uses front back place2 queue2
+  pub cost : place2.cost ≡ place.cost
+  pub trades : Trades v w (SetIn queue) (SetIn queue2)
+  pub owes : (p : List ℕ) → OwedAt w back place2 queue2 p ↔ OwedAt v back place queue p
+
+-- the same, by the search from both ends, which stands on
+abbrev pub Draws : {Set P : Type 0} → View Set → View Set → Both Set P → Place → Place → List (Entry Set) → List (Entry Set) → Type 0
+Draws v w both place place2 queue queue2 = IsBoth w both × Drew v w (IsBeneath both) (front_layers both) (back_layers both) place place2 queue queue2

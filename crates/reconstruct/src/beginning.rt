@@ -1,0 +1,115 @@
+//! Engines over a space, before the first call.
+
+ghost use Rattle.std.specs.Prelude.{None, Some, IfOk};
+ghost use Rattle.space_api.specs.View.{View};
+ghost use Rattle.space_api.specs.Owned.{Trades};
+ghost use Rattle.bidirectional.specs.Both.{IsBoth, IsOwnOf};
+ghost use Rattle.reconstruct.specs.Engine.{ListsUseful, IsReadyFor, IsNew};
+
+use crate::engine::TopPlans;
+use crate::pricing::by_cost;
+use bidirectional::{Both, Choose};
+use space_api::Space;
+use std::alloc::Global;
+use symk_task::Memory;
+
+/// The search from both ends, the backward side kept to the set that is handed over, if one is.
+fn both_of<S: Space, P: Choose + Drop>(
+    alloc: Global,
+    space: &mut S,
+    choose: P,
+    within: Option<S::Set>,
+) -> Result<Both<S::Set, P>, Memory>
+    requires ready { IsReadyFor (S.view space.old) within }
+    requires states { ListsUseful (S.view space.old) }
+    ensures both { IfOk result (IsBoth (S.view space.new)) }
+    ensures trades { IfOk result (λ h. Trades (S.view space.old) (S.view space.new) (λ a. ⊥) (IsOwnOf h)) }
+{
+    match within {
+        None => Both::new(alloc, space, choose),
+        Some(set) => Both::new_within(alloc, space, choose, set),
+    }
+}
+
+/// An engine of which nothing was asked yet.
+fn begin<S: Space + Drop, P: Choose + Drop>(
+    alloc: Global,
+    space: S,
+    choose: P,
+    most: Option<u64>,
+    within: Option<S::Set>,
+) -> Result<TopPlans<S, P>, Memory>
+    requires ready { IsReadyFor (S.view space) within }
+    requires states { ListsUseful (S.view space) }
+    ensures { IfOk result (IsNew S.view (S.view space) most) }
+{
+    let mut space = space;
+    let both = both_of(alloc, &mut space, choose, within)?;
+    let order = by_cost(alloc, &space)?;
+    Ok(TopPlans {
+        space,
+        both,
+        order,
+        most,
+        within,
+        listed: None,
+        queue: Vec::new(alloc),
+        held: None,
+        ended: None,
+    })
+}
+
+impl<S: Space + Drop, P: Choose + Drop> TopPlans<S, P> {
+    /// All plans of the space's system. No plan is taken yet: each one pends.
+    ///
+    /// The caller knows that no set of the space is valid, and that the system lists each useful state.
+    pub fn new(alloc: Global, space: S, choose: P) -> Result<TopPlans<S, P>, Memory>
+        requires none { IsReadyFor (S.view space) None }
+        requires states { ListsUseful (S.view space) }
+        ensures { IfOk result (IsNew S.view (S.view space) None) }
+    {
+        begin(alloc, space, choose, None, None)
+    }
+
+    /// The same, where no plan that costs more than `most` is wanted. Such plans pend for ever, and it ends without them.
+    pub fn within(alloc: Global, space: S, choose: P, most: u64) -> Result<TopPlans<S, P>, Memory>
+        requires none { IsReadyFor (S.view space) None }
+        requires states { ListsUseful (S.view space) }
+        ensures { IfOk result (IsNew S.view (S.view space) (Some most)) }
+    {
+        begin(alloc, space, choose, Some(most), None)
+    }
+
+    /// As `new`, with a set that has every useful state, to which the backward side is kept.
+    ///
+    /// The caller knows that no other set of the space is valid. It is the engine's from then on.
+    pub fn new_within(
+        alloc: Global,
+        space: S,
+        choose: P,
+        within: S::Set,
+    ) -> Result<TopPlans<S, P>, Memory>
+        requires alone { IsReadyFor (S.view space) (Some within) }
+        requires states { ListsUseful (S.view space) }
+        ensures { IfOk result (IsNew S.view (S.view space) None) }
+    {
+        begin(alloc, space, choose, None, Some(within))
+    }
+
+    /// As `within`, with a set that has every useful state, to which the backward side is kept.
+    ///
+    /// The caller knows that no other set of the space is valid. It is the engine's from then on.
+    pub fn within_most(
+        alloc: Global,
+        space: S,
+        choose: P,
+        most: u64,
+        within: S::Set,
+    ) -> Result<TopPlans<S, P>, Memory>
+        requires alone { IsReadyFor (S.view space) (Some within) }
+        requires states { ListsUseful (S.view space) }
+        ensures { IfOk result (IsNew S.view (S.view space) (Some most)) }
+    {
+        begin(alloc, space, choose, Some(most), Some(within))
+    }
+}

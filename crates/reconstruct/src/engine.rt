@@ -1,0 +1,129 @@
+//! The engine: all plans of a task, the cheapest first.
+
+use crate::drawing::Place;
+use bidirectional::{Both, Choose};
+use entry_turns::Entry;
+use lazy_plans::Stop;
+use space_api::Space;
+use std::alloc::Global;
+use symk_task::Plan;
+
+/// All plans of a task, the cheapest first, by a search from both ends. It owns its space.
+#[derive(Drop)]
+pub struct TopPlans<S: Space, P: Choose> {
+    pub(crate) space: S,
+    pub(crate) both: Both<S::Set, P>,
+    /// Each operator, by rising cost.
+    pub(crate) order: Vec<u32>,
+    /// The greatest cost that is wanted.
+    pub(crate) most: Option<u64>,
+    /// The set to which the backward side was kept at first, where one was handed over.
+    pub(crate) within: Option<S::Set>,
+    pub(crate) listed: Option<Place>,
+    pub(crate) queue: Vec<Entry<S::Set>>,
+    /// A plan that was found when the space could not be tidied.
+    pub(crate) held: Option<Plan>,
+    /// The answer that ended it: no plan is left, or why it stopped.
+    pub(crate) ended: Option<Option<Stop>>,
+}
+
+ghost use Rattle.std.specs.Prelude.{◌≡◌, ◌≢◌, None, IfOk};
+ghost use Rattle.space_api.specs.View.{View};
+ghost use Rattle.symk_task.specs.declared.parts.Mode.TheVariants.{TopK};
+ghost use Rattle.lazy_plans.specs.Law.{Turned, last_of};
+ghost use Rattle.reconstruct.specs.Working.{FewTurns};
+ghost use Rattle.reconstruct.specs.Engine.{system_of, most_of, Pends, tells, IsEngine, KeepsAll, HasRoom, Answers};
+ghost use Rattle.reconstruct.specs.Laws.{pending_fair, pending_told};
+ghost use Rattle.bidirectional.specs.Both.{back_layers};
+
+use crate::giving::give;
+use lazy_plans::{LazyPlans, Steps};
+use std::sync::ledger::Ledger;
+
+impl<S: Space, P: Choose> TopPlans<S, P> {
+    /// Asks for the next plan, and tidies the space before it is handed out. Where that is refused the plan is held, and the
+    /// engine stops.
+    fn ask<L: Ledger>(&mut self, alloc: Global, steps: &mut Steps<L>) -> Result<Option<Plan>, Stop>
+        requires engine { IsEngine S.view self.old }
+        requires goes_on { self.old.ended ≡ None }
+        ensures answers { Answers S.view self.old self.new result }
+        ensures most { self.new.most ≡ self.old.most }
+        ensures steps { FewTurns steps.old steps.new result }
+    {
+        match give(
+            alloc,
+            &mut self.space,
+            &mut self.both,
+            &self.order,
+            self.most,
+            &mut self.listed,
+            &mut self.queue,
+            steps,
+        ) {
+            Err(stop) => {
+                self.ended = Some(Some(stop));
+                Err(stop)
+            }
+            Ok(found) => match self.space.tidy() {
+                Err(_) => {
+                    self.held = found;
+                    self.ended = Some(Some(Stop::Memory));
+                    Err(Stop::Memory)
+                }
+                Ok(()) => match found {
+                    None => {
+                        self.ended = Some(None);
+                        Ok(None)
+                    }
+                    Some(plan) => Ok(Some(plan)),
+                },
+            },
+        }
+    }
+}
+
+impl<S: Space, P: Choose> LazyPlans for TopPlans<S, P> {
+    ghost system = { λ x. system_of S.view x };
+
+    ghost mode = { λ x. TopK };
+
+    ghost most = { λ x. most_of x };
+
+    ghost pends = { λ x. Pends S.view x };
+
+    ghost tells = { λ x. tells S.view x };
+
+    ghost lawful = { λ x. IsEngine S.view x };
+
+    ghost last = { λ x. x.ended };
+
+    /// The next plan. One turn is one step: a plan takes at most as many turns as it has operators, and two; None takes none.
+    /// After each call every valid set is one that the engine keeps, and after a plan or None the space is tidy.
+    fn next_plan<L: Ledger>(
+        &mut self,
+        alloc: Global,
+        steps: &mut Steps<L>,
+    ) -> Result<Option<Plan>, Stop>
+        requires { IsEngine S.view self.old }
+        ensures lawful { IsEngine S.view self.new }
+        ensures system { system_of S.view self.new ≡ system_of S.view self.old }
+        ensures mode { TopK ≡ TopK }
+        ensures most { most_of self.new ≡ most_of self.old }
+        ensures law { Turned (system_of S.view self.old) TopK (most_of self.old) (Pends S.view self.old) (Pends S.view self.new) result }
+        ensures last { self.new.ended ≡ last_of result }
+        ensures again { self.old.ended ≢ None → self.new.ended ≡ self.old.ended }
+        ensures steps { FewTurns steps.old steps.new result }
+        ensures keeps { KeepsAll S.view self.new }
+        ensures tidy { IfOk result (λ o. HasRoom S.view self.new) }
+    {
+        match self.ended {
+            None => self.ask(alloc, steps),
+            Some(None) => Ok(None),
+            Some(Some(stop)) => Err(stop),
+        }
+    }
+
+    ghost fair = { λ x l. pending_fair x.most (S.view x.space) (back_layers x.both) x.listed x.queue.items x.held x.ended l.ready.range l.holds };
+
+    ghost told = { λ x l p. pending_told (S.view x.space) (back_layers x.both) x.listed x.queue.items x.held p };
+}

@@ -1,0 +1,59 @@
+//! What a queue of prefixes does.
+
+ghost use Rattle.std.specs.Prelude.{◌≡◌, ◌<◌, ◌≤◌, ◌∷◌, ◌++◌, [], All, IfSome, IfNone, IfOk, OnOk, OnErr, IsPermutation, slice_index_or, length};
+ghost use Rattle.prefix_tree.specs.Entries.{entries_of};
+
+use crate::entry::Entry;
+use crate::queue::Queue;
+use std::alloc::{AllocError, Global};
+use std::collections::BinaryHeap;
+
+impl Queue {
+    /// No entry.
+    pub fn new(alloc: Global) -> Queue
+        ensures { entries_of result ≡ [] }
+    {
+        Queue {
+            heap: BinaryHeap::new(alloc),
+        }
+    }
+
+    /// Puts one entry more in.
+    pub fn push(&mut self, entry: Entry) -> Result<(), AllocError>
+        ensures ok { OnOk result (IsPermutation (entry ∷ entries_of self.old) (entries_of self.new)) }
+        ensures err { OnErr result (entries_of self.new ≡ entries_of self.old) }
+    {
+        self.heap.push(entry)?;
+        Ok(())
+    }
+
+    /// The first entry, one of the least bound. It stays.
+    pub fn first(&self) -> Option<Entry>
+        ensures none { IfNone result (entries_of self.now ≡ []) }
+        ensures some { IfSome result (λ e. 0 < length (entries_of self.now)) }
+        ensures at { IfSome result (λ e. e ≡ slice_index_or (entries_of self.now) 0 e) }
+        ensures least { IfSome result (λ e. All (λ x. e.bound.0 ≤ x.bound.0) (entries_of self.now)) }
+    {
+        match self.heap.peek() {
+            None => None,
+            Some(entry) => Some(*entry),
+        }
+    }
+
+    /// Takes the first entry out and puts the others in. Want of memory leaves the queue as it was.
+    pub fn replace(&mut self, others: Vec<Entry>) -> Result<(), AllocError>
+        requires { 0 < length (entries_of self.old) }
+        ensures ok { OnOk result ((e : Entry) → e ≡ slice_index_or (entries_of self.old) 0 e → IsPermutation (entries_of self.old ++ others.items) (e ∷ entries_of self.new)) }
+        ensures err { OnErr result (entries_of self.new ≡ entries_of self.old) }
+    {
+        let mut others = BinaryHeap::from(others);
+        self.heap.reserve(others.len())?;
+        match self.heap.pop() {
+            None => Ok(()),
+            Some(_) => {
+                self.heap.append(&mut others)?;
+                Ok(())
+            }
+        }
+    }
+}

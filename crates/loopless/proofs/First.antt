@@ -1,0 +1,155 @@
+-- An engine before its first call.
+use Rattle.std.proofs.Common.{◌≡◌, ℕ, inl, inr, Bool, true, false, IsTrue, IsFalse, List, [], ◌∷◌, slice_index_or, Option, Some, None, refl, sym, ◌∙◌, ap, subst, arith}
+use Rattle.std.specs.Bool.{Decides}
+use Rattle.std.specs.List.{AllByRecursion}
+use Rattle.std.specs.List.Sorted.{IsPermutation}
+use Rattle.std.proofs.lemmas.List.Sorted.{length_permutation, All-permutation}
+use Rattle.std.proofs.lemmas.List.Elements.{recursion_from_All, All-from_recursion}
+use Rattle.task_system.specs.System.{State, System, Listed, IsPlan, IsPlanOf, cost_of}
+use Rattle.symk_task.specs.declared.parts.Mode.TheVariants.{Loopless}
+use Rattle.space_api.specs.View.{View, Valid, Has, IsEmpty, HasMember}
+use Rattle.space_api.specs.Frames.{Kept, Gives, Stays}
+use Rattle.space_api.specs.Owned.{Trades}
+use Rattle.space_api.proofs.Trading.{valid_clash, kept_made}
+use Rattle.space_api.proofs.Keeping.{kept_trans}
+use Rattle.lazy_plans.specs.Law.{Last}
+use Rattle.run_graph.specs.Reached.{Useful}
+use Rattle.cost_search.specs.Search.{IsOwn, within_of}
+use Rattle.backward_search.specs.Backward.{IsBackward, search_of}
+use Rattle.backward_search.specs.declared.backward.Backward.{Backward}
+use Rattle.backward_search.proofs.Standing.{backward_kept}
+use Rattle.prefix_laws.specs.Queue.{Good, Right, Pending}
+use Rattle.prefix_laws.proofs.Traces.{good_first, plan_by}
+use Rattle.prefix_tree.specs.Tree.{One, IsTree, IsNode, path_at}
+use Rattle.prefix_tree.specs.declared.tree.Node.{Node}
+use Rattle.prefix_tree.specs.declared.entry.Entry.{Entry}
+use Rattle.loopless.specs.Children.{IsEntry, prefixes}
+use Rattle.loopless.specs.Standing.{Keeping}
+use Rattle.loopless.specs.Owing.{Owes, IsSound}
+use Rattle.loopless.proofs.Moving.{own_valid}
+use Rattle.prefix_laws.proofs.Turns.{first_right, first_pends}
+
+-- a permutation of one element is it
+only : (e : Entry) (es : List Entry) → IsPermutation (e ∷ []) es → es ≡ e ∷ []
+only e [] p = absurd (omega (arith, length_permutation (e ∷ []) [] p))
+only e (x ∷ []) p =
+    let one : AllByRecursion (λ (k : Entry). k ≡ e) (x ∷ []) = recursion_from_All (λ (k : Entry). k ≡ e) (x ∷ []) (All-permutation (λ (k : Entry). k ≡ e) (e ∷ []) (x ∷ []) p (All-from_recursion (λ (k : Entry). k ≡ e) (e ∷ []) (refl, tt))) in
+    ap (λ (k : Entry). k ∷ []) one.0
+only e (x ∷ y ∷ es) p = absurd (omega (arith, length_permutation (e ∷ []) (x ∷ y ∷ es) p))
+
+-- the set of the initial state has a state that the system lists
+pub initial_listed : {Set : Type 0} (u v w : View Set) (start : Set) (r : Bool) → Kept u v → Kept v w → Gives v w (λ s. s ≡ v.system.initial) start → (IsTrue r → IsEmpty w start) → (IsFalse r → HasMember w start) → Listed u.system.states u.system.initial
+initial_listed u v w start true k l init empty member = absurd (valid_clash ((init.means v.system.initial).1 refl) (empty refl v.system.initial))
+initial_listed u v w start false k l init empty member =
+    let m = member refl in
+    let is : m.0 ≡ v.system.initial = (init.means m.0).0 m.2 in
+    let there : Listed w.system.states v.system.initial = subst (Listed w.system.states) is m.1 in
+    subst (λ (y : System). Listed y.states y.initial) k.system (subst (λ (y : System). Listed y.states v.system.initial) l.system there)
+
+module _ {Set : Type 0} (u v w x : View Set) (b : Backward Set) (within start : Set) (n : Node Set) (e : Entry) (es : List Entry)
+    (alone : (a : Set) → Valid u a → a ≡ within) (wide : (s : State) → Useful u.system s → Has u within s) (valid : Valid u within) (listed : Listed u.system.states u.system.initial)
+    (back : IsBackward v b) (is : within_of (search_of b) ≡ within) (made : Trades u v (λ a. ⊥) (IsOwn (search_of b)))
+    (kept : Kept v w) (init : Gives v w (λ s. s ≡ v.system.initial) start) (stays : Stays w x)
+    (set : n.set ≡ start) (put : IsPermutation (e ∷ []) es) (bound : e.bound.0 ≡ 0) (cost : e.cost ≡ 0) (place : e.node ≡ 0)
+    (goal : Decides e.at_goal (IsTrue (w.system.goal v.system.initial))) where
+  k0 : Kept u v
+  k0 = kept_made made
+
+  k1 : Kept v x
+  k1 = kept_trans kept stays.kept
+
+  k : Kept u x
+  k = kept_trans k0 k1
+
+  back_x : IsBackward x b
+  back_x = backward_kept v x b k1 back
+
+  start_listed : Listed x.system.states x.system.initial
+  start_listed = subst (λ (y : System). Listed y.states y.initial) (sym k.system) listed
+
+  good : Good x.system []
+  good = good_first x.system start_listed
+
+  one_start : One x n.set x.system.initial
+  one_start = subst (λ (a : Set). One x a x.system.initial) (sym set) (record {
+    valid = stays.kept.valid start init.valid;
+    means = λ t. (
+      (λ h. (init.means t).0 (sym (stays.kept.same start init.valid t) ∙ h) ∙ ap (λ (y : System). y.initial) (sym k1.system)),
+      (λ i. stays.kept.same start init.valid t ∙ (init.means t).1 (i ∙ ap (λ (y : System). y.initial) k1.system)),
+    );
+  })
+
+  end : x.system.initial ≡ good.end
+  end = good.runs
+
+  node : IsNode x 0 [] n.set
+  node = record { good = good; one = subst (One x n.set) end one_start; deep = omega arith }
+
+  tree : IsTree x (n ∷ [])
+  tree = record {
+    some = omega arith;
+    linked = λ i d lt. inl (omega (arith, lt), refl_at i (omega (arith, lt)));
+    each = λ i d lt. at i d (omega (arith, lt));
+  }
+    where
+      refl_at : (i : ℕ) → i ≡ 0 → path_at (n ∷ []) i ≡ []
+      refl_at i z = ap (path_at (n ∷ [])) z
+
+      at : (i : ℕ) (d : Node Set) → i ≡ 0 → IsNode x i (path_at (n ∷ []) i) (slice_index_or (n ∷ []) i d).set
+      at i d z = subst (λ (j : ℕ). IsNode x j (path_at (n ∷ []) j) (slice_index_or (n ∷ []) j d).set) (sym z) node
+
+  path : path_at (n ∷ []) e.node ≡ []
+  path = ap (path_at (n ∷ [])) place
+
+  goal_x : Decides e.at_goal (IsTrue (x.system.goal good.end))
+  goal_x = subst (λ (s : State). Decides e.at_goal (IsTrue (x.system.goal s))) end (subst (λ (y : System). Decides e.at_goal (IsTrue (y.goal x.system.initial))) (sym stays.kept.system) (subst (λ (y : System). Decides e.at_goal (IsTrue (w.system.goal y.initial))) (sym k1.system) goal))
+
+  entry : IsEntry x.system (n ∷ []) e
+  entry = record {
+    inside = omega (arith, place);
+    cost = subst (λ (p : List ℕ). e.cost ≡ cost_of x.system p) (sym path) cost;
+    roomy = omega (arith, cost);
+    least = omega (arith, cost);
+    span = omega (arith, bound);
+    bounds = λ p plan on. omega (arith, bound);
+    plan = subst (λ (p : List ℕ). Decides e.at_goal (IsPlan x.system p)) (sym path) (plan_by x.system [] good e.at_goal goal_x);
+  }
+
+  single : es ≡ e ∷ []
+  single = only e es put
+
+  fresh : IsFalse (v.valid n.set)
+  fresh = subst (λ (a : Set). IsFalse (v.valid a)) (sym set) init.fresh
+
+  kept_by : (a : Set) → Valid x a → Keeping b (n ∷ []) a
+  kept_by a h = elim (init.only a (stays.only a h)) [
+    | inl old ↦ elim (made.only a old) [ inl own ↦ inl (inl own) | inr first ↦ inl (inr (alone a first ∙ sym is)) ]
+    | inr new ↦ inr (inl (new ∙ sym set))
+  ]
+
+  pub begun : (most : Option ℕ) → IsSound x b (n ∷ []) most es None None
+  begun most = subst (λ (l : List Entry). IsSound x b (n ∷ []) most l None None) (sym single) (record {
+    ready = record {
+      backward = back_x;
+      wide = λ s useful. subst (λ (a : Set). Has x a s) (sym is) (k.same within valid s ∙ wide s (subst (λ (y : System). Useful y s) k.system useful));
+      tree = tree;
+      each = (entry, tt);
+      apart = λ a h own. elim h [ inl same ↦ valid_clash (own_valid v b back a own) (subst (λ (c : Set). IsFalse (v.valid c)) (sym same) fresh) | inr gone ↦ gone ];
+      keeps = kept_by;
+    };
+    right = subst (λ (p : List ℕ). Right x.system most (p ∷ [])) (sym path) (first_right x.system most);
+    holds = tt;
+    said = tt;
+    room = λ e. absurd (none_some e);
+  })
+    where
+      none_some : ◌≡◌ {A = Last} None (Some None) → ⊥
+      none_some e = cc
+
+  begun_pends : (p : List ℕ) → IsPlanOf u.system Loopless p → Pending x.system (prefixes (n ∷ []) es) p
+  begun_pends p i =
+      let now : IsPlanOf x.system Loopless p = subst (λ (y : System). IsPlanOf y Loopless p) (sym k.system) i in
+      subst (λ (l : List Entry). Pending x.system (prefixes (n ∷ []) l) p) (sym single) (subst (λ (q : List ℕ). Pending x.system (q ∷ []) p) (sym path) (first_pends x.system p now))
+
+  pub begun_all : (p : List ℕ) → IsPlanOf u.system Loopless p → Owes x.system (prefixes (n ∷ []) es) None p
+  begun_all p i = inl (begun_pends p i)

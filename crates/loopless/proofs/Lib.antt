@@ -1,0 +1,10 @@
+pub mod Layers
+pub mod Reaching
+pub mod Growing
+pub mod Moving
+pub mod Turning
+pub mod Readying
+pub mod Opening
+pub mod Walking
+pub mod Asks
+pub mod First

@@ -1,0 +1,128 @@
+-- The tree and what is known of it while the search back goes on.
+use Rattle.std.proofs.Common.{◌≡◌, ℕ, zero, suc, ◌+◌, ◌<◌, ◌≤◌, ◌^◌, ◌⊎◌, inl, inr, Bool, true, false, List, [], ◌∷◌, length, slice_index_or, Option, Some, None, refl, sym, ◌∙◌, ap, subst, arith}
+use Rattle.std.specs.Bool.{Decides}
+use Rattle.std.specs.List.{AllByRecursion}
+use Rattle.symk_task.specs.Plans.{AllDifferent}
+use Rattle.task_system.specs.System.{State, System, Listed, Runs, IsPlan, trace, cost_of}
+use Rattle.space_api.specs.View.{View, Valid, Has}
+use Rattle.space_api.specs.Frames.{Stays}
+use Rattle.space_api.specs.Owned.{Trades}
+use Rattle.space_api.proofs.Trading.{trades_stays, trades_trans}
+use Rattle.run_graph.specs.Reached.{Useful}
+use Rattle.cost_search.specs.Search.{IsOwn, within_of, GoesOn}
+use Rattle.cost_search.proofs.Standing.{uses_valid, own_used}
+use Rattle.backward_search.specs.Backward.{IsBackward, search_of}
+use Rattle.backward_search.specs.declared.backward.Backward.{Backward}
+use Rattle.prefix_laws.specs.Queue.{Good, Bounds, Hopeless}
+use Rattle.prefix_laws.proofs.Traces.{bounds_by, stuck}
+use Rattle.prefix_tree.specs.Tree.{One, IsTree, IsNode, InTree, path_at}
+use Rattle.prefix_tree.specs.declared.tree.Node.{Node}
+use Rattle.prefix_tree.specs.declared.entry.Entry.{Entry}
+use Rattle.prefix_tree.proofs.Paths.{in_valid}
+use Rattle.loopless.specs.Left.{IsWide, IsReached, IsLeft}
+use Rattle.loopless.specs.Children.{IsEntry}
+use Rattle.loopless.specs.Standing.{Moved, AreApart, Keeping}
+use Rattle.loopless.specs.declared.left.Left.{Left}
+
+pub own_valid : {Set : Type 0} (v : View Set) (b : Backward Set) → IsBackward v b → (a : Set) → IsOwn (search_of b) a → Valid v a
+own_valid v b z a o = uses_valid v (search_of b) z.search a (own_used (search_of b) a o)
+
+-- nothing happened
+pub moved_stays : {Set : Type 0} (v w : View Set) (b : Backward Set) → IsBackward v b → Stays v w → Moved v w b b
+moved_stays v w b z s = record { trades = trades_stays v w (IsOwn (search_of b)) s (own_valid v b z); within = refl; states = s.kept.same (within_of (search_of b)) z.search.within }
+
+pub moved_on : {Set : Type 0} (v w : View Set) (b h : Backward Set) → Trades v w (IsOwn (search_of b)) (IsOwn (search_of h)) → GoesOn v w (search_of b) (search_of h) → Moved v w b h
+moved_on v w b h t g = record { trades = t; within = g.within; states = g.states }
+
+pub moved_then : {Set : Type 0} (u v w : View Set) (b h : Backward Set) → IsBackward v h → Moved u v b h → Stays v w → Moved u w b h
+moved_then {Set} u v w b h z m s = record {
+  trades = trades_trans m.trades (trades_stays v w (IsOwn (search_of h)) s (own_valid v h z));
+  within = m.within;
+  states = λ x. subst (λ (a : Set). w.has a x ≡ v.has a x) m.within (s.kept.same (within_of (search_of h)) z.search.within x) ∙ m.states x;
+}
+
+pub wide_moved : {Set : Type 0} (v w : View Set) (b h : Backward Set) → Moved v w b h → IsWide v b → IsWide w h
+wide_moved {Set} v w b h m wide s u = subst (λ (a : Set). Has w a s) (sym m.within) (m.states s ∙ wide s (subst (λ (y : System). Useful y s) m.trades.system u))
+
+in_at : {T : Type 0} (nodes : List (Node T)) (i : ℕ) (d : Node T) → i < length nodes → InTree nodes (slice_index_or nodes i d).set
+in_at [] i d lt = absurd (omega arith)
+in_at (n ∷ nodes) zero d lt = inl refl
+in_at (n ∷ nodes) (suc i) d lt = inr (in_at nodes i d (omega arith))
+
+one_moved : {Set : Type 0} (v w : View Set) (a : Set) (s : State) → Valid w a → ((t : State) → w.has a t ≡ v.has a t) → One v a s → One w a s
+one_moved v w a s valid same one = record { valid = valid; means = λ t. ((λ h. (one.means t).0 (sym (same t) ∙ h)), (λ e. same t ∙ (one.means t).1 e)) }
+
+-- the tree stands while the sets of others are traded
+module _ {Set : Type 0} (v w : View Set) (b h : Backward Set) (nodes : List (Node Set)) (m : Moved v w b h) (apart : AreApart b nodes) (z : IsTree v nodes) where
+  node_moved : (i : ℕ) (p : List ℕ) (a : Set) → InTree nodes a → IsNode v i p a → IsNode w i p a
+  node_moved i p a t n =
+      let sys = sym m.trades.system in
+      record {
+        good = record {
+          end = n.good.end;
+          runs = subst (λ (y : System). Runs y y.initial p n.good.end) sys n.good.runs;
+          different = subst (λ (y : System). AllDifferent (trace y y.initial p)) sys n.good.different;
+          listed = subst (λ (y : System). AllByRecursion (Listed y.states) (trace y y.initial p)) sys n.good.listed;
+        };
+        one = one_moved v w a n.good.end (m.trades.others a n.one.valid (apart a t)) (m.trades.same a n.one.valid (apart a t)) n.one;
+        deep = n.deep;
+      }
+
+  in_here : (i : ℕ) (n : Node Set) → i < length nodes → n ≡ slice_index_or nodes i n → InTree nodes n.set
+  in_here i n lt is = subst (λ (k : Node Set). InTree nodes k.set) (sym is) (in_at nodes i n lt)
+
+  pub valid_here : (i : ℕ) (n : Node Set) → i < length nodes → n ≡ slice_index_or nodes i n → Valid w n.set
+  valid_here i n lt is = m.trades.others n.set (in_valid v nodes n.set z (in_here i n lt is)) (apart n.set (in_here i n lt is))
+
+  pub one_here : (i : ℕ) (n : Node Set) (s : State) → i < length nodes → n ≡ slice_index_or nodes i n → One v n.set s → One w n.set s
+  one_here i n s lt is one = one_moved v w n.set s (valid_here i n lt is) (m.trades.same n.set one.valid (apart n.set (in_here i n lt is))) one
+
+  pub reached_here : (p : List ℕ) (good : Good v.system p) → IsReached w.system good.end
+  reached_here p good = subst (λ (y : System). IsReached y good.end) (sym m.trades.system) (p, good.runs)
+
+  pub left_here : (s : State) (o : Option Left) → IsLeft w.system s o → IsLeft v.system s o
+  left_here s o h = subst (λ (y : System). IsLeft y s o) m.trades.system h
+
+  pub tree_moved : IsTree w nodes
+  tree_moved = record { some = z.some; linked = z.linked; each = λ i d lt. node_moved i (path_at nodes i) (slice_index_or nodes i d).set (in_at nodes i d lt) (z.each i d lt) }
+
+  -- a new set of the search back is none of the tree
+  pub apart_moved : AreApart h nodes
+  apart_moved a t o = clash (v.valid a) (in_valid v nodes a z t) (m.trades.fresh a o (apart a t))
+    where
+      clash : (x : Bool) → x ≡ true → x ≡ false → ⊥
+      clash x e f = cc
+
+  pub keeps_moved : ((a : Set) → Valid v a → Keeping b nodes a) → (a : Set) → Valid w a → Keeping h nodes a
+  keeps_moved keeps a valid = elim (m.trades.only a valid) [
+    | inl o ↦ inl (inl o)
+    | inr old ↦ elim (keeps a old) [
+      | inl k ↦ elim k [ inl o ↦ inl (inl (m.trades.given a o valid)) | inr e ↦ inl (inr (e ∙ sym m.within)) ]
+      | inr t ↦ inr t
+    ]
+  ]
+
+-- a better bound for the entry
+module _ {T : Type 0} (y : System) (nodes : List (Node T)) (e k : Entry) (z : IsEntry y nodes e) (good : Good y (path_at nodes e.node)) where
+  pub better : (left : Left) → IsLeft y good.end (Some left) → k.node ≡ e.node → k.cost ≡ e.cost → k.at_goal ≡ e.at_goal → (k.bound.0 ≡ e.cost + left.cost) ⊎ (k.bound.0 ≡ e.bound.0) → IsEntry y nodes k
+  better left is node cost goal bound =
+      let path : path_at nodes e.node ≡ path_at nodes k.node = ap (path_at nodes) (sym node) in
+      let least : e.cost ≤ k.bound.0 = elim bound [ inl b ↦ omega (arith, b) | inr b ↦ omega (arith, b, z.least) ] in
+      let span : k.bound.0 ≤ e.cost + 2 ^ 64 = elim bound [ inl b ↦ omega (arith, b, is.1) | inr b ↦ omega (arith, b, z.span) ] in
+      let low = bounds_by y (path_at nodes e.node) good left.cost is.0 in
+      let now : Bounds y (path_at nodes e.node) k.bound.0 = elim bound [
+        | inl b ↦ (λ p plan front. omega (arith, b, z.cost, low p plan front))
+        | inr b ↦ (λ p plan front. omega (arith, b, z.bounds p plan front))
+      ] in
+      record {
+        inside = omega (arith, node, z.inside);
+        cost = cost ∙ (z.cost ∙ ap (λ (q : List ℕ). cost_of y q) path);
+        roomy = omega (arith, cost, node, z.roomy);
+        least = omega (arith, cost, least);
+        span = omega (arith, cost, span);
+        bounds = subst (λ (q : List ℕ). Bounds y q k.bound.0) path now;
+        plan = subst (λ (q : List ℕ). Decides k.at_goal (IsPlan y q)) path (subst (λ (x : Bool). Decides x (IsPlan y (path_at nodes e.node))) (sym goal) z.plan);
+      }
+
+  pub lost : IsLeft y good.end None → Hopeless y (path_at nodes e.node)
+  lost none = stuck y (path_at nodes e.node) good none

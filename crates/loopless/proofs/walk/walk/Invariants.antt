@@ -1,0 +1,21 @@
+use Rattle.std.proofs.Common.{◌≡◌}
+use Rattle.prefix_tree.specs.Entries.{entries_of}
+use Rattle.prefix_laws.specs.Queue.{Right, Pending}
+use Rattle.lazy_plans.specs.Law.{Stays}
+use Rattle.loopless.specs.Children.{prefixes}
+use Rattle.loopless.specs.Standing.{IsReady, work}
+use Rattle.loopless.proofs.walk.walk.Given as goal
+
+abbrev pub invariant-turns : goal.invariant-turns
+invariant-turns g l =
+    let view = g.S.Space.view in
+    let y = (view l.fn.space).system in
+    record {
+      system : (view l.space).system ≡ y;
+      ready : IsReady (view l.space) l.backward l.tree.items (entries_of l.queue);
+      right : Right y l.most (prefixes l.tree.items (entries_of l.queue));
+      stays : Stays (Pending y (prefixes l.fn.tree.items (entries_of l.fn.queue))) (Pending y (prefixes l.tree.items (entries_of l.queue)));
+    }
+
+abbrev pub decreases-turns : goal.decreases-turns
+decreases-turns g l = work (g.S.Space.view l.fn.space).system l.tree.items (entries_of l.queue)

@@ -1,0 +1,62 @@
+-- An engine as its callers see it.
+use Rattle.std.specs.Prelude.{◌≡◌, ℕ, Bool, IsFalse, List, Option, Result}
+use Rattle.task_system.specs.System.{State, System, IsPlanOf, Listed}
+use Rattle.symk_task.specs.declared.parts.Mode.TheVariants.{Loopless}
+use Rattle.run_graph.specs.Reached.{Useful}
+use Rattle.space_api.specs.View.{View, Valid, Has}
+use Rattle.lazy_plans.specs.declared.stop.Stop.{Stop}
+use Rattle.prefix_tree.specs.Entries.{entries_of}
+use Rattle.loopless.specs.declared.engine.LooplessPlans.{LooplessPlans}
+use Rattle.loopless.specs.Children.{prefixes}
+use Rattle.loopless.specs.Standing.{Keeping}
+use Rattle.loopless.specs.Owing.{Owes, tells_owed, IsTidy, IsSound, Answered}
+
+abbrev pub system_of : {S Set : Type 0} → (S → View Set) → LooplessPlans S Set → System
+system_of view x = (view x.space).system
+
+-- the greatest cost that is wanted, or none
+abbrev pub most_of : {S Set : Type 0} → LooplessPlans S Set → Option ℕ
+most_of x = x.most
+
+-- what is still owed, and the same computed
+abbrev pub Pends : {S Set : Type 0} → (S → View Set) → LooplessPlans S Set → List ℕ → Type 0
+Pends view x p = Owes (view x.space).system (prefixes x.tree.items (entries_of x.queue)) x.held p
+
+abbrev pub tells : {S Set : Type 0} → (S → View Set) → LooplessPlans S Set → List ℕ → Bool
+tells view x p = tells_owed (view x.space).system (prefixes x.tree.items (entries_of x.queue)) x.held p
+
+-- what it meets between two calls
+abbrev pub IsEngine : {S Set : Type 0} → (S → View Set) → LooplessPlans S Set → Type 0
+IsEngine view x = IsSound (view x.space) x.backward x.tree.items x.most (entries_of x.queue) x.held x.ended
+
+-- every valid set is one of the search back, the one that it is kept to, or that of a prefix
+abbrev pub KeepsAll : {S Set : Type 0} → (S → View Set) → LooplessPlans S Set → Type 0
+KeepsAll {S} {Set} view x = (a : Set) → Valid (view x.space) a → Keeping x.backward x.tree.items a
+
+-- no more is held than twice what was needed last, and 1,000
+abbrev pub HasRoom : {S Set : Type 0} → (S → View Set) → LooplessPlans S Set → Type 0
+HasRoom view x = IsTidy (view x.space)
+
+-- one call of it
+abbrev pub Answers : {S Set : Type 0} → (S → View Set) → LooplessPlans S Set → LooplessPlans S Set → Result (Option (List ℕ)) Stop → Type 0
+Answers view x z result = Answered (view x.space) (view z.space) x.most (Pends view x) (Pends view z) (IsEngine view z) z.ended result
+
+-- no set is valid
+abbrev pub HasNone : {Set : Type 0} → View Set → Type 0
+HasNone {Set} v = (a : Set) → IsFalse (v.valid a)
+
+-- the set alone is valid
+abbrev pub HasAlone : {Set : Type 0} → View Set → Set → Type 0
+HasAlone {Set} v within = (a : Set) → Valid v a → a ≡ within
+
+-- the set has each useful state
+abbrev pub HasUseful : {Set : Type 0} → View Set → Set → Type 0
+HasUseful v within = (s : State) → Useful v.system s → Has v within s
+
+-- each useful state is one that the system lists
+abbrev pub ListsUseful : {Set : Type 0} → View Set → Type 0
+ListsUseful v = (s : State) → Useful v.system s → Listed v.system.states s
+
+-- each loopless plan of the system pends
+abbrev pub OwesAll : {S Set : Type 0} → (S → View Set) → System → LooplessPlans S Set → Type 0
+OwesAll view y x = (p : List ℕ) → IsPlanOf y Loopless p → Pends view x p

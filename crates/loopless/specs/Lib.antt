@@ -1,0 +1,8 @@
+pub mod Left
+pub mod Reach
+pub mod Children
+pub mod Standing
+pub mod Turned
+pub mod Owing
+pub mod Engine
+pub mod Laws

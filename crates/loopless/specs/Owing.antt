@@ -1,0 +1,52 @@
+-- What pends in an engine, and what every engine meets between two calls.
+use Rattle.std.specs.Prelude.{◌≡◌, ℕ, ◌+◌, ◌*◌, ◌≤◌, ◌⊎◌, Bool, false, ◌||◌, List, Option, Some, None, Result, IfOk}
+use Rattle.task_system.specs.System.{System, IsPlanOf, are_equal}
+use Rattle.symk_task.specs.declared.parts.Mode.TheVariants.{Loopless}
+use Rattle.space_api.specs.View.{View}
+use Rattle.lazy_plans.specs.Law.{Last, Ended, Turned, last_of}
+use Rattle.lazy_plans.specs.declared.stop.Stop.{Stop}
+use Rattle.lazy_plans.specs.declared.stop.Stop.TheVariants.{Memory}
+use Rattle.backward_search.specs.declared.backward.Backward.{Backward}
+use Rattle.prefix_laws.specs.Queue.{Right, Pending, pending}
+use Rattle.prefix_tree.specs.declared.tree.Node.{Node}
+use Rattle.prefix_tree.specs.declared.entry.Entry.{Entry}
+use Rattle.loopless.specs.Children.{prefixes}
+use Rattle.loopless.specs.Standing.{IsReady}
+
+-- what the queue owes, and the plan that is held
+abbrev pub Owes : System → List (List ℕ) → Option (List ℕ) → List ℕ → Type 0
+Owes y es held p = Pending y es p ⊎ (held ≡ Some p)
+
+abbrev pub tells_held : Option (List ℕ) → List ℕ → Bool
+tells_held None p = false
+tells_held (Some q) p = are_equal q p
+
+-- the same, computed
+abbrev pub tells_owed : System → List (List ℕ) → Option (List ℕ) → List ℕ → Bool
+tells_owed y es held p = pending y es p || tells_held held p
+
+-- no more is held than twice what was needed last, and 1,000
+abbrev pub IsTidy : {Set : Type 0} → View Set → Type 0
+IsTidy v = v.held ≤ 2 * v.last + 1000
+
+-- a plan is held only where want of memory ended it
+abbrev pub IsHeld : System → Option (List ℕ) → Last → Type 0
+IsHeld y None ended = Unit {0}
+IsHeld y (Some p) ended = IsPlanOf y Loopless p × (ended ≡ Some (Some Memory))
+
+-- what every engine meets between two calls: the queue stands, what was answered last still holds, and where no plan was left
+-- the space is tidy
+pub record IsSound {Set : Type 0} (v : View Set) (b : Backward Set) (nodes : List (Node Set)) (most : Option ℕ) (es : List Entry) (held : Option (List ℕ)) (ended : Last) : Type 0 where
+  pub ready : IsReady v b nodes es
+  pub right : Right v.system most (prefixes nodes es)
+  pub holds : IsHeld v.system held ended
+  pub said : Ended v.system most (Owes v.system (prefixes nodes es) held) ended
+  pub room : ended ≡ Some None → IsTidy v
+
+-- what one call gives: the law, and a tidy space after a plan or None
+pub record Answered {Set : Type 0} (v w : View Set) (most : Option ℕ) (before after : List ℕ → Type 0) (Engine : Type 0) (ended : Last) (result : Result (Option (List ℕ)) Stop) : Type 0 where
+  pub engine : Engine
+  pub system : w.system ≡ v.system
+  pub law : Turned v.system Loopless most before after result
+  pub last : ended ≡ last_of result
+  pub room : IfOk result (λ o. IsTidy w)

@@ -1,0 +1,79 @@
+-- What holds of a queue of prefixes between two turns, and what the search back may do meanwhile.
+use Rattle.std.specs.Prelude.{◌≡◌, ℕ, ◌+◌, ◌*◌, ◌-◌, ◌<◌, ◌≤◌, ◌^◌, ◌⊎◌, cond, IsTrue, IsFalse, List, [], ◌∷◌, Option, Some, None}
+use Rattle.std.specs.List.{AllByRecursion}
+use Rattle.task_system.specs.System.{State, System}
+use Rattle.space_api.specs.View.{View, Valid}
+use Rattle.space_api.specs.Owned.{Trades}
+use Rattle.cost_search.specs.Search.{IsOwn, within_of}
+use Rattle.backward_search.specs.Backward.{IsBackward, search_of}
+use Rattle.backward_search.specs.declared.backward.Backward.{Backward}
+use Rattle.symk_task.specs.declared.parts.Mode.TheVariants.{Loopless}
+use Rattle.lazy_plans.specs.Law.{Gave, Stays, top}
+use Rattle.prefix_laws.specs.Queue.{Hopeless, Right, Pending, weight}
+use Rattle.prefix_tree.specs.Tree.{IsTree, InTree, path_at}
+use Rattle.prefix_tree.specs.declared.tree.Node.{Node}
+use Rattle.prefix_tree.specs.declared.entry.Entry.{Entry}
+use Rattle.loopless.specs.Left.{IsWide}
+use Rattle.loopless.specs.Children.{IsEntry, prefixes}
+
+-- the search back went on: its sets alone were traded, and it is kept to the same set as before
+pub record Moved {Set : Type 0} (v w : View Set) (b h : Backward Set) : Type 0 where
+  pub trades : Trades v w (IsOwn (search_of b)) (IsOwn (search_of h))
+  pub within : within_of (search_of h) ≡ within_of (search_of b)
+  pub states : (s : State) → w.has (within_of (search_of b)) s ≡ v.has (within_of (search_of b)) s
+
+-- no set of the tree is one of the search back
+abbrev pub AreApart : {Set : Type 0} → Backward Set → List (Node Set) → Type 0
+AreApart {Set} b nodes = (a : Set) → InTree nodes a → ¬ IsOwn (search_of b) a
+
+-- the sets that are kept: those of the search back, what it is kept to, and those of the tree
+abbrev pub Keeping : {Set : Type 0} → Backward Set → List (Node Set) → Set → Type 0
+Keeping b nodes a = (IsOwn (search_of b) a ⊎ (a ≡ within_of (search_of b))) ⊎ InTree nodes a
+
+-- how much may still be learned of an entry's bound
+abbrev pub stale : Entry → ℕ
+stale e = cond e.settled 0 (2 ^ 64 + 1 + e.cost - e.bound.0)
+
+abbrev pub all_stale : List Entry → ℕ
+all_stale [] = 0
+all_stale (e ∷ es) = stale e + all_stale es
+
+-- no plan goes on from the prefix, or more is known of it
+abbrev pub IsBetter : {T : Type 0} → System → List (Node T) → Entry → Option Entry → Type 0
+IsBetter y nodes e None = Hopeless y (path_at nodes e.node)
+IsBetter y nodes e (Some k) = (k.node ≡ e.node) × IsEntry y nodes k × (stale k < stale e)
+
+-- what is left to do
+abbrev pub work : {T : Type 0} → System → List (Node T) → List Entry → ℕ
+work y nodes es = 2 ^ 65 * weight y (prefixes nodes es) + all_stale es
+
+-- The search back, the tree and the entries of the queue stand, and each valid set is kept.
+pub record IsReady {Set : Type 0} (v : View Set) (b : Backward Set) (nodes : List (Node Set)) (es : List Entry) : Type 0 where
+  pub backward : IsBackward v b
+  pub wide : IsWide v b
+  pub tree : IsTree v nodes
+  pub each : AllByRecursion (IsEntry v.system nodes) es
+  pub apart : AreApart b nodes
+  pub keeps : (a : Set) → Valid v a → Keeping b nodes a
+
+-- the entry alone, or none
+abbrev pub listed_of : Option Entry → List Entry
+listed_of None = []
+listed_of (Some e) = e ∷ []
+
+-- the queue goes on: what pends is the same, and there is less to do
+abbrev pub GoesOn : {T : Type 0} → System → List (Node T) → List (Node T) → List Entry → List Entry → Type 0
+GoesOn y a b old new = (most : Option ℕ) → Right y most (prefixes a old) → Right y most (prefixes b new) × Stays (Pending y (prefixes a old)) (Pending y (prefixes b new)) × (work y b new < work y a old)
+
+-- the plan of the first entry is given, if no other has a lesser bound and it is cheap enough
+abbrev pub GivesFirst : {T : Type 0} → System → List (Node T) → List (Node T) → Entry → List Entry → List Entry → List ℕ → Type 0
+GivesFirst y a b e old new p = (most : Option ℕ) → Right y most (prefixes a old) → AllByRecursion (λ (k : Entry). e.bound.0 ≤ k.bound.0) old → e.cost ≤ top most → Right y most (prefixes b new) × Gave y Loopless most (Pending y (prefixes a old)) (Pending y (prefixes b new)) p
+
+abbrev pub Opens : {T : Type 0} → System → List (Node T) → List (Node T) → Entry → List Entry → List Entry → Option (List ℕ) → Type 0
+Opens y a b e old new None = GoesOn y a b old new
+Opens y a b e old new (Some p) = IsTrue e.at_goal × GivesFirst y a b e old new p
+
+-- the plan that the entry is, if it is one
+abbrev pub IsPlanAt : {T : Type 0} → List (Node T) → Entry → Option (List ℕ) → Type 0
+IsPlanAt nodes e None = IsFalse e.at_goal
+IsPlanAt nodes e (Some p) = IsTrue e.at_goal × (p ≡ path_at nodes e.node)

@@ -1,0 +1,148 @@
+//! Engines at their first step.
+
+ghost use Rattle.std.specs.Prelude.{◌≡◌, IfOk, None, Some};
+ghost use Rattle.space_api.specs.View.{View, Valid};
+ghost use Rattle.loopless.specs.Engine.{system_of, most_of, IsEngine, HasNone, HasAlone, HasUseful, ListsUseful, OwesAll};
+
+use crate::engine::LooplessPlans;
+use crate::reach::is_goal;
+use backward_search::{Backward, Kind};
+use prefix_tree::{Entry, Node, Queue};
+use space_api::Space;
+use std::alloc::Global;
+use std::cmp::Reverse;
+use symk_task::Memory;
+
+impl<S: Space + Drop> LooplessPlans<S> {
+    /// All loopless plans of the space's system that cost at most `most`, where it is given. No plan is taken yet: each one
+    /// pends. The search back is kept to `within`.
+    ///
+    /// The caller knows that `within` has each useful state and alone is valid.
+    fn begin(
+        alloc: Global,
+        space: S,
+        most: Option<u64>,
+        within: S::Set,
+    ) -> Result<LooplessPlans<S>, Memory>
+        requires within { Valid (S.view space) within }
+        requires alone { HasAlone (S.view space) within }
+        requires wide { HasUseful (S.view space) within }
+        ensures lawful { IfOk result (λ x. IsEngine S.view x) }
+        ensures system { IfOk result (λ x. system_of S.view x ≡ (S.view space).system) }
+        ensures all { IfOk result (λ x. OwesAll S.view (S.view space).system x) }
+        ensures most { IfOk result (λ x. most_of x ≡ most) }
+        ensures last { IfOk result (λ x. x.ended ≡ None) }
+    {
+        let mut space = space;
+        let backward = Backward::new(alloc, &mut space, within, Kind::Least)?;
+        let start = space.init()?;
+        // The initial state is one of the space.
+        let _ = space.is_empty(start);
+        let at_goal = is_goal(&mut space, start)?;
+        let mut tree = Vec::new(alloc);
+        tree.push(Node {
+            parent: 0,
+            op: 0,
+            set: start,
+        })?;
+        let mut queue = Queue::new(alloc);
+        queue.push(Entry {
+            bound: Reverse(0),
+            cost: 0,
+            node: 0,
+            settled: false,
+            at_goal,
+        })?;
+        Ok(LooplessPlans {
+            space,
+            backward,
+            tree,
+            queue,
+            most,
+            held: None,
+            ended: None,
+        })
+    }
+
+    /// All loopless plans of the space's system. No plan is taken yet: each one pends.
+    ///
+    /// The search back is kept to `within`, which the caller knows to have each useful state and to be the one valid set.
+    pub fn new_within(alloc: Global, space: S, within: S::Set) -> Result<LooplessPlans<S>, Memory>
+        requires within { Valid (S.view space) within }
+        requires alone { HasAlone (S.view space) within }
+        requires wide { HasUseful (S.view space) within }
+        ensures lawful { IfOk result (λ x. IsEngine S.view x) }
+        ensures system { IfOk result (λ x. system_of S.view x ≡ (S.view space).system) }
+        ensures all { IfOk result (λ x. OwesAll S.view (S.view space).system x) }
+        ensures most { IfOk result (λ x. most_of x ≡ None) }
+        ensures last { IfOk result (λ x. x.ended ≡ None) }
+    {
+        LooplessPlans::begin(alloc, space, None, within)
+    }
+
+    /// The same, with the greatest cost that is wanted.
+    pub fn within_most(
+        alloc: Global,
+        space: S,
+        most: u64,
+        within: S::Set,
+    ) -> Result<LooplessPlans<S>, Memory>
+        requires within { Valid (S.view space) within }
+        requires alone { HasAlone (S.view space) within }
+        requires wide { HasUseful (S.view space) within }
+        ensures lawful { IfOk result (λ x. IsEngine S.view x) }
+        ensures system { IfOk result (λ x. system_of S.view x ≡ (S.view space).system) }
+        ensures all { IfOk result (λ x. OwesAll S.view (S.view space).system x) }
+        ensures most { IfOk result (λ x. most_of x ≡ Some most) }
+        ensures last { IfOk result (λ x. x.ended ≡ None) }
+    {
+        LooplessPlans::begin(alloc, space, Some(most), within)
+    }
+
+    /// The same inside all states, with the greatest cost that is wanted, if there is one.
+    fn begin_anywhere(
+        alloc: Global,
+        space: S,
+        most: Option<u64>,
+    ) -> Result<LooplessPlans<S>, Memory>
+        requires none { HasNone (S.view space) }
+        requires states { ListsUseful (S.view space) }
+        ensures lawful { IfOk result (λ x. IsEngine S.view x) }
+        ensures system { IfOk result (λ x. system_of S.view x ≡ (S.view space).system) }
+        ensures all { IfOk result (λ x. OwesAll S.view (S.view space).system x) }
+        ensures most { IfOk result (λ x. most_of x ≡ most) }
+        ensures last { IfOk result (λ x. x.ended ≡ None) }
+    {
+        let mut space = space;
+        let within = space.all()?;
+        LooplessPlans::begin(alloc, space, most, within)
+    }
+
+    /// All loopless plans of the space's system. No plan is taken yet: each one pends.
+    ///
+    /// The caller knows that no set of the space is valid yet, and that each useful state is listed.
+    pub fn new(alloc: Global, space: S) -> Result<LooplessPlans<S>, Memory>
+        requires none { HasNone (S.view space) }
+        requires states { ListsUseful (S.view space) }
+        ensures lawful { IfOk result (λ x. IsEngine S.view x) }
+        ensures system { IfOk result (λ x. system_of S.view x ≡ (S.view space).system) }
+        ensures all { IfOk result (λ x. OwesAll S.view (S.view space).system x) }
+        ensures most { IfOk result (λ x. most_of x ≡ None) }
+        ensures last { IfOk result (λ x. x.ended ≡ None) }
+    {
+        LooplessPlans::begin_anywhere(alloc, space, None)
+    }
+
+    /// The same, with the greatest cost that is wanted.
+    pub fn within(alloc: Global, space: S, most: u64) -> Result<LooplessPlans<S>, Memory>
+        requires none { HasNone (S.view space) }
+        requires states { ListsUseful (S.view space) }
+        ensures lawful { IfOk result (λ x. IsEngine S.view x) }
+        ensures system { IfOk result (λ x. system_of S.view x ≡ (S.view space).system) }
+        ensures all { IfOk result (λ x. OwesAll S.view (S.view space).system x) }
+        ensures most { IfOk result (λ x. most_of x ≡ Some most) }
+        ensures last { IfOk result (λ x. x.ended ≡ None) }
+    {
+        LooplessPlans::begin_anywhere(alloc, space, Some(most))
+    }
+}

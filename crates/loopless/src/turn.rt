@@ -1,0 +1,93 @@
+//! What is done with the first entry of the queue.
+
+ghost use Rattle.std.specs.Prelude.{◌≡◌, ◌<◌, IsFalse, IfOk, OnOk, OnErr, length, slice_index_or};
+ghost use Rattle.space_api.specs.View.{View};
+ghost use Rattle.prefix_tree.specs.Tree.{AreLinked, Grows};
+ghost use Rattle.prefix_tree.specs.Entries.{entries_of};
+ghost use Rattle.loopless.specs.Standing.{IsReady, GoesOn, Opens, IsPlanAt, listed_of};
+
+use crate::expand::expand;
+use crate::refresh::refresh;
+use backward_search::Backward;
+use prefix_tree::{Entry, Node, Queue, operators_to};
+use space_api::{Space, SpaceFault};
+use std::alloc::{AllocError, Global};
+use symk_task::Plan;
+
+/// The entry alone, or none.
+fn one_or_none(alloc: Global, entry: Option<Entry>) -> Result<Vec<Entry>, AllocError>
+    ensures { IfOk result (λ entries. entries.items ≡ listed_of entry) }
+{
+    let mut entries = Vec::new(alloc);
+    match entry {
+        None => Ok(entries),
+        Some(entry) => {
+            entries.push(entry)?;
+            Ok(entries)
+        }
+    }
+}
+
+/// Learns more of the first entry's bound, which puts it where it then belongs, or takes it out where no plan goes on from it.
+/// Want of memory leaves the entries.
+pub fn learn<S: Space>(
+    alloc: Global,
+    space: &mut S,
+    backward: &mut Backward<S::Set>,
+    tree: &[Node<S::Set>],
+    queue: &mut Queue,
+    entry: Entry,
+) -> Result<(), SpaceFault>
+    requires ready { IsReady (S.view space.old) backward.old tree.now (entries_of queue.old) }
+    requires some { 0 < length (entries_of queue.old) }
+    requires first { entry ≡ slice_index_or (entries_of queue.old) 0 entry }
+    requires open { IsFalse entry.settled }
+    ensures system { (S.view space.new).system ≡ (S.view space.old).system }
+    ensures ready { IsReady (S.view space.new) backward.new tree.now (entries_of queue.new) }
+    ensures ok { OnOk result (GoesOn (S.view space.old).system tree.now tree.now (entries_of queue.old) (entries_of queue.new)) }
+    ensures err { OnErr result (entries_of queue.new ≡ entries_of queue.old) }
+{
+    let better = refresh(alloc, space, backward, tree, entry)?;
+    let others = one_or_none(alloc, better)?;
+    queue.replace(others)
+}
+
+/// The plan that the entry is, if it is one.
+fn plan_of<T: Copy>(
+    alloc: Global,
+    tree: &[Node<T>],
+    entry: Entry,
+) -> Result<Option<Plan>, AllocError>
+    requires linked { AreLinked tree.now }
+    requires inside { entry.node < length tree.now }
+    ensures { IfOk result (λ plan. IsPlanAt tree.now entry plan) }
+{
+    if entry.at_goal {
+        return Ok(Some(Plan::of(operators_to(alloc, tree, entry.node)?)));
+    }
+    Ok(None)
+}
+
+/// Takes the first entry out and puts its children in, and gives the plan that it is, if it is one. Want of memory leaves the
+/// entries, but the tree may have prefixes more.
+pub fn open<S: Space>(
+    alloc: Global,
+    space: &mut S,
+    backward: &Backward<S::Set>,
+    tree: &mut Vec<Node<S::Set>>,
+    queue: &mut Queue,
+    entry: Entry,
+) -> Result<Option<Plan>, SpaceFault>
+    requires ready { IsReady (S.view space.old) backward.now tree.old.items (entries_of queue.old) }
+    requires some { 0 < length (entries_of queue.old) }
+    requires first { entry ≡ slice_index_or (entries_of queue.old) 0 entry }
+    ensures grows { Grows (S.view space.old) (S.view space.new) tree.old.items tree.new.items }
+    ensures ready { IsReady (S.view space.new) backward.now tree.new.items (entries_of queue.new) }
+    ensures ok { IfOk result (Opens (S.view space.old).system tree.old.items tree.new.items entry (entries_of queue.old) (entries_of queue.new)) }
+    ensures err { OnErr result (entries_of queue.new ≡ entries_of queue.old) }
+{
+    let children = expand(alloc, space, backward, tree, entry)?;
+    let plan = plan_of(alloc, tree, entry)?;
+    queue.replace(children)?;
+    Ok(plan)
+}

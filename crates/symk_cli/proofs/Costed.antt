@@ -1,14 +1,17 @@
 -- What plans cost, one plan after the other.
-use Rattle.std.proofs.Common.{◌≡◌, ◌∙◌, ap, sym, subst, inl, inr, ℕ, zero, suc, ◌+◌, ◌-◌, ◌*◌, ◌^◌, ◌<◌, ◌≤◌, ◌⊎◌, min, max, List, [], ◌∷◌, ◌++◌, length, map, sum, All, None, arith}
+use Rattle.std.proofs.Common.{◌≡◌, ◌∙◌, ap, sym, refl, subst, inl, inr, ℕ, zero, suc, ◌+◌, ◌-◌, ◌*◌, ◌^◌, ◌<◌, ◌≤◌, ◌⊎◌, min, max, List, [], ◌∷◌, ◌++◌, length, map, sum, All, None, arith}
 use Rattle.std.proofs.lemmas.List.{length_push, map-append}
 use Rattle.std.proofs.lemmas.List.Elements.{All-push, Contains-append_left, Contains-push}
 use Rattle.std.proofs.lemmas.List.Sums.{fold-append}
 use Rattle.symk_task.specs.declared.parts.Mode.TheVariants.{TopK}
 use Rattle.symk_task.specs.declared.parts.TaskParts.{TaskParts}
 use Rattle.symk_task.specs.Plans.{cost_of}
-use Rattle.symk_cli.specs.Listable.{IsListable}
-use Rattle.symk_cli.specs.Lists.{IsListOf}
-use Rattle.symk_cli.specs.Shown.{IsLeast, IsGreatest}
+use Rattle.symk_task.specs.Fits.{Fits}
+use Rattle.task_system.specs.Computed.{system_of}
+use Rattle.lazy_plans.specs.Law.{Gave, NoneLeft, Stops}
+use Rattle.lazy_plans.specs.declared.stop.Stop.TheVariants.{CostRange}
+use Rattle.symk_cli.proofs.Given.{IsGiven, gave_listable, given_more, list_exhausted, list_in_range}
+use Rattle.symk_cli.specs.Shown.{IsLeast, IsGreatest, HasMore}
 
 -- the least and the greatest number, and for none the last u64 and 0
 abbrev pub IsLeastOr : List ℕ → ℕ → Type 0
@@ -17,10 +20,10 @@ IsLeastOr numbers least = ((numbers ≡ []) × (least ≡ 2 ^ 64 - 1)) ⊎ IsLea
 abbrev pub IsGreatestOr : List ℕ → ℕ → Type 0
 IsGreatestOr numbers greatest = ((numbers ≡ []) × (greatest ≡ 0)) ⊎ IsGreatest numbers greatest
 
--- So many plans of the task cost this.
-pub record Costed (task : TaskParts) (cheapest dearest total count : ℕ) : Type 0 where
+-- So many plans that an engine gave cost this, and what pends is the rest.
+pub record Costed (task : TaskParts) (pends : List ℕ → Type 0) (cheapest dearest total count : ℕ) : Type 0 where
   pub plans : List (List ℕ)
-  pub promise : IsListOf task TopK plans None
+  pub given : IsGiven task TopK pends plans
   pub number : length plans ≡ count
   pub least : IsLeastOr (map (cost_of task) plans) cheapest
   pub greatest : IsGreatestOr (map (cost_of task) plans) dearest
@@ -79,17 +82,23 @@ costs_push task plans plan = map-append (cost_of task) plans (plan ∷ [])
 sum_push : (xs : List ℕ) (x : ℕ) → sum (xs ++ x ∷ []) ≡ sum xs + x
 sum_push xs x = fold-append (λ a y. a + y) 0 xs (x ∷ [])
 
+-- no plan yet
+pub costed_none : (task : TaskParts) (pends : List ℕ → Type 0) → IsGiven task TopK pends [] → Costed task pends (2 ^ 64 - 1) 0 0 0
+costed_none task pends given = record { plans = []; given = given; number = refl; least = inl (refl, refl); greatest = inl (refl, refl); all = refl; bound = omega arith }
+
 -- one plan more
-pub costed_more : (task : TaskParts) (cheapest dearest total count : ℕ) (plan : List ℕ) → Costed task cheapest dearest total count → IsListable task plan → Costed task (min cheapest (cost_of task plan)) (max dearest (cost_of task plan)) (total + cost_of task plan) (count + 1)
-costed_more task cheapest dearest total count plan c listable =
+pub costed_more : (task : TaskParts) (pends after : List ℕ → Type 0) (cheapest dearest total count : ℕ) (plan : List ℕ) → Fits task
+    → Costed task pends cheapest dearest total count → Gave (system_of task) TopK None pends after plan
+    → Costed task after (min cheapest (cost_of task plan)) (max dearest (cost_of task plan)) (total + cost_of task plan) (count + 1)
+costed_more task pends after cheapest dearest total count plan fits c gave =
     let cost = cost_of task plan in
     let costs = map (cost_of task) c.plans in
     let more = sym (costs_push task c.plans plan) in
-    let lt = listable.cost in
+    let lt = (gave_listable task TopK pends after c.plans plan c.given gave).cost in
     let bound = c.bound in
     record {
       plans = c.plans ++ plan ∷ [];
-      promise = All-push (IsListable task) c.plans plan c.promise listable;
+      given = given_more task TopK pends after c.plans plan fits c.given gave;
       number = length_push c.plans plan ∙ ap (λ n. n + 1) c.number;
       least = subst (λ xs. IsLeastOr xs (min cheapest cost)) more (least_push costs cost cheapest lt c.least);
       greatest = subst (λ xs. IsGreatestOr xs (max dearest cost)) more (greatest_push costs cost dearest c.greatest);
@@ -98,13 +107,28 @@ costed_more task cheapest dearest total count plan c listable =
     }
 
 -- the same costs
-pub costed_as : (task : TaskParts) (cheapest dearest total cheapest' dearest' total' count : ℕ) → cheapest ≡ cheapest' → dearest ≡ dearest' → total ≡ total' → Costed task cheapest dearest total count → Costed task cheapest' dearest' total' count
-costed_as task cheapest dearest total cheapest' dearest' total' count a b d c = record {
+pub costed_as : (task : TaskParts) (pends : List ℕ → Type 0) (cheapest dearest total cheapest' dearest' total' count : ℕ) → cheapest ≡ cheapest' → dearest ≡ dearest' → total ≡ total'
+    → Costed task pends cheapest dearest total count → Costed task pends cheapest' dearest' total' count
+costed_as task pends cheapest dearest total cheapest' dearest' total' count a b d c = record {
   plans = c.plans;
-  promise = c.promise;
+  given = c.given;
   number = c.number;
   least = subst (λ n. IsLeastOr (map (cost_of task) c.plans) n) a c.least;
   greatest = subst (λ n. IsGreatestOr (map (cost_of task) c.plans) n) b c.greatest;
   all = sym d ∙ c.all;
   bound = let le = c.bound in omega (arith, le, d);
 }
+
+-- fewer plans than the task has more of are not all
+pub costed_not_all : (task : TaskParts) (pends : List ℕ → Type 0) (cheapest dearest total count : ℕ) → Fits task → Costed task pends cheapest dearest total count → count < 20
+    → HasMore task 20 → NoneLeft (system_of task) None pends → ⊥
+costed_not_all task pends cheapest dearest total count fits c lt more none =
+    let number = c.number in
+    more c.plans (omega (arith, number, lt)) (λ p plan within. (list_exhausted task TopK pends c.plans 0 fits c.given none).end p plan)
+
+-- nor all whose cost 64 bits hold
+pub costed_not_in_range : (task : TaskParts) (pends : List ℕ → Type 0) (cheapest dearest total count : ℕ) → Fits task → Costed task pends cheapest dearest total count → count < 20
+    → HasMore task 20 → Stops (system_of task) None pends CostRange → ⊥
+costed_not_in_range task pends cheapest dearest total count fits c lt more stops =
+    let number = c.number in
+    more c.plans (omega (arith, number, lt)) (list_in_range task TopK pends c.plans fits c.given stops).end.0

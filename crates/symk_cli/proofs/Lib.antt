@@ -1,11 +1,15 @@
-pub mod Members
 pub mod Causes
 pub mod Took
 pub mod Puts
+pub mod Given
+pub mod Serving
+pub mod Spaces
 pub mod Listed
+pub mod Ended
 pub mod Asked
 pub mod LawfulWishes
 pub mod Costed
+pub mod Switched
 pub mod Answering
 pub mod ReadBack
 pub mod Refusing

@@ -1,27 +1,29 @@
 -- Plans that go out one by one.
-use Rattle.std.proofs.Common.{◌≡◌, ◌∙◌, ap, sym, refl, subst, inl, inr, ℕ, ◌+◌, ◌<◌, ◌≤◌, ◌⊎◌, List, [], ◌∷◌, ◌++◌, length, take, None, arith}
+use Rattle.std.proofs.Common.{◌≡◌, ◌∙◌, ap, sym, refl, subst, inl, inr, ℕ, ◌+◌, ◌<◌, ◌≤◌, ◌⊎◌, List, [], ◌∷◌, ◌++◌, length, take, Option, Some, None, arith}
 use Rattle.std.proofs.lemmas.List.{length_push}
-use Rattle.std.proofs.lemmas.List.Elements.{All-push}
 use Rattle.symk_io.specs.View.{Bytes, SinkView}
 use Rattle.symk_task.specs.declared.parts.Mode.{Mode}
 use Rattle.symk_task.specs.declared.parts.TaskParts.{TaskParts}
 use Rattle.plan_out.specs.declared.end.End.{End}
 use Rattle.plan_out.specs.declared.end.End.TheVariants as end
 use Rattle.plan_out.specs.Texts.{block, end_line}
-use Rattle.symk_cli.specs.Sent.{Sent, Took, TookPiece, TookFront, IsFront}
+use Rattle.symk_cli.specs.Sent.{Sent, nothing, Took, TookPiece, TookFront, IsFront}
 use Rattle.symk_cli.specs.Ends.{Ends, FrontOf, Puts}
-use Rattle.symk_cli.specs.Listable.{IsListable}
 use Rattle.symk_cli.specs.Lists.{blocks_from, list_pieces, IsListOf, IsEndOf, end_status, Listing, PartListing, OrPart}
 use Rattle.symk_cli.specs.declared.status.Status.{Status}
 use Rattle.symk_cli.specs.declared.status.Status.TheVariants as status
 use Rattle.symk_cli.proofs.Took.{all_of, took_nothing, took_piece, took_front, took_after, front_of_all, front_of_last}
 
--- What went out so far are the blocks of a list of so many plans, each a piece.
-pub record Listed (task : TaskParts) (mode : Mode) (old new : SinkView) (count : ℕ) : Type 0 where
+-- What went out so far are the blocks of a list of so many plans, each a piece, of which this holds.
+pub record Listed (task : TaskParts) (Holds : List (List ℕ) → Type 0) (old new : SinkView) (count : ℕ) : Type 0 where
   pub plans : List (List ℕ)
-  pub promise : IsListOf task mode plans None
+  pub holds : Holds plans
   pub number : length plans ≡ count
   pub took : Took (all_of (list_pieces task plans)) old new
+
+-- where this holds of a list, it promises what a list of the mode does, while it goes on and with the end
+abbrev pub Promises : TaskParts → Mode → (List (List ℕ) → Type 0) → Option End → Type 0
+Promises task mode Holds ended = (plans : List (List ℕ)) → Holds plans → IsListOf task mode plans ended
 
 -- the blocks of one more plan
 blocks_push : (task : TaskParts) (i : ℕ) (plans : List (List ℕ)) (plan : List ℕ) → blocks_from task i (plans ++ (plan ∷ [])) ≡ blocks_from task i plans ++ (block task (i + length plans) plan ∷ [])
@@ -34,14 +36,16 @@ pieces_push : (task : TaskParts) (plans : List (List ℕ)) (plan : List ℕ) (co
 pieces_push task plans plan count e = blocks_push task 1 plans plan ∙ ap (λ n. list_pieces task plans ++ (block task n plan ∷ [])) (let n : 1 + length plans ≡ count + 1 = omega (arith, e) in n)
 
 -- no plan yet
-pub listed_none : (task : TaskParts) (mode : Mode) (old : SinkView) → Listed task mode old old 0
-listed_none task mode old = record { plans = []; promise = λ k d lt. absurd (omega (arith, lt)); number = refl; took = took_nothing old }
+pub listed_none : (task : TaskParts) (Holds : List (List ℕ) → Type 0) (old : SinkView) → Holds [] → Listed task Holds old old 0
+listed_none task Holds old holds = record { plans = []; holds = holds; number = refl; took = took_nothing old }
 
 -- one more block went out
-pub listed_more : (task : TaskParts) (mode : Mode) (old then new : SinkView) (count : ℕ) (plan : List ℕ) → Listed task mode old then count → IsListable task plan → TookPiece (block task (count + 1) plan) then new → Listed task mode old new (count + 1)
-listed_more task mode old then new count plan l listable put = record {
+pub listed_more : (task : TaskParts) (Holds After : List (List ℕ) → Type 0) (old then new : SinkView) (count : ℕ) (plan : List ℕ)
+    → ((plans : List (List ℕ)) → Holds plans → After (plans ++ plan ∷ [])) → Listed task Holds old then count → TookPiece (block task (count + 1) plan) then new
+    → Listed task After old new (count + 1)
+listed_more task Holds After old then new count plan more l put = record {
   plans = l.plans ++ (plan ∷ []);
-  promise = All-push (IsListable task) l.plans plan l.promise listable;
+  holds = more l.plans l.holds;
   number = length_push l.plans plan ∙ ap (λ n. n + 1) l.number;
   took = subst (λ (pieces : List Bytes). Took (all_of pieces) old new) (sym (pieces_push task l.plans plan count l.number)) (took_after (list_pieces task l.plans) _ old then new l.took (took_piece _ then new put));
 }
@@ -50,36 +54,39 @@ stopped_is_part : (task : TaskParts) (most : ℕ) (mode : Mode) (result : Status
 stopped_is_part task most mode result out (inl e) p = subst (λ s. OrPart task most mode s out) (sym e) p
 stopped_is_part task most mode result out (inr e) p = subst (λ s. OrPart task most mode s out) (sym e) p
 
+-- nothing goes out, where memory was wanting
+pub memory_lists : (task : TaskParts) (most : ℕ) (mode : Mode) (old : SinkView) → Puts (OrPart task most mode) old old status.Memory
+memory_lists task most mode old = (nothing, took_nothing old, inl (inl refl))
+
 -- the list stops after so many plans
-pub listed_stops : (task : TaskParts) (most : ℕ) (mode : Mode) (old new : SinkView) (count : ℕ) (result : Status) → (result ≡ status.WriteFault) ⊎ (result ≡ status.Memory) → Listed task mode old new count → count ≤ most → Puts (OrPart task most mode) old new result
-listed_stops task most mode old new count result why l le =
+pub listed_stops : (task : TaskParts) (most : ℕ) (mode : Mode) (Holds : List (List ℕ) → Type 0) (old new : SinkView) (count : ℕ) (result : Status) → Promises task mode Holds None
+    → (result ≡ status.WriteFault) ⊎ (result ≡ status.Memory) → Listed task Holds old new count → count ≤ most → Puts (OrPart task most mode) old new result
+listed_stops task most mode Holds old new count result promises why l le =
     let n : length l.plans ≤ most = omega (arith, l.number, le) in
-    (all_of (list_pieces task l.plans), l.took, stopped_is_part task most mode result _ why (inr (record { plans = l.plans; promise = l.promise; number = n; front = front_of_all (list_pieces task l.plans) })))
+    let part : PartListing task most mode (all_of (list_pieces task l.plans)) = record { plans = l.plans; promise = promises l.plans l.holds; number = n; front = front_of_all (list_pieces task l.plans) } in
+    (all_of (list_pieces task l.plans), l.took, stopped_is_part task most mode result _ why (inr part))
 
 -- a part of one more block went out
-pub block_stops : (task : TaskParts) (most : ℕ) (mode : Mode) (old then new : SinkView) (count : ℕ) (plan : List ℕ) (result : Status) → (result ≡ status.WriteFault) ⊎ (result ≡ status.Memory) → Listed task mode old then count → count < most → IsListable task plan → TookFront (block task (count + 1) plan) then new → Puts (OrPart task most mode) old new result
-block_stops task most mode old then new count plan result why l lt listable put =
+pub block_stops : (task : TaskParts) (most : ℕ) (mode : Mode) (Holds After : List (List ℕ) → Type 0) (old then new : SinkView) (count : ℕ) (plan : List ℕ) (result : Status) → Promises task mode After None
+    → (result ≡ status.WriteFault) ⊎ (result ≡ status.Memory) → ((plans : List (List ℕ)) → Holds plans → After (plans ++ plan ∷ [])) → Listed task Holds old then count → count < most
+    → TookFront (block task (count + 1) plan) then new → Puts (OrPart task most mode) old new result
+block_stops task most mode Holds After old then new count plan result promises why more l lt put =
     let text = block task (count + 1) plan in
     let p = took_front text then new put in
-    let n : length (l.plans ++ (plan ∷ [])) ≤ most = omega (arith, length_push l.plans plan, l.number, lt) in
+    let plans = l.plans ++ (plan ∷ []) in
+    let n : length plans ≤ most = omega (arith, length_push l.plans plan, l.number, lt) in
     let out : Sent = record { pieces = list_pieces task l.plans ++ []; rest = take p.0 text } in
-    let front : IsFront out (list_pieces task (l.plans ++ (plan ∷ []))) = front_of_last (list_pieces task l.plans) text p.0 _ (pieces_push task l.plans plan count l.number) in (
-      out,
-      took_after (list_pieces task l.plans) _ old then new l.took p.1,
-      stopped_is_part task most mode result out why (inr (record {
-        plans = l.plans ++ (plan ∷ []);
-        promise = All-push (IsListable task) l.plans plan l.promise listable;
-        number = n;
-        front = front;
-      })),
-    )
+    let front : IsFront out (list_pieces task plans) = front_of_last (list_pieces task l.plans) text p.0 _ (pieces_push task l.plans plan count l.number) in
+    let part : PartListing task most mode out = record { plans = plans; promise = promises plans (more l.plans l.holds); number = n; front = front } in
+    (out, took_after (list_pieces task l.plans) _ old then new l.took p.1, stopped_is_part task most mode result out why (inr part))
 
 -- the list that ends so
-listing_of : (task : TaskParts) (most : ℕ) (mode : Mode) (count : ℕ) (why : End) (old mid : SinkView) (l : Listed task mode old mid count) → IsEndOf most count why → Listing task most mode (end_status why) (list_pieces task l.plans ++ (end_line why ∷ []))
-listing_of task most mode count why old mid l fits = record {
+listing_of : (task : TaskParts) (most : ℕ) (mode : Mode) (Holds : List (List ℕ) → Type 0) (count : ℕ) (why : End) (old mid : SinkView) (l : Listed task Holds old mid count)
+    → Promises task mode Holds (Some why) → IsEndOf most count why → Listing task most mode (end_status why) (list_pieces task l.plans ++ (end_line why ∷ []))
+listing_of task most mode Holds count why old mid l promises fits = record {
   plans = l.plans;
   ended = why;
-  promise = l.promise;
+  promise = promises l.plans l.holds;
   fits = subst (λ n. IsEndOf most n why) (sym l.number) fits;
   says = refl;
   pieces = refl;
@@ -91,20 +98,26 @@ whole_lists task most mode (end.Reached n) pieces l = (l, refl)
 whole_lists task most mode (end.Exhausted n) pieces l = (l, refl)
 whole_lists task most mode end.CostRange pieces l = (l, refl)
 
-ending_stops : (task : TaskParts) (most : ℕ) (mode : Mode) (count : ℕ) (why : End) (old mid new : SinkView) (result : Status) → (result ≡ status.WriteFault) ⊎ (result ≡ status.Memory) → Listed task mode old mid count → IsEndOf most count why → TookFront (end_line why) mid new → Puts (OrPart task most mode) old new result
-ending_stops task most mode count why old mid new result stop l fits took =
+ending_stops : (task : TaskParts) (most : ℕ) (mode : Mode) (Holds : List (List ℕ) → Type 0) (count : ℕ) (why : End) (old mid new : SinkView) (result : Status)
+    → (result ≡ status.WriteFault) ⊎ (result ≡ status.Memory) → Listed task Holds old mid count → Promises task mode Holds (Some why) → IsEndOf most count why
+    → TookFront (end_line why) mid new → Puts (OrPart task most mode) old new result
+ending_stops task most mode Holds count why old mid new result stop l promises fits took =
     let whole = list_pieces task l.plans ++ (end_line why ∷ []) in
     let p = took_front (end_line why) mid new took in
     let out : Sent = record { pieces = list_pieces task l.plans ++ []; rest = take p.0 (end_line why) } in
     let front : IsFront out whole = front_of_last (list_pieces task l.plans) (end_line why) p.0 whole refl in
-    (out, took_after (list_pieces task l.plans) _ old mid new l.took p.1, stopped_is_part task most mode result out stop (inl (inr (end_status why, whole, listing_of task most mode count why old mid l fits, front))))
+    let listing = listing_of task most mode Holds count why old mid l promises fits in
+    (out, took_after (list_pieces task l.plans) _ old mid new l.took p.1, stopped_is_part task most mode result out stop (inl (inr (end_status why, whole, listing, front))))
 
 -- the line that ends the list
-pub list_ends : (task : TaskParts) (most : ℕ) (mode : Mode) (count : ℕ) (why : End) (old mid new : SinkView) (result : Status) → Listed task mode old mid count → IsEndOf most count why → Ends (end_status why) (end_line why) mid new result → Puts (OrPart task most mode) old new result
-list_ends task most mode count why old mid new result l fits (inl h) = (
+pub list_ends : (task : TaskParts) (most : ℕ) (mode : Mode) (Holds : List (List ℕ) → Type 0) (count : ℕ) (why : End) (old mid new : SinkView) (result : Status)
+    → Listed task Holds old mid count → Promises task mode Holds (Some why) → IsEndOf most count why → Ends (end_status why) (end_line why) mid new result
+    → Puts (OrPart task most mode) old new result
+list_ends task most mode Holds count why old mid new result l promises fits (inl h) = (
   all_of (list_pieces task l.plans ++ (end_line why ∷ [])),
   took_after (list_pieces task l.plans) _ old mid new l.took (took_piece (end_line why) mid new h.1),
-  subst (λ s. OrPart task most mode s (all_of (list_pieces task l.plans ++ (end_line why ∷ [])))) (sym h.0) (whole_lists task most mode why _ (listing_of task most mode count why old mid l fits)),
+  subst (λ s. OrPart task most mode s (all_of (list_pieces task l.plans ++ (end_line why ∷ [])))) (sym h.0)
+      (whole_lists task most mode why _ (listing_of task most mode Holds count why old mid l promises fits)),
 )
-list_ends task most mode count why old mid new result l fits (inr (inl h)) = ending_stops task most mode count why old mid new result (inl h.0) l fits h.1
-list_ends task most mode count why old mid new result l fits (inr (inr h)) = ending_stops task most mode count why old mid new result (inr h.0) l fits h.1
+list_ends task most mode Holds count why old mid new result l promises fits (inr (inl h)) = ending_stops task most mode Holds count why old mid new result (inl h.0) l promises fits h.1
+list_ends task most mode Holds count why old mid new result l promises fits (inr (inr h)) = ending_stops task most mode Holds count why old mid new result (inr h.0) l promises fits h.1

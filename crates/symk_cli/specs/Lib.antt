@@ -3,12 +3,12 @@ pub mod Listable
 pub mod Sent
 pub mod Ends
 pub mod Lengths
-pub mod Steps
 pub mod Wishes
 pub mod Requests
 pub mod LawfulWords
 pub mod Refusals
 pub mod Lists
+pub mod Engines
 pub mod Verdicts
 pub mod Shown
 pub mod Plans

@@ -1,8 +1,9 @@
 -- Lists of plans, and how they end.
-use Rattle.std.specs.Prelude.{◌≡◌, ℕ, ◌+◌, ◌<◌, ◌≤◌, List, [], ◌∷◌, ◌++◌, length, ◌⊎◌, All, Option, Some, None}
+use Rattle.std.specs.Prelude.{◌≡◌, ℕ, ◌+◌, ◌<◌, ◌≤◌, List, [], ◌∷◌, ◌++◌, length, ◌⊎◌, ⊤, All, Option, Some, None}
 use Rattle.symk_io.specs.View.{Bytes}
 use Rattle.symk_task.specs.declared.parts.Mode.{Mode}
 use Rattle.symk_task.specs.declared.parts.TaskParts.{TaskParts}
+use Rattle.symk_task.specs.Plans.{IsRight, AllListed, AllInRange, HasDearer}
 use Rattle.plan_out.specs.declared.end.End.{End}
 use Rattle.plan_out.specs.declared.end.End.TheVariants as end
 use Rattle.plan_out.specs.Texts.{block, end_line}
@@ -21,10 +22,20 @@ blocks_from task i (p ∷ plans) = block task i p ∷ blocks_from task (i + 1) p
 abbrev pub list_pieces : TaskParts → List (List ℕ) → List Bytes
 list_pieces task plans = blocks_from task 1 plans
 
--- What a list promises of its plans, while it goes on (None) and with the end that is said of it. So far it is that each plan
--- can be printed. That the list is right for the mode, and that its end is true, join here and nowhere else.
-abbrev pub IsListOf : TaskParts → Mode → List (List ℕ) → Option End → Type 0
-IsListOf task mode plans ended = All (IsListable task) plans
+-- The end that is said of a list is the true one: with Exhausted each plan of the mode is listed, with CostRange each whose cost
+-- 64 bits hold, and a dearer one there is. Reached says no more: nothing was looked for after as many plans as were asked for.
+abbrev pub IsTrueEnd : TaskParts → Mode → List (List ℕ) → Option End → Type 0
+IsTrueEnd task mode plans None = ⊤
+IsTrueEnd task mode plans (Some (end.Reached n)) = ⊤
+IsTrueEnd task mode plans (Some (end.Exhausted n)) = AllListed task mode plans
+IsTrueEnd task mode plans (Some end.CostRange) = AllInRange task mode plans × HasDearer task mode
+
+-- What a list promises of its plans, while it goes on (None) and with the end that is said of it: they are the cheapest plans of
+-- the mode, each once, by cost; each can be printed; and the end is the true one.
+pub record IsListOf (task : TaskParts) (mode : Mode) (plans : List (List ℕ)) (ended : Option End) : Type 0 where
+  pub right : IsRight task mode plans
+  pub listable : All (IsListable task) plans
+  pub end : IsTrueEnd task mode plans ended
 
 -- the status that goes with the end
 abbrev pub end_status : End → Status

@@ -1,9 +1,9 @@
 -- The summary of a demonstration.
-use Rattle.std.specs.Prelude.{◌≡◌, ℕ, ◌≤◌, ◌++◌, List, length, map, sum, All, Contains, Some, codes, decimal}
+use Rattle.std.specs.Prelude.{◌≡◌, ℕ, ◌<◌, ◌≤◌, ◌++◌, List, length, map, sum, All, Contains, Some, codes, decimal}
 use Rattle.symk_io.specs.View.{Bytes}
 use Rattle.symk_task.specs.declared.parts.Mode.TheVariants.{TopK}
 use Rattle.symk_task.specs.declared.parts.TaskParts.{TaskParts}
-use Rattle.symk_task.specs.Plans.{cost_of}
+use Rattle.symk_task.specs.Plans.{cost_of, AllInRange}
 use Rattle.task_gen.specs.Switches.{switches}
 use Rattle.plan_out.specs.declared.end.End.TheVariants.{Reached}
 use Rattle.symk_cli.specs.Lists.{IsListOf}
@@ -40,6 +40,10 @@ pub record HaveCosts (task : TaskParts) (plans : List (List ℕ)) (cheapest dear
   pub least : IsLeast (map (cost_of task) plans) cheapest
   pub greatest : IsGreatest (map (cost_of task) plans) dearest
   pub all : total ≡ sum (map (cost_of task) plans)
+
+-- no list of fewer than n plans has all of the task whose cost 64 bits hold
+abbrev pub HasMore : TaskParts → ℕ → Type 0
+HasMore task n = (plans : List (List ℕ)) → length plans < n → ¬ AllInRange task TopK plans
 
 -- 20 plans of the task have these costs
 pub record HasPlans (task : TaskParts) (cheapest dearest total : ℕ) : Type 0 where

@@ -2,17 +2,18 @@
 //!
 //! `run` is the whole program over any files and any sink: it opens at most the files that the words name, in their order, and
 //! puts each block, the line that ends a list and every other text as one piece, with one flush. `main` makes those of the
-//! system, calls it and ends with its status. It stands on every crate of the workspace. Until sets of states take its place, the plans come from a plain
-//! search over explicit states.
+//! system, calls it and ends with its status. Plans come from an engine of lazy plans over decision diagrams, and whichever it
+//! is, a list is right by the law of such engines alone. It stands on the engines (`reconstruct`, `loopless`), the selectors
+//! (`selectors`), the space (`bdd_space`), and the crates of words, files and texts.
 #![tactic(auto)]
 
 mod checking;
 mod ending;
+mod engines;
 mod pieces;
 mod planning;
 mod reading;
 mod request;
-mod search;
 mod showing;
 mod status;
 mod top;

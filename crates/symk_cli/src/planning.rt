@@ -3,49 +3,51 @@
 ghost use Rattle.std.specs.Prelude.{◌≡◌, ◌⊎◌, IfErr, OnOk, OnErr};
 ghost use Rattle.plan_out.specs.Texts.{block as block_text, end_line as end_text};
 ghost use Rattle.symk_cli.specs.Ends.{Ends, HasCauses, Puts};
+ghost use Rattle.symk_cli.specs.Engines.{OwesAll};
 ghost use Rattle.symk_cli.specs.Sent.{TookPiece, TookFront};
 ghost use Rattle.symk_cli.specs.Listable.{IsListable};
 ghost use Rattle.symk_cli.specs.Lists.{OrPart, end_status};
 
 use crate::ending::{end, status_of};
-use crate::search::{Search, Stop};
 use crate::status::Status;
 use plan_out::{End, block, end_line};
+use selectors::{LazyPlans, Limited, Stop};
 use std::alloc::Global;
 use symk_io::{Sink, put};
-use symk_task::{Mode, Plan, Task};
+use symk_task::{Plan, Task};
 
-/// Lists at most that many plans, each block put before the next plan is asked for, and then the line that says why the
-/// list ends.
-pub fn list_plans<K: Sink>(
+/// Lists at most that many plans of an engine that owes all plans of the task in its mode: each block is put before the next
+/// plan is asked for, and then the line that says why the list ends. After the last plan that is wanted nothing is asked for.
+pub fn list_plans<I: LazyPlans + Drop, K: Sink>(
     alloc: Global,
     task: &Task,
-    mode: Mode,
     most: u64,
+    engine: I,
     sink: &mut K,
 ) -> Status
-    ensures lists { Puts (OrPart task.now most mode) (K.view sink.old) (K.view sink.new) result }
+    requires { OwesAll I.system I.mode I.most I.pends I.lawful task.now (I.mode engine) engine }
+    ensures lists { Puts (OrPart task.now most (I.mode engine)) (K.view sink.old) (K.view sink.new) result }
     ensures causes { HasCauses result 0 0 (K.view sink.old).faults (K.view sink.new).faults }
 {
-    let Ok(mut search) = Search::new(alloc, task, mode) else {
-        return Status::Memory;
-    };
+    // A task fits.
+    let _ = task.parts();
+    let mut plans = Limited::new(alloc, engine, most);
     'plans: for number in 0..most {
-        match search.next_plan(alloc, task) {
-            Ok(Some(plan)) => match put_block(alloc, task, number + 1, &plan, sink) {
+        match plans.next() {
+            Some(Ok(plan)) => match put_block(alloc, task, number + 1, &plan, sink) {
                 Ok(()) => {}
                 Err(status) => return status,
             },
-            Ok(None) => return end_list(alloc, sink, End::Exhausted { n: number }),
-            Err(Stop::CostRange) => return end_list(alloc, sink, End::CostRange),
-            Err(Stop::Memory) => return Status::Memory,
+            Some(Err(Stop::CostRange)) => return end_list(alloc, sink, End::CostRange),
+            Some(Err(Stop::Memory)) => return Status::Memory,
+            None => return end_list(alloc, sink, End::Exhausted { n: number }),
         }
     }
     end_list(alloc, sink, End::Reached { n: most })
 }
 
-// Puts the block of a plan, which is the one of this number in its list, as one piece, or ends the run.
-fn put_block<K: Sink>(
+/// Puts the block of a plan, which is the one of this number in its list, as one piece, or ends the run.
+pub fn put_block<K: Sink>(
     alloc: Global,
     task: &Task,
     number: u64,
@@ -68,8 +70,8 @@ fn put_block<K: Sink>(
     }
 }
 
-// Puts the line that ends a list.
-fn end_list<K: Sink>(alloc: Global, sink: &mut K, why: End) -> Status
+/// Puts the line that ends a list.
+pub fn end_list<K: Sink>(alloc: Global, sink: &mut K, why: End) -> Status
     ensures ends { Ends (end_status why) (end_text why) (K.view sink.old) (K.view sink.new) result }
     ensures causes { HasCauses result 0 0 (K.view sink.old).faults (K.view sink.new).faults }
 {

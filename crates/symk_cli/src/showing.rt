@@ -2,18 +2,23 @@
 
 ghost use Rattle.std.specs.Prelude.{◌≡◌, ◌+◌, ◌*◌, ◌^◌, ◌<◌, ◌≤◌, ◌++◌, IfOk, OnOk, min, max};
 ghost use Rattle.task_gen.specs.Switches.{switches as switches_task};
+ghost use Rattle.symk_task.specs.declared.parts.Mode.TheVariants.{TopK};
 ghost use Rattle.symk_cli.specs.Ends.{HasCauses, OrFront, Puts};
-ghost use Rattle.symk_cli.specs.Shown.{HasPlans, IsSummary, Summary, counts_line, costs_line, reached_line};
+ghost use Rattle.symk_cli.specs.Engines.{OwesAll};
+ghost use Rattle.symk_cli.specs.Shown.{HasMore, HasPlans, IsSummary, Summary, counts_line, costs_line, reached_line};
 
 use crate::ending::end_with;
 use crate::pieces::{push_cost_after, push_number_after};
-use crate::search::Search;
 use crate::status::Status;
-use sas_reader::read_task;
+use bdd_space::BddSpace;
+use bidirectional::Lighter;
+use reconstruct::TopPlans;
+use sas_reader::{ReadFault, read_task};
 use sas_writer::write_task;
+use selectors::{LazyPlans, Limited, Stop};
 use std::alloc::{AllocError, Global};
 use symk_io::Sink;
-use symk_task::{Memory, Mode, Task};
+use symk_task::{Memory, Task};
 use symk_text::{Text, push_bytes};
 use task_gen::switches;
 
@@ -39,7 +44,8 @@ fn task_read_back(alloc: Global, number: u32) -> Result<Task, Memory>
     let text = write_task(alloc, &switches(alloc, number)?)?;
     match read_task(alloc, &text) {
         Ok(task) => Ok(task),
-        Err(_) => Err(AllocError),
+        Err(ReadFault::Memory) => Err(AllocError),
+        Err(ReadFault::Offence { .. }) => unreachable!(),
     }
 }
 
@@ -67,22 +73,40 @@ impl Costs {
     }
 }
 
-fn costs_of(alloc: Global, task: &Task) -> Result<Costs, Memory>
+// What 20 plans cost of an engine that owes all plans of the task.
+fn costs_of<I: LazyPlans + Drop>(alloc: Global, task: &Task, engine: I) -> Result<Costs, Memory>
+    requires owes { OwesAll I.system I.mode I.most I.pends I.lawful task.now TopK engine }
+    requires many { HasMore task.now 20 }
     ensures { IfOk result (λ costs. HasPlans task.now costs.cheapest costs.dearest costs.total) }
 {
-    let mut search = Search::new(alloc, task, Mode::TopK)?;
+    // A task fits.
+    let _ = task.parts();
+    let mut plans = Limited::new(alloc, engine, SHOWN);
     let mut costs = Costs {
         cheapest: u64::MAX,
         dearest: 0,
         total: 0,
     };
     'plans: for _number in 0..SHOWN {
-        let Ok(Some(plan)) = search.next_plan(alloc, task) else {
-            return Err(AllocError);
-        };
-        costs = costs.with(task.plan_cost(&plan) as u64);
+        match plans.next() {
+            Some(Ok(plan)) => costs = costs.with(task.plan_cost(&plan) as u64),
+            Some(Err(Stop::Memory)) => return Err(AllocError),
+            Some(Err(Stop::CostRange)) => unreachable!(),
+            None => unreachable!(),
+        }
     }
     Ok(costs)
+}
+
+// What the 20 cheapest plans of the task cost, by the engine that the program chooses for itself.
+fn costs_found(alloc: Global, task: &Task) -> Result<Costs, Memory>
+    requires { HasMore task.now 20 }
+    ensures { IfOk result (λ costs. HasPlans task.now costs.cheapest costs.dearest costs.total) }
+{
+    // A task fits, and so its system lists each useful state.
+    let _ = task.parts();
+    let space = BddSpace::of(alloc, task)?;
+    costs_of(alloc, task, TopPlans::new(alloc, space, Lighter::new())?)
 }
 
 fn summary(alloc: Global, number: u32) -> Result<Text, Memory>
@@ -91,7 +115,7 @@ fn summary(alloc: Global, number: u32) -> Result<Text, Memory>
     ensures { IfOk result (Summary number) }
 {
     let task = task_read_back(alloc, number)?;
-    let costs = costs_of(alloc, &task)?;
+    let costs = costs_found(alloc, &task)?;
     let parts = task.parts();
     let mut text = Text::new(alloc);
     push_counts(

@@ -1,7 +1,6 @@
 //! The top call.
 
 ghost use Rattle.std.specs.Prelude.{◌≡◌, ◌≢◌, [], ◌∷◌, Some, None, IfOk, IsErrOf, map, string_bytes};
-ghost use Rattle.symk_cli.specs.declared.request.Direction.{Direction as DirectionOf};
 ghost use Rattle.symk_cli.specs.Ends.{HasCauses};
 ghost use Rattle.symk_cli.specs.Wishes.{wish_of, names_of, lists, checks};
 ghost use Rattle.symk_cli.specs.Requests.{wished, HasSwitches};
@@ -13,9 +12,9 @@ ghost use Rattle.symk_cli.specs.Lengths.{Lengths};
 
 use crate::checking::judge;
 use crate::ending::end;
-use crate::planning::list_plans;
+use crate::engines::list_found;
 use crate::reading::{plans_of, task_of};
-use crate::request::{Request, request_of};
+use crate::request::{Direction, Request, request_of};
 use crate::showing::show;
 use crate::status::Status;
 use std::alloc::Global;
@@ -111,28 +110,29 @@ fn serve<F: Files, K: Sink>(
             file,
             most,
             mode,
-            ..
-        } => plan(alloc, files, sink, file, mode, most),
+            direction,
+        } => plan(alloc, files, sink, file, mode, direction, most),
         Request::Check { file, plans, mode } => check(alloc, files, sink, file, plans, mode),
         Request::Demo { switches } => show(alloc, switches, sink),
     }
 }
 
-// `plan`, in whichever direction
+// `plan`
 fn plan<F: Files, K: Sink>(
     alloc: Global,
     files: &mut F,
     sink: &mut K,
     file: &str,
     mode: Mode,
+    direction: Direction,
     most: u64,
 ) -> Status
-    ensures answer { (direction : DirectionOf) → Answered (Some (lists file.now most mode direction)) (F.view files.old).told (K.view sink.old) (K.view sink.new) result }
+    ensures answer { Answered (Some (lists file.now most mode direction)) (F.view files.old).told (K.view sink.old) (K.view sink.new) result }
     ensures causes { HasCauses result (F.view files.old).faults (F.view files.new).faults (K.view sink.old).faults (K.view sink.new).faults }
     ensures opened { Opens (file.now ∷ []) (F.view files.old).told (F.view files.new).told (K.view sink.old).taken (K.view sink.new).taken result }
 {
     match task_of(alloc, files, sink, file) {
-        Ok(task) => list_plans(alloc, &task, mode, most, sink),
+        Ok(task) => list_found(alloc, &task, mode, direction, most, sink),
         Err(status) => status,
     }
 }

@@ -1,47 +1,78 @@
 use Rattle.std.proofs.Common.{◌<◌, refl, inr, arith, rules}
-use Rattle.plan_out.specs.declared.end.End.TheVariants.{Reached, Exhausted, CostRange}
-use Rattle.symk_cli.proofs.Listed.{listed_none, listed_more, listed_stops, block_stops, list_ends}
+use Rattle.symk_cli.proofs.Given.{gave_listable}
+use Rattle.symk_cli.proofs.Listed.{listed_none}
+use Rattle.symk_cli.proofs.Ended.{given_stops, reached_ends, none_ends, range_ends, given_goes_on, given_breaks}
+use Rattle.symk_cli.proofs.Serving.{limit_gave, limit_none, limit_range, stands_more, stands_first, given_first}
 use Rattle.symk_cli.proofs.planning.list_plans.Goals as goal
 
-pub returns-in_default-clause-lists : goal.returns-in_default-clause-lists
-returns-in_default-clause-lists g c =
-    let sink = g.K.Sink.view c.args.sink.now in
-    listed_stops c.args.task.now c.args.most c.args.mode sink sink 0 _ (inr refl) (listed_none c.args.task.now c.args.mode sink) (omega arith)
-
 pub plans-init : goal.plans-init
-plans-init g c = record { operators = search rules; listed = listed_none c.args.task.now c.args.mode (g.K.Sink.view c.args.sink.now); quiet = refl }
+plans-init g c =
+    let e = g.I.LazyPlans in
+    let mode = e.mode c.args.engine in
+    record {
+      stands = stands_first e.system e.mode e.most e.pends e.lawful e.last c.args.task.now mode c.args.most c.args.engine c.new-plans.result c.new-plans.ensures c.requires.serves;
+      listed = listed_none c.args.task.now _ (g.K.Sink.view c.args.sink.now)
+          (given_first e.system e.mode e.most e.pends e.lawful e.last c.args.task.now mode c.args.most c.args.engine c.new-plans.result c.new-plans.ensures
+          c.parts.ensures.fits c.requires (g.met.I.LazyPlans.fair c.args.engine c.requires.serves.holds));
+      quiet = refl;
+    }
+
+pub put_block-requires : goal.put_block-requires
+put_block-requires g c =
+    let e = g.I.LazyPlans in
+    let mode = e.mode c.args.engine in
+    let within : c.plans.number < c.args.most = omega arith in
+    let gave = limit_gave e.system e.mode e.most e.pends e.lawful e.last c.args.task.now mode c.args.most c.plans.number c.plans.plans c.next.new.self c.in-Some-Ok.field-0 c.in-Some-Ok.plan c.in-Some-Ok.field-0-is c.plans.invariant.stands within c.in-Some-Ok.ensures.steps in
+    gave_listable c.args.task.now mode (e.pends c.plans.plans.inner) (e.pends c.next.new.self.inner) c.plans.invariant.listed.plans c.in-Some-Ok.plan c.plans.invariant.listed.holds gave
 
 pub returns-in-Err-clause-lists : goal.returns-in-Err-clause-lists
 returns-in-Err-clause-lists g c =
+    let e = g.I.LazyPlans in
+    let mode = e.mode c.args.engine in
     let within : c.plans.number < c.args.most = omega arith in
-    block_stops c.args.task.now c.args.most c.args.mode (g.K.Sink.view c.args.sink.now) (g.K.Sink.view c.plans.sink) (g.K.Sink.view c.put_block.new.sink) c.plans.number c.in-Ok-Some.plan _
-    c.in-Err.ensures.stop c.plans.invariant.listed within (rw c.in-Ok-Some.field-0-is at c.in-Ok-Some.ensures.plan) c.in-Err.ensures.err
+    let gave = limit_gave e.system e.mode e.most e.pends e.lawful e.last c.args.task.now mode c.args.most c.plans.number c.plans.plans c.next.new.self c.in-Some-Ok.field-0 c.in-Some-Ok.plan c.in-Some-Ok.field-0-is c.plans.invariant.stands within c.in-Some-Ok.ensures.steps in
+    given_breaks c.args.task.now c.args.most mode c.parts.ensures.fits (e.pends c.plans.plans.inner) (g.K.Sink.view c.args.sink.now) (e.pends c.next.new.self.inner) c.in-Some-Ok.plan gave
+    (g.K.Sink.view c.plans.sink) (g.K.Sink.view c.put_block.new.sink) c.plans.number _ c.in-Err.ensures.stop c.plans.invariant.listed within c.in-Err.ensures.err
 
-pub returns-in-Ok-None-clause-lists : goal.returns-in-Ok-None-clause-lists
-returns-in-Ok-None-clause-lists g c =
+pub returns-in-None-clause-lists : goal.returns-in-None-clause-lists
+returns-in-None-clause-lists g c =
+    let e = g.I.LazyPlans in
+    let mode = e.mode c.args.engine in
     let within : c.plans.number < c.args.most = omega arith in
-    list_ends c.args.task.now c.args.most c.args.mode c.plans.number (Exhausted c.plans.number) (g.K.Sink.view c.args.sink.now) (g.K.Sink.view c.plans.sink) (g.K.Sink.view c.end_list.new.sink) _
-    c.plans.invariant.listed (refl, within) c.end_list.ensures.ends
+    let none = limit_none e.system e.mode e.most e.pends e.lawful e.last c.args.task.now mode c.args.most c.plans.number c.plans.plans c.next.new.self c.plans.invariant.stands within c.in-None.ensures.steps in
+    none_ends c.args.task.now c.args.most mode c.parts.ensures.fits (e.pends c.plans.plans.inner) (g.K.Sink.view c.args.sink.now) (g.K.Sink.view c.plans.sink) (g.K.Sink.view c.end_list-in-None.new.sink)
+    c.plans.number _ c.plans.invariant.listed within none c.end_list-in-None.ensures.ends
 
-pub returns-in-Err-CostRange-clause-lists : goal.returns-in-Err-CostRange-clause-lists
-returns-in-Err-CostRange-clause-lists g c =
+pub returns-in-Some-Err-CostRange-clause-lists : goal.returns-in-Some-Err-CostRange-clause-lists
+returns-in-Some-Err-CostRange-clause-lists g c =
+    let e = g.I.LazyPlans in
+    let mode = e.mode c.args.engine in
     let within : c.plans.number < c.args.most = omega arith in
-    list_ends c.args.task.now c.args.most c.args.mode c.plans.number CostRange (g.K.Sink.view c.args.sink.now) (g.K.Sink.view c.plans.sink) (g.K.Sink.view c.end_list-in-Err-CostRange.new.sink) _
-    c.plans.invariant.listed within c.end_list-in-Err-CostRange.ensures.ends
+    let range = limit_range e.system e.mode e.most e.pends e.lawful e.last c.args.task.now mode c.args.most c.plans.number c.plans.plans c.next.new.self c.in-Some-Err-CostRange.field-0 c.in-Some-Err-CostRange.field-0-0 c.in-Some-Err-CostRange.field-0-is c.in-Some-Err-CostRange.field-0-0-is c.plans.invariant.stands within c.in-Some-Err-CostRange.ensures.steps in
+    range_ends c.args.task.now c.args.most mode c.parts.ensures.fits (e.pends c.plans.plans.inner) (g.K.Sink.view c.args.sink.now) (g.K.Sink.view c.plans.sink) (g.K.Sink.view c.end_list.new.sink)
+    c.plans.number _ c.plans.invariant.listed within range c.end_list.ensures.ends
 
-pub returns-in-Err-Memory-clause-lists : goal.returns-in-Err-Memory-clause-lists
-returns-in-Err-Memory-clause-lists g c =
-    listed_stops c.args.task.now c.args.most c.args.mode (g.K.Sink.view c.args.sink.now) (g.K.Sink.view c.plans.sink) c.plans.number _ (inr refl) c.plans.invariant.listed (omega arith)
+pub returns-in-Some-Err-Memory-clause-lists : goal.returns-in-Some-Err-Memory-clause-lists
+returns-in-Some-Err-Memory-clause-lists g c =
+    let e = g.I.LazyPlans in
+    given_stops c.args.task.now c.args.most (e.mode c.args.engine) c.parts.ensures.fits (e.pends c.plans.plans.inner) (g.K.Sink.view c.args.sink.now) (g.K.Sink.view c.plans.sink)
+    c.plans.number _ (inr refl) c.plans.invariant.listed (omega arith)
 
 pub plans-preserved : goal.plans-preserved
-plans-preserved g c = record {
-  operators = search rules;
-  listed = listed_more c.args.task.now c.args.mode (g.K.Sink.view c.args.sink.now) (g.K.Sink.view c.plans.sink) (g.K.Sink.view c.put_block.new.sink) c.plans.number c.in-Ok-Some.plan
-      c.plans.invariant.listed (rw c.in-Ok-Some.field-0-is at c.in-Ok-Some.ensures.plan) c.in-Ok-put_block.ensures.ok;
-  quiet = search rules;
-}
+plans-preserved g c =
+    let e = g.I.LazyPlans in
+    let mode = e.mode c.args.engine in
+    let within : c.plans.number < c.args.most = omega arith in
+    let gave = limit_gave e.system e.mode e.most e.pends e.lawful e.last c.args.task.now mode c.args.most c.plans.number c.plans.plans c.next.new.self c.in-Some-Ok.field-0 c.in-Some-Ok.plan c.in-Some-Ok.field-0-is c.plans.invariant.stands within c.in-Some-Ok.ensures.steps in
+    record {
+      stands = stands_more e.system e.mode e.most e.pends e.lawful e.last c.args.task.now mode c.args.most c.plans.number c.plans.plans c.next.new.self c.in-Some-Ok.field-0 c.in-Some-Ok.plan c.in-Some-Ok.field-0-is c.plans.invariant.stands within c.in-Some-Ok.ensures.steps;
+      listed = given_goes_on c.args.task.now c.args.most mode c.parts.ensures.fits (e.pends c.plans.plans.inner) (g.K.Sink.view c.args.sink.now) (e.pends c.next.new.self.inner) c.in-Some-Ok.plan gave
+          (g.K.Sink.view c.plans.sink) (g.K.Sink.view c.put_block.new.sink) c.plans.number c.plans.invariant.listed c.in-Ok.ensures.ok;
+      quiet = search rules;
+    }
 
 pub returns-clause-lists : goal.returns-clause-lists
 returns-clause-lists g c =
-    list_ends c.args.task.now c.args.most c.args.mode c.plans.number (Reached c.args.most) (g.K.Sink.view c.args.sink.now) (g.K.Sink.view c.plans.sink) (g.K.Sink.view c.end_list-2.new.sink) _
-    c.plans.invariant.listed (omega arith, omega arith) c.end_list-2.ensures.ends
+    let e = g.I.LazyPlans in
+    reached_ends c.args.task.now c.args.most (e.mode c.args.engine) c.parts.ensures.fits (e.pends c.plans.plans.inner) (g.K.Sink.view c.args.sink.now) (g.K.Sink.view c.plans.sink) (g.K.Sink.view c.end_list-2.new.sink)
+    c.plans.number _ c.plans.invariant.listed (omega arith) c.end_list-2.ensures.ends

@@ -1,13 +1,17 @@
-use Rattle.std.proofs.Common.{◌≡◌, length}
+use Rattle.std.proofs.Common.{◌≡◌}
+use Rattle.symk_cli.proofs.Given.{IsGiven}
 use Rattle.symk_cli.proofs.Listed.{Listed}
+use Rattle.symk_cli.proofs.Serving.{Stands}
 use Rattle.symk_cli.proofs.planning.list_plans.Given as goal
 
--- the search is the task's, the blocks so far went out, and the sink's count has not moved
+-- so many plans were given, the blocks so far went out and what pends is the rest, and the sink's count has not moved
 abbrev pub invariant-plans : goal.invariant-plans
 invariant-plans g l =
     let view = g.K.Sink.view in
+    let engine = g.I.LazyPlans in
+    let mode = engine.mode l.fn.engine in
     record {
-      operators : l.search.prefixes.operators ≡ length l.task.operators;
-      listed : Listed l.task l.fn.mode (view l.fn.sink) (view l.sink) l.number;
+      stands : Stands engine.system engine.mode engine.most engine.pends engine.lawful engine.last l.task mode l.most l.number l.plans;
+      listed : Listed l.task (IsGiven l.task mode (engine.pends l.plans.inner)) (view l.fn.sink) (view l.sink) l.number;
       quiet : (view l.sink).faults ≡ (view l.fn.sink).faults;
     }

@@ -1,10 +1,13 @@
-use Rattle.std.proofs.Common.{◌≡◌, length}
+use Rattle.symk_task.specs.declared.parts.Mode.TheVariants.{TopK}
 use Rattle.symk_cli.proofs.Costed.{Costed}
+use Rattle.symk_cli.proofs.Serving.{Stands}
 use Rattle.symk_cli.proofs.showing.costs_of.Given as goal
 
--- the search is the task's, and the costs are those of the plans so far
+-- so many plans were given, and the costs are those of the plans so far
 abbrev pub invariant-plans : goal.invariant-plans
-invariant-plans l = record {
-  operators : l.search.prefixes.operators ≡ length l.task.operators;
-  costed : Costed l.task l.costs.cheapest l.costs.dearest l.costs.total l._number;
-}
+invariant-plans g l =
+    let engine = g.I.LazyPlans in
+    record {
+      stands : Stands engine.system engine.mode engine.most engine.pends engine.lawful engine.last l.task TopK 20 l._number l.plans;
+      costed : Costed l.task (engine.pends l.plans.inner) l.costs.cheapest l.costs.dearest l.costs.total l._number;
+    }

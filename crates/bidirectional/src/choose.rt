@@ -1,6 +1,7 @@
 //! Which side goes on.
 
 ghost use Rattle.std.specs.Prelude.{◌≡◌, ◌<◌, ◌≤◌, ◌⊎◌, ◌↔◌, IsTrue, IsFalse, if◌then◌else◌};
+ghost use Rattle.bidirectional.specs.Choices.{Prefers, noted};
 
 /// Chooses the side that goes on.
 pub trait Choose {
@@ -42,6 +43,19 @@ impl Lighter {
     }
 }
 
+/// Any of these choices, as one type: what is made for a type of choice is then made once for all of them.
+#[derive(Clone, Copy, Debug, PartialEq, Eq)]
+pub enum Choice {
+    /// As `AlwaysForward`.
+    Forward,
+    /// As `AlwaysBackward`.
+    Backward,
+    /// As `Lower`.
+    Lower,
+    /// As `Lighter`, with what was noted so far.
+    Lighter(Lighter),
+}
+
 impl Choose for AlwaysForward {
     fn forward_next(&mut self, _f: u128, _b: u128) -> bool
         ensures { IsTrue result }
@@ -49,7 +63,9 @@ impl Choose for AlwaysForward {
         true
     }
 
-    fn note_step(&mut self, _forward: bool, _nodes: usize) {}
+    fn note_step(&mut self, _forward: bool, _nodes: usize)
+        ensures { self.new ≡ self.old }
+    {}
 }
 
 impl Choose for AlwaysBackward {
@@ -59,7 +75,9 @@ impl Choose for AlwaysBackward {
         false
     }
 
-    fn note_step(&mut self, _forward: bool, _nodes: usize) {}
+    fn note_step(&mut self, _forward: bool, _nodes: usize)
+        ensures { self.new ≡ self.old }
+    {}
 }
 
 impl Choose for Lower {
@@ -69,7 +87,9 @@ impl Choose for Lower {
         f <= b
     }
 
-    fn note_step(&mut self, _forward: bool, _nodes: usize) {}
+    fn note_step(&mut self, _forward: bool, _nodes: usize)
+        ensures { self.new ≡ self.old }
+    {}
 }
 
 impl Choose for Lighter {
@@ -92,6 +112,28 @@ impl Choose for Lighter {
             self.ahead = nodes;
         } else {
             self.back = nodes;
+        }
+    }
+}
+
+impl Choose for Choice {
+    fn forward_next(&mut self, f: u128, b: u128) -> bool
+        ensures same { self.new ≡ self.old }
+        ensures prefers { IsTrue result ↔ Prefers self.old f b }
+    {
+        match self {
+            Choice::Forward => AlwaysForward.forward_next(f, b),
+            Choice::Backward => AlwaysBackward.forward_next(f, b),
+            Choice::Lower => Lower.forward_next(f, b),
+            Choice::Lighter(lighter) => lighter.forward_next(f, b),
+        }
+    }
+
+    fn note_step(&mut self, forward: bool, nodes: usize)
+        ensures { self.new ≡ noted self.old forward nodes }
+    {
+        if let Choice::Lighter(lighter) = self {
+            lighter.note_step(forward, nodes);
         }
     }
 }

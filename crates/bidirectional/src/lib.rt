@@ -23,7 +23,7 @@ mod passing;
 mod search;
 mod sides;
 
-pub use choose::{AlwaysBackward, AlwaysForward, Choose, Lighter, Lower};
+pub use choose::{AlwaysBackward, AlwaysForward, Choice, Choose, Lighter, Lower};
 pub use iterating::Cuts;
 pub use plan_cuts::Cut;
 pub use search::{Both, Next, Within};

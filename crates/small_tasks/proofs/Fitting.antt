@@ -8,7 +8,7 @@ use Rattle.symk_task.specs.declared.parts.Variable.{Variable}
 use Rattle.symk_task.specs.declared.parts.Operator.{Operator}
 use Rattle.symk_task.specs.Variables.{range, width, doublings}
 use Rattle.symk_task.specs.Fits.{IsName, InRange, AreFacts, bits_of, FitsVariable, FitsEffect, FitsOperator, FitsRule, MayStand, Fits}
-use Rattle.small_tasks.specs.Tasks.{base, fact, change, idle, plain, lamp, either, any_of_three, a_or_b, done_at, swap, one_switch, switch_and_back, two_switches, axioms, goal_at_start, no_operator, no_plan, zero_costs, conditional_effects, past_64_bits, near_and_far, same_name_twice}
+use Rattle.small_tasks.specs.Tasks.{base, fact, change, idle, plain, lamp, either, any_of_three, a_or_b, done_at, swap, made, two_effects, one_switch, switch_and_back, two_switches, axioms, goal_at_start, no_operator, no_plan, zero_costs, conditional_effects, later_effect_undoes, later_effect_reaches, past_64_bits, near_and_far, same_name_twice}
 use Rattle.small_tasks.proofs.Names.{goes_on, literal}
 
 facts : (variables : List Variable) (fs : List Fact) → length fs ≤ 65536 → AllByRecursion (InRange variables) fs → AreFacts variables fs
@@ -230,6 +230,30 @@ unfolding goes_on width doublings
 conditional_effects_fits = two_fits (base (codes "a") (codes "a0" ∷ codes "a1" ∷ [])) (base (codes "b") (codes "b0" ∷ codes "b1" ∷ [])) 1 0 (fact 0 0 ∷ fact 1 1 ∷ []) (swap ∷ [])
     (pair_fits (codes "a") (codes "a0") (codes "a1") refl refl refl) (pair_fits (codes "b") (codes "b0") (codes "b1") refl refl refl) (lit≤ tt) (lit< tt) (lit< tt)
     (facts a_and_b (fact 0 0 ∷ fact 1 1 ∷ []) (lit≤ tt) (lit< tt, (lit< tt, tt))) (lit≤ tt) (swap_fits, tt)
+
+-- values of the one variable that has two
+two_effects_fit : (earlier later : ℕ) → earlier < 2 → later < 2 → FitsOperator (either ∷ []) (two_effects earlier later)
+unfolding goes_on
+two_effects_fit earlier later e l = record {
+  name = literal (codes "two") refl;
+  prevail = no_facts (either ∷ []);
+  effects = lit≤ tt;
+  each = All-from_recursion (FitsEffect (either ∷ [])) (made earlier ∷ made later ∷ []) (
+    record { conds = no_facts (either ∷ []); on = (refl, e); pre = tt },
+    (record { conds = no_facts (either ∷ []); on = (refl, l); pre = tt }, tt),
+  );
+}
+
+one_way_fits : (earlier later : ℕ) → earlier < 2 → later < 2 → Fits (plain 0 (either ∷ []) (0 ∷ []) (fact 0 1 ∷ []) (two_effects earlier later ∷ []))
+unfolding goes_on width doublings
+one_way_fits earlier later e l = one_fits 0 either (fact 0 1 ∷ []) (two_effects earlier later ∷ []) (lit< tt) either_fits (lit≤ tt) (lit< tt)
+    (facts (either ∷ []) (fact 0 1 ∷ []) (lit≤ tt) (lit< tt, tt)) (lit≤ tt) (two_effects_fit earlier later e l, tt)
+
+pub later_effect_undoes_fits : Fits later_effect_undoes
+later_effect_undoes_fits = one_way_fits 1 0 (lit< tt) (lit< tt)
+
+pub later_effect_reaches_fits : Fits later_effect_reaches
+later_effect_reaches_fits = one_way_fits 0 1 (lit< tt) (lit< tt)
 
 done_fits : (place : ℕ) → place < 3 → FitsRule axioms (done_at place)
 done_fits place small = record {

@@ -18,6 +18,10 @@ fact var val = record { var = var; val = val }
 abbrev pub given : Fact → Fact → Effect
 given held made = record { conds = held ∷ []; var = made.var; pre = None; post = made.val }
 
+-- the first variable has this value afterwards
+abbrev pub made : ℕ → Effect
+made value = record { conds = []; var = 0; pre = None; post = value }
+
 -- changes the variable's value, which it asks for
 abbrev pub change : List ℕ → ℕ → ℕ → ℕ → ℕ → Operator
 change name var from to cost = record { name = name; prevail = []; effects = record { conds = []; var = var; pre = Some from; post = to } ∷ []; cost = cost }
@@ -110,6 +114,23 @@ swap = record {
 -- Two variables whose values are to be exchanged, and the operator that does it.
 abbrev pub conditional_effects : TaskParts
 conditional_effects = plain 0 (base (codes "a") (codes "a0" ∷ codes "a1" ∷ []) ∷ base (codes "b") (codes "b0" ∷ codes "b1" ∷ []) ∷ []) (1 ∷ 0 ∷ []) (fact 0 0 ∷ fact 1 1 ∷ []) (swap ∷ [])
+
+-- gives the first variable one value and then another
+abbrev pub two_effects : ℕ → ℕ → Operator
+two_effects earlier later = record {
+  name = codes "two";
+  prevail = [];
+  effects = made earlier ∷ made later ∷ [];
+  cost = 1;
+}
+
+-- An operator whose earlier effect reaches the goal and whose later one undoes that.
+abbrev pub later_effect_undoes : TaskParts
+later_effect_undoes = plain 0 (either ∷ []) (0 ∷ []) (fact 0 1 ∷ []) (two_effects 1 0 ∷ [])
+
+-- An operator whose later effect reaches the goal, and whose earlier one doesn't.
+abbrev pub later_effect_reaches : TaskParts
+later_effect_reaches = plain 0 (either ∷ []) (0 ∷ []) (fact 0 1 ∷ []) (two_effects 0 1 ∷ [])
 
 -- The only plan costs 2^64.
 abbrev pub past_64_bits : TaskParts

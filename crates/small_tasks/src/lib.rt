@@ -9,6 +9,7 @@ mod stating;
 mod tasks;
 
 pub use tasks::{
-    axioms, conditional_effects, goal_at_start, near_and_far, no_operator, no_plan, one_switch,
-    past_64_bits, same_name_twice, switch_and_back, two_switches, zero_costs,
+    axioms, conditional_effects, goal_at_start, later_effect_reaches, later_effect_undoes,
+    near_and_far, no_operator, no_plan, one_switch, past_64_bits, same_name_twice, switch_and_back,
+    two_switches, zero_costs,
 };

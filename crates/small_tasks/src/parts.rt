@@ -1,7 +1,7 @@
 //! The parts of small tasks.
 
 ghost use Rattle.std.specs.Prelude.{◌≡◌, ◌∷◌, [], IfOk, Some};
-ghost use Rattle.small_tasks.specs.Tasks.{base, fact, given, change, idle, plain};
+ghost use Rattle.small_tasks.specs.Tasks.{base, fact, given, made, change, idle, plain};
 
 use std::alloc::Global;
 use symk_task::{Effect, Fact, List, Memory, Name, Operator, TaskParts, Variable};
@@ -122,6 +122,18 @@ pub fn given(alloc: Global, held: Fact, made: Fact) -> Result<Effect, Memory>
         pre: None,
         post: made.val,
     })
+}
+
+/// The first variable has this value afterwards.
+pub fn made(alloc: Global, value: u32) -> Effect
+    ensures { result ≡ made value }
+{
+    Effect {
+        conds: none(alloc),
+        var: 0,
+        pre: None,
+        post: value,
+    }
 }
 
 /// The operator that changes the variable's value, which it asks for.

@@ -1,10 +1,10 @@
 //! What each task states.
 
 ghost use Rattle.std.specs.Prelude.{◌≡◌, ◌∷◌, [], IfOk, codes};
-ghost use Rattle.small_tasks.specs.Tasks.{lamp, either, any_of_three, a_or_b, done_at, swap, one_switch, switch_and_back, two_switches, axioms, goal_at_start, no_operator, no_plan, zero_costs, conditional_effects, past_64_bits, near_and_far, same_name_twice};
+ghost use Rattle.small_tasks.specs.Tasks.{plain, fact, lamp, either, any_of_three, a_or_b, done_at, swap, two_effects, one_switch, switch_and_back, two_switches, axioms, goal_at_start, no_operator, no_plan, zero_costs, conditional_effects, later_effect_undoes, later_effect_reaches, past_64_bits, near_and_far, same_name_twice};
 
 use crate::parts::{
-    base, change, fact, four, given, idle, name, none, one, pair, plain, three, triple, two,
+    base, change, fact, four, given, idle, made, name, none, one, pair, plain, three, triple, two,
 };
 use std::alloc::Global;
 use symk_task::{Effect, List, Memory, Operator, Rule, TaskParts, Variable};
@@ -185,6 +185,40 @@ pub fn conditional_effects(alloc: Global) -> Result<TaskParts, Memory>
     let goal = two(alloc, fact(0, 0), fact(1, 1))?;
     let operators = one(alloc, swap(alloc)?)?;
     Ok(plain(alloc, 0, variables, initial, goal, operators))
+}
+
+/// The operator that gives the first variable one value and then another.
+fn two_effects(alloc: Global, earlier: u32, later: u32) -> Result<Operator, Memory>
+    ensures { IfOk result (λ operator. operator ≡ two_effects earlier later) }
+{
+    Ok(Operator {
+        name: name(alloc, b"two")?,
+        prevail: none(alloc),
+        effects: two(alloc, made(alloc, earlier), made(alloc, later))?,
+        cost: 1,
+    })
+}
+
+/// A variable that is to have its second value, and an operator.
+fn one_way(alloc: Global, operator: Operator) -> Result<TaskParts, Memory>
+    ensures { IfOk result (λ task. task ≡ plain 0 (either ∷ []) (0 ∷ []) (fact 0 1 ∷ []) (operator ∷ [])) }
+{
+    let variables = one(alloc, either(alloc)?)?;
+    let initial = one(alloc, 0)?;
+    let goal = one(alloc, fact(0, 1))?;
+    Ok(plain(alloc, 0, variables, initial, goal, one(alloc, operator)?))
+}
+
+pub fn later_effect_undoes(alloc: Global) -> Result<TaskParts, Memory>
+    ensures { IfOk result (λ task. task ≡ later_effect_undoes) }
+{
+    one_way(alloc, two_effects(alloc, 1, 0)?)
+}
+
+pub fn later_effect_reaches(alloc: Global) -> Result<TaskParts, Memory>
+    ensures { IfOk result (λ task. task ≡ later_effect_reaches) }
+{
+    one_way(alloc, two_effects(alloc, 0, 1)?)
 }
 
 pub fn past_64_bits(alloc: Global) -> Result<TaskParts, Memory>

@@ -1,7 +1,7 @@
 //! The tasks.
 
 ghost use Rattle.std.specs.Prelude.{◌≡◌, IfOk};
-ghost use Rattle.small_tasks.specs.Tasks.{one_switch, switch_and_back, two_switches, axioms, goal_at_start, no_operator, no_plan, zero_costs, conditional_effects, past_64_bits, near_and_far, same_name_twice};
+ghost use Rattle.small_tasks.specs.Tasks.{one_switch, switch_and_back, two_switches, axioms, goal_at_start, no_operator, no_plan, zero_costs, conditional_effects, later_effect_undoes, later_effect_reaches, past_64_bits, near_and_far, same_name_twice};
 
 use crate::stating;
 use std::alloc::Global;
@@ -68,6 +68,20 @@ pub fn conditional_effects(alloc: Global) -> Result<Task, Memory>
     ensures { IfOk result (λ task. task ≡ conditional_effects) }
 {
     Ok(Task::of(stating::conditional_effects(alloc)?))
+}
+
+/// An operator whose earlier effect reaches the goal and whose later one undoes that.
+pub fn later_effect_undoes(alloc: Global) -> Result<Task, Memory>
+    ensures { IfOk result (λ task. task ≡ later_effect_undoes) }
+{
+    Ok(Task::of(stating::later_effect_undoes(alloc)?))
+}
+
+/// An operator whose later effect reaches the goal, and whose earlier one doesn't.
+pub fn later_effect_reaches(alloc: Global) -> Result<Task, Memory>
+    ensures { IfOk result (λ task. task ≡ later_effect_reaches) }
+{
+    Ok(Task::of(stating::later_effect_reaches(alloc)?))
 }
 
 /// The only plan costs 2^64.

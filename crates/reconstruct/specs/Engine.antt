@@ -3,6 +3,7 @@ use Rattle.std.specs.Prelude.{◌≡◌, ◌↔◌, ℕ, Bool, IsFalse, List, Op
 use Rattle.task_system.specs.System.{State, System, IsPlan, Listed}
 use Rattle.run_graph.specs.Reached.{Useful}
 use Rattle.space_api.specs.View.{View, Valid, Has}
+use Rattle.lazy_plans.specs.Law.{Last}
 use Rattle.lazy_plans.specs.declared.stop.Stop.{Stop}
 use Rattle.bidirectional.specs.Both.{back_layers}
 use Rattle.reconstruct.specs.declared.engine.TopPlans.{TopPlans}
@@ -14,6 +15,10 @@ system_of view x = (view x.space).system
 -- the greatest cost that is wanted, or none
 abbrev pub most_of : {S P Set : Type 0} → TopPlans S P Set → Option ℕ
 most_of x = x.most
+
+-- the answer that ended it
+abbrev pub ended_by : {S P Set : Type 0} → TopPlans S P Set → Last
+ended_by x = x.ended
 
 -- what is still owed, and the same computed
 abbrev pub Pends : {S P Set : Type 0} → (S → View Set) → TopPlans S P Set → List ℕ → Type 0

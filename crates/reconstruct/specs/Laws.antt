@@ -17,6 +17,9 @@ use Rattle.entry_laws.specs.Drawing.{undrawn}
 use Rattle.reconstruct.specs.declared.drawing.Place.{Place}
 use Rattle.reconstruct.specs.Working.{Owes, InRange}
 use Rattle.reconstruct.specs.Pending.{Pending, tells_owed, tells_held, tells_pending, IsHeld}
+use Rattle.bidirectional.specs.Both.{back_layers}
+use Rattle.reconstruct.specs.declared.engine.TopPlans.{TopPlans}
+use Rattle.reconstruct.specs.Engine.{system_of, most_of, Pends, tells, IsEngine}
 
 equal_told : (p q : List ℕ) → Decides (are_equal p q) (p ≡ q)
 equal_told p q = (equal_is p q, λ e. subst (λ (z : List ℕ). are_equal p z ≡ true) e (equal_self p))
@@ -43,7 +46,7 @@ held_told (Some q) p = Decides-like (are_equal q p) (λ e. ap (λ (x : List ℕ)
     inner : (x z : List ℕ) → Some x ≡ Some z → x ≡ z
     inner x z e = cc
 
-pub pending_told : {Set : Type 0} (v : View Set) (back : Layers Set) (listed : Option Place) (queue : List (Entry Set)) (held : Option (List ℕ)) (p : List ℕ) → Decides (tells_pending v back listed queue held p) (Pending v back listed queue held p)
+pending_told : {Set : Type 0} (v : View Set) (back : Layers Set) (listed : Option Place) (queue : List (Entry Set)) (held : Option (List ℕ)) (p : List ℕ) → Decides (tells_pending v back listed queue held p) (Pending v back listed queue held p)
 pending_told v back listed queue held p = Decides-or (tells_owed v back listed queue p) (tells_held held p) (owed_told v back listed queue p) (held_told held p)
 
 -- what pends is fair
@@ -65,8 +68,15 @@ dear_owed : {Set : Type 0} (most : Option ℕ) (v : View Set) (back : Layers Set
 dear_owed most v back None queue p range plan lt = plan
 dear_owed most v back (Some place) queue p range plan lt = (plan, inl (omega (arith, range, lt)))
 
-pub pending_fair : {Set : Type 0} (most : Option ℕ) (v : View Set) (back : Layers Set) (listed : Option Place) (queue : List (Entry Set)) (held : Option (List ℕ)) (ended : Last) → InRange most listed → IsHeld v.system held ended → Fair v.system TopK most (Pending v back listed queue held)
+pending_fair : {Set : Type 0} (most : Option ℕ) (v : View Set) (back : Layers Set) (listed : Option Place) (queue : List (Entry Set)) (held : Option (List ℕ)) (ended : Last) → InRange most listed → IsHeld v.system held ended → Fair v.system TopK most (Pending v back listed queue held)
 pending_fair most v back listed queue held ended range holds = record {
   members = λ p h. elim h [ inl o ↦ owed_plan v back listed queue p o | inr e ↦ held_plan v.system held ended p holds e ];
   dearer = λ p plan lt. inl (dear_owed most v back listed queue p range plan lt);
 }
+
+-- the same of an engine
+pub engine_fair : {S P Set : Type 0} (view : S → View Set) (x : TopPlans S P Set) → IsEngine view x → Fair (system_of view x) TopK (most_of x) (Pends view x)
+engine_fair view x l = pending_fair x.most (view x.space) (back_layers x.both) x.listed x.queue.items x.held x.ended l.ready.range l.holds
+
+pub engine_told : {S P Set : Type 0} (view : S → View Set) (x : TopPlans S P Set) (p : List ℕ) → Decides (tells view x p) (Pends view x p)
+engine_told view x p = pending_told (view x.space) (back_layers x.both) x.listed x.queue.items x.held p

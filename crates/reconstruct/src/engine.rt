@@ -32,9 +32,8 @@ ghost use Rattle.space_api.specs.View.{View};
 ghost use Rattle.symk_task.specs.declared.parts.Mode.TheVariants.{TopK};
 ghost use Rattle.lazy_plans.specs.Law.{Turned, last_of};
 ghost use Rattle.reconstruct.specs.Working.{FewTurns};
-ghost use Rattle.reconstruct.specs.Engine.{system_of, most_of, Pends, tells, IsEngine, KeepsAll, HasRoom, Answers};
-ghost use Rattle.reconstruct.specs.Laws.{pending_fair, pending_told};
-ghost use Rattle.bidirectional.specs.Both.{back_layers};
+ghost use Rattle.reconstruct.specs.Engine.{system_of, most_of, ended_by, Pends, tells, IsEngine, KeepsAll, HasRoom, Answers};
+ghost use Rattle.reconstruct.specs.Laws.{engine_fair, engine_told};
 
 use crate::giving::give;
 use lazy_plans::{LazyPlans, Steps};
@@ -45,9 +44,9 @@ impl<S: Space, P: Choose> TopPlans<S, P> {
     /// engine stops.
     fn ask<L: Ledger>(&mut self, alloc: Global, steps: &mut Steps<L>) -> Result<Option<Plan>, Stop>
         requires engine { IsEngine S.view self.old }
-        requires goes_on { self.old.ended ≡ None }
+        requires goes_on { ended_by self.old ≡ None }
         ensures answers { Answers S.view self.old self.new result }
-        ensures most { self.new.most ≡ self.old.most }
+        ensures most { most_of self.new ≡ most_of self.old }
         ensures steps { FewTurns steps.old steps.new result }
     {
         match give(
@@ -95,7 +94,7 @@ impl<S: Space, P: Choose> LazyPlans for TopPlans<S, P> {
 
     ghost lawful = { λ x. IsEngine S.view x };
 
-    ghost last = { λ x. x.ended };
+    ghost last = { λ x. ended_by x };
 
     /// The next plan. One turn is one step: a plan takes at most as many turns as it has operators, and two; None takes none.
     /// After each call every valid set is one that the engine keeps, and after a plan or None the space is tidy.
@@ -110,8 +109,8 @@ impl<S: Space, P: Choose> LazyPlans for TopPlans<S, P> {
         ensures mode { TopK ≡ TopK }
         ensures most { most_of self.new ≡ most_of self.old }
         ensures law { Turned (system_of S.view self.old) TopK (most_of self.old) (Pends S.view self.old) (Pends S.view self.new) result }
-        ensures last { self.new.ended ≡ last_of result }
-        ensures again { self.old.ended ≢ None → self.new.ended ≡ self.old.ended }
+        ensures last { ended_by self.new ≡ last_of result }
+        ensures again { ended_by self.old ≢ None → ended_by self.new ≡ ended_by self.old }
         ensures steps { FewTurns steps.old steps.new result }
         ensures keeps { KeepsAll S.view self.new }
         ensures tidy { IfOk result (λ o. HasRoom S.view self.new) }
@@ -123,7 +122,7 @@ impl<S: Space, P: Choose> LazyPlans for TopPlans<S, P> {
         }
     }
 
-    ghost fair = { λ x l. pending_fair x.most (S.view x.space) (back_layers x.both) x.listed x.queue.items x.held x.ended l.ready.range l.holds };
+    ghost fair = { λ x l. engine_fair S.view x l };
 
-    ghost told = { λ x l p. pending_told (S.view x.space) (back_layers x.both) x.listed x.queue.items x.held p };
+    ghost told = { λ x l p. engine_told S.view x p };
 }

@@ -4,7 +4,7 @@
 gripper N   A robot with two grippers carries N balls between two rooms.
 tiles N     The sliding tiles on a board of N rows and columns.
 psr N       A power net: two rails with rungs between them. Its 3 breakers and N - 3 switches are open or closed, and rules
-            say which lines are fed and which lead to a fault. N is 4 or more, and one more than a multiple of 3.
+            say which lines are fed and which lead to a fault. N is 7 or more.
 switches N  N switches, each of which one operator turns over, and a rule that says that all are on.
 """
 import sys
@@ -84,13 +84,15 @@ def psr(devices_wanted):
 
     A line is fed where closed switches join it to a closed breaker, and it is bad where they join it to a faulty line. A
     switch between two fed lines is under load, and then nobody turns it. To close a switch between a fed line and a bad one
-    opens all breakers, and a breaker that is closed on a bad line opens at once.
+    opens all breakers, and a breaker that is closed on a bad line opens at once. Where the number of devices asks for one or
+    two switches more, the low rail goes on past the last rung.
     """
     opened, closed, no, yes = 0, 1, 0, 1
     columns, rest = divmod(devices_wanted - 1, 3)
-    if columns < 1 or rest != 0:
+    if columns < 2:
         sys.exit(__doc__)
     lines = [(rail, column) for column in range(columns) for rail in ("top", "low")]
+    lines += [("low", columns + i) for i in range(rest)]
     breaker_lines = [("top", 0), ("low", columns // 2), ("top", columns - 1)]
     faulty = [("low", columns // 4), ("top", columns - 1 - columns // 4)]
     devices = []  # each with the lines that it joins, a breaker with one
@@ -101,6 +103,7 @@ def psr(devices_wanted):
         devices.append((("top", column), ("low", column)))
         if column + 1 < columns:
             devices += [((rail, column), (rail, column + 1)) for rail in ("top", "low")]
+    devices += [(("low", columns + i - 1), ("low", columns + i)) for i in range(rest)]
     name_of = ["-".join(f"{rail}{column}" for rail, column in joined) for joined in devices]
     breakers = [d for d, joined in enumerate(devices) if len(joined) == 1]
     switches = [d for d, joined in enumerate(devices) if len(joined) == 2]

@@ -1,5 +1,5 @@
 #!/usr/bin/env bash
-# How the time of a plan grows with the number of plans and with their steps: 40 switches and a power net of 10 switches and breakers,
+# How the time of a plan grows with the number of plans and with their steps: 40 switches and a power net of 8 switches and breakers,
 # tasks of bench/plan_tasks.py, listed with k of 100, 1,000, 10,000 and 100,000. The program is built first; the time is the median of
 # five runs (`bash bench/per_plan.sh TIMES` for another number), that of the processor, less the median of a run of one plan. Each line
 # has the plans, their steps, the milliseconds for all of them and the microseconds for a step. The last line is `per plan growth G`:
@@ -36,7 +36,7 @@ def median(task, k):
 
 
 growth = 0.0
-for made in ("switches 40", "psr 10"):
+for made in ("switches 40", "psr 8"):
     path = os.path.join(work, made.replace(" ", "-") + ".sas")
     with open(path, "wb") as out:
         subprocess.run([sys.executable, os.path.join(top, "bench", "plan_tasks.py"), *made.split()], stdout=out, check=True)

@@ -9,6 +9,7 @@ use Rattle.bdd_space.specs.Symbolic.{Symbolic, in_set, roots_of}
 -- A set is valid where its place has an Id, and has the states that the Id has. The two constants are no nodes.
 abbrev pub seen : Symbolic → View ℕ
 seen e = record {
+  task = e.task;
   system = system_of e.task;
   valid = λ a. is_some (set_at e.sets a);
   has = λ a. in_set e.order e.nodes (set_at e.sets a);

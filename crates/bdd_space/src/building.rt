@@ -54,6 +54,7 @@ fn own_sets(
 impl<'a> BddSpace<'a> {
     /// The space of the task, with no valid set.
     pub fn of(alloc: Global, task: &'a Task) -> Result<BddSpace<'a>, Memory>
+        ensures task { IfOk result (λ space. space.task ≡ task.now) }
         ensures system { IfOk result (λ space. (seen space).system ≡ system_of task.now) }
         ensures none { IfOk result (λ space. (a : ℕ) → IsFalse ((seen space).valid a)) }
         ensures last { IfOk result (λ space. (seen space).last ≡ 0) }

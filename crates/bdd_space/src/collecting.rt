@@ -68,6 +68,7 @@ impl<'a> BddSpace<'a> {
         ensures stays { Stays (seen self.old) (seen self.new) }
         ensures ok { OnOk result (Collected (Needs self.old) (Needs self.new) (seen self.old) (seen self.new)) }
         ensures err { OnErr result (SameRoom (seen self.old) (seen self.new)) }
+        ensures task { self.new.task ≡ self.old.task }
     {
         let roots = self.roots()?;
         let places = moved(&mut self.ops, roots)?;

@@ -1,6 +1,6 @@
 //! The calls of a space.
 
-ghost use Rattle.std.specs.Prelude.{◌≡◌, ◌+◌, ◌*◌, ◌<◌, ◌≤◌, ◌↔◌, ◌⊎◌, ℕ, length, slice_index, IsTrue, IsFalse, IfOk, OnOk, OnErr};
+ghost use Rattle.std.specs.Prelude.{◌≡◌, ◌+◌, ◌*◌, ◌<◌, ◌≤◌, ◌↔◌, ◌⊎◌, ℕ, length, slice_index, IsTrue, IsFalse, IfOk, OnOk, OnErr, refl};
 ghost use Rattle.task_system.specs.System.{Listed};
 ghost use Rattle.space_api.specs.View.{View, Valid, Has, HasMember, IsEmpty, HasSame, GoalIn, Unites, Meets, Lacks, Image, CostImage, Preimage, CostPreimage};
 ghost use Rattle.space_api.specs.Frames.{Kept, NoMore, Gives, Forgot, Stays};
@@ -17,6 +17,8 @@ impl<'a> Space for BddSpace<'a> {
     ghost view = { seen };
 
     ghost needs = { Needs };
+
+    ghost of_task = { λ _. refl };
 
     fn empty(&mut self) -> Result<usize, SpaceFault> {
         let set = self.none();

@@ -69,6 +69,7 @@ impl<'a> BddSpace<'a> {
         ensures ok { IfOk result (Gives (seen self.old) (seen self.new) (λ s. IsTrue (has_state self.old.order self.old.nodes id s))) }
         ensures err { OnErr result (NoMore (seen self.old) (seen self.new)) }
         ensures last { (seen self.new).last ≡ (seen self.old).last }
+        ensures task { self.new.task ≡ self.old.task }
     {
         self.sets.put(id)
     }

@@ -27,7 +27,7 @@ impl<'a> Model for ExplicitSpace<'a> {
     ghost invariant = { λ a. Keeps a.task.now a.rules a.initial a.costs.items a.sets.items };
 }
 
-ghost use Rattle.std.specs.Prelude.{◌≡◌, ◌<◌, ◌↔◌, ◌⊎◌, ℕ, [], Some, length, slice_index, IsTrue, IsFalse, IfOk, OnErr};
+ghost use Rattle.std.specs.Prelude.{◌≡◌, ◌<◌, ◌↔◌, ◌⊎◌, ℕ, [], Some, length, slice_index, IsTrue, IsFalse, IfOk, OnErr, refl};
 ghost use Rattle.task_system.specs.System.{Listed};
 ghost use Rattle.task_system.specs.Computed.{system_of};
 ghost use Rattle.space_api.specs.View.{View, Valid, Has, HasMember, IsEmpty, HasSame, GoalIn, Unites, Meets, Lacks, Image, CostImage, Preimage, CostPreimage};
@@ -78,6 +78,7 @@ impl<'a> ExplicitSpace<'a> {
         ensures kept { Kept (seen self.old) (seen self.new) }
         ensures ok { IfOk result (Gives (seen self.old) (seen self.new) (λ s. IsTrue (has_state members s))) }
         ensures err { OnErr result (NoMore (seen self.old) (seen self.new)) }
+        ensures task { self.new.task ≡ self.old.task }
     {
         let at = self.sets.len();
         self.sets.push(Some(members))?;
@@ -190,6 +191,8 @@ impl<'a> Space for ExplicitSpace<'a> {
     ghost view = { seen };
 
     ghost needs = { λ _ n. n ≡ 0 };
+
+    ghost of_task = { λ _. refl };
 
     fn empty(&mut self) -> Result<usize, SpaceFault> {
         let none = BTreeSet::new(self.alloc);

@@ -51,11 +51,14 @@ impl<S: Space> Space for FuseSpace<S> {
 
     ghost needs = { λ f. S.needs f.inner };
 
+    ghost of_task = { λ f. S.of_task f.inner };
+
     fn empty(&mut self) -> Result<S::Set, SpaceFault>
         ensures kept { Kept (S.view self.old.inner) (S.view self.new.inner) }
         ensures ok { IfOk result (Gives (S.view self.old.inner) (S.view self.new.inner) (λ _. ⊥)) }
         ensures err { OnErr result (NoMore (S.view self.old.inner) (S.view self.new.inner)) }
         ensures last { (S.view self.new.inner).last ≡ (S.view self.old.inner).last }
+        ensures task { (S.view self.new.inner).task ≡ (S.view self.old.inner).task }
         ensures left { self.new.left ≡ self.old.left - 1 }
         ensures spent { self.old.left ≡ 0 → IsErr result × (self.new.inner ≡ self.old.inner) }
     {
@@ -68,6 +71,7 @@ impl<S: Space> Space for FuseSpace<S> {
         ensures ok { IfOk result (Gives (S.view self.old.inner) (S.view self.new.inner) (Listed (S.view self.old.inner).system.states)) }
         ensures err { OnErr result (NoMore (S.view self.old.inner) (S.view self.new.inner)) }
         ensures last { (S.view self.new.inner).last ≡ (S.view self.old.inner).last }
+        ensures task { (S.view self.new.inner).task ≡ (S.view self.old.inner).task }
         ensures left { self.new.left ≡ self.old.left - 1 }
         ensures spent { self.old.left ≡ 0 → IsErr result × (self.new.inner ≡ self.old.inner) }
     {
@@ -80,6 +84,7 @@ impl<S: Space> Space for FuseSpace<S> {
         ensures ok { IfOk result (Gives (S.view self.old.inner) (S.view self.new.inner) (λ s. s ≡ (S.view self.old.inner).system.initial)) }
         ensures err { OnErr result (NoMore (S.view self.old.inner) (S.view self.new.inner)) }
         ensures last { (S.view self.new.inner).last ≡ (S.view self.old.inner).last }
+        ensures task { (S.view self.new.inner).task ≡ (S.view self.old.inner).task }
         ensures left { self.new.left ≡ self.old.left - 1 }
         ensures spent { self.old.left ≡ 0 → IsErr result × (self.new.inner ≡ self.old.inner) }
     {
@@ -93,6 +98,7 @@ impl<S: Space> Space for FuseSpace<S> {
         ensures ok { IfOk result (Gives (S.view self.old.inner) (S.view self.new.inner) (GoalIn (S.view self.old.inner) a)) }
         ensures err { OnErr result (NoMore (S.view self.old.inner) (S.view self.new.inner)) }
         ensures last { (S.view self.new.inner).last ≡ (S.view self.old.inner).last }
+        ensures task { (S.view self.new.inner).task ≡ (S.view self.old.inner).task }
         ensures left { self.new.left ≡ self.old.left - 1 }
         ensures spent { self.old.left ≡ 0 → IsErr result × (self.new.inner ≡ self.old.inner) }
     {
@@ -107,6 +113,7 @@ impl<S: Space> Space for FuseSpace<S> {
         ensures ok { IfOk result (Gives (S.view self.old.inner) (S.view self.new.inner) (Unites (S.view self.old.inner) a b)) }
         ensures err { OnErr result (NoMore (S.view self.old.inner) (S.view self.new.inner)) }
         ensures last { (S.view self.new.inner).last ≡ (S.view self.old.inner).last }
+        ensures task { (S.view self.new.inner).task ≡ (S.view self.old.inner).task }
         ensures left { self.new.left ≡ self.old.left - 1 }
         ensures spent { self.old.left ≡ 0 → IsErr result × (self.new.inner ≡ self.old.inner) }
     {
@@ -121,6 +128,7 @@ impl<S: Space> Space for FuseSpace<S> {
         ensures ok { IfOk result (Gives (S.view self.old.inner) (S.view self.new.inner) (Meets (S.view self.old.inner) a b)) }
         ensures err { OnErr result (NoMore (S.view self.old.inner) (S.view self.new.inner)) }
         ensures last { (S.view self.new.inner).last ≡ (S.view self.old.inner).last }
+        ensures task { (S.view self.new.inner).task ≡ (S.view self.old.inner).task }
         ensures left { self.new.left ≡ self.old.left - 1 }
         ensures spent { self.old.left ≡ 0 → IsErr result × (self.new.inner ≡ self.old.inner) }
     {
@@ -135,6 +143,7 @@ impl<S: Space> Space for FuseSpace<S> {
         ensures ok { IfOk result (Gives (S.view self.old.inner) (S.view self.new.inner) (Lacks (S.view self.old.inner) a b)) }
         ensures err { OnErr result (NoMore (S.view self.old.inner) (S.view self.new.inner)) }
         ensures last { (S.view self.new.inner).last ≡ (S.view self.old.inner).last }
+        ensures task { (S.view self.new.inner).task ≡ (S.view self.old.inner).task }
         ensures left { self.new.left ≡ self.old.left - 1 }
         ensures spent { self.old.left ≡ 0 → IsErr result × (self.new.inner ≡ self.old.inner) }
     {
@@ -148,6 +157,7 @@ impl<S: Space> Space for FuseSpace<S> {
         ensures ok { IfOk result (Gives (S.view self.old.inner) (S.view self.new.inner) (CostImage (S.view self.old.inner) w a)) }
         ensures err { OnErr result (NoMore (S.view self.old.inner) (S.view self.new.inner)) }
         ensures last { (S.view self.new.inner).last ≡ (S.view self.old.inner).last }
+        ensures task { (S.view self.new.inner).task ≡ (S.view self.old.inner).task }
         ensures left { self.new.left ≡ self.old.left - 1 }
         ensures spent { self.old.left ≡ 0 → IsErr result × (self.new.inner ≡ self.old.inner) }
     {
@@ -162,6 +172,7 @@ impl<S: Space> Space for FuseSpace<S> {
         ensures ok { IfOk result (Gives (S.view self.old.inner) (S.view self.new.inner) (Image (S.view self.old.inner) op a)) }
         ensures err { OnErr result (NoMore (S.view self.old.inner) (S.view self.new.inner)) }
         ensures last { (S.view self.new.inner).last ≡ (S.view self.old.inner).last }
+        ensures task { (S.view self.new.inner).task ≡ (S.view self.old.inner).task }
         ensures left { self.new.left ≡ self.old.left - 1 }
         ensures spent { self.old.left ≡ 0 → IsErr result × (self.new.inner ≡ self.old.inner) }
     {
@@ -176,6 +187,7 @@ impl<S: Space> Space for FuseSpace<S> {
         ensures ok { IfOk result (Gives (S.view self.old.inner) (S.view self.new.inner) (CostPreimage (S.view self.old.inner) w a within)) }
         ensures err { OnErr result (NoMore (S.view self.old.inner) (S.view self.new.inner)) }
         ensures last { (S.view self.new.inner).last ≡ (S.view self.old.inner).last }
+        ensures task { (S.view self.new.inner).task ≡ (S.view self.old.inner).task }
         ensures left { self.new.left ≡ self.old.left - 1 }
         ensures spent { self.old.left ≡ 0 → IsErr result × (self.new.inner ≡ self.old.inner) }
     {
@@ -191,6 +203,7 @@ impl<S: Space> Space for FuseSpace<S> {
         ensures ok { IfOk result (Gives (S.view self.old.inner) (S.view self.new.inner) (Preimage (S.view self.old.inner) op a within)) }
         ensures err { OnErr result (NoMore (S.view self.old.inner) (S.view self.new.inner)) }
         ensures last { (S.view self.new.inner).last ≡ (S.view self.old.inner).last }
+        ensures task { (S.view self.new.inner).task ≡ (S.view self.old.inner).task }
         ensures left { self.new.left ≡ self.old.left - 1 }
         ensures spent { self.old.left ≡ 0 → IsErr result × (self.new.inner ≡ self.old.inner) }
     {
@@ -218,6 +231,7 @@ impl<S: Space> Space for FuseSpace<S> {
         ensures stays { Stays (S.view self.old.inner) (S.view self.new.inner) }
         ensures ok { OnOk result (Tidied (S.needs self.old.inner) (S.needs self.new.inner) (S.view self.old.inner) (S.view self.new.inner)) }
         ensures err { OnErr result (SameRoom (S.view self.old.inner) (S.view self.new.inner)) }
+        ensures task { (S.view self.new.inner).task ≡ (S.view self.old.inner).task }
         ensures left { self.new.left ≡ self.old.left - 1 }
         ensures spent { self.old.left ≡ 0 → IsErr result × (self.new.inner ≡ self.old.inner) }
     {

@@ -22,6 +22,7 @@ pub record Gives {Set : Type 0} (v w : View Set) (P : State → Type 0) (r : Set
 
 -- a is no longer valid, and all else stays
 pub record Forgot {Set : Type 0} (v w : View Set) (a : Set) : Type 0 where
+  pub task : w.task ≡ v.task
   pub system : w.system ≡ v.system
   pub gone : IsFalse (w.valid a)
   pub valid : (b : Set) → Valid v b → b ≢ a → Valid w b

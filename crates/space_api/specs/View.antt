@@ -1,9 +1,11 @@
--- What a space tells: its system, which sets are valid, and which states each has; and how many nodes it holds, and how many
--- it needed after it last collected.
+-- What a space tells: its task and the task's system, which sets are valid, and which states each has; and how many nodes it
+-- holds, and how many it needed after it last collected.
 use Rattle.std.specs.Prelude.{◌≡◌, ℕ, Bool, IsTrue, IsFalse, ◌⊎◌}
+use Rattle.symk_task.specs.declared.parts.TaskParts.{TaskParts}
 use Rattle.task_system.specs.System.{State, System, Leads, Listed}
 
 pub record View (Set : Type 0) : Type 0 where
+  pub task : TaskParts
   pub system : System
   pub valid : Set → Bool
   pub has : Set → State → Bool

@@ -12,6 +12,7 @@ pub fn meets<S: Space>(space: &mut S, a: S::Set, b: S::Set) -> Result<bool, Spac
     requires a { Valid (S.view space.old) a }
     requires b { Valid (S.view space.old) b }
     ensures stays { Stays (S.view space.old) (S.view space.new) }
+    ensures task { (S.view space.new).task ≡ (S.view space.old).task }
     ensures ok { IfOk result (λ meet. IsTrue meet ↔ ((s : State) × Meets (S.view space.old) a b s)) }
 {
     let both = space.meet(a, b)?;

@@ -2,6 +2,7 @@
 
 ghost use Rattle.std.specs.Prelude.{◌≡◌, ◌+◌, ◌*◌, ◌<◌, ◌≤◌, ◌↔◌, ℕ, IsTrue, IsFalse, IfOk, OnOk, OnErr, length, slice_index};
 ghost use Rattle.task_system.specs.System.{State, Listed};
+ghost use Rattle.task_system.specs.Computed.{system_of};
 ghost use Rattle.space_api.specs.View.{View, Valid, Has, HasMember, IsEmpty, HasSame, GoalIn, Unites, Meets, Lacks, Image, CostImage, Preimage, CostPreimage};
 ghost use Rattle.space_api.specs.Frames.{Kept, NoMore, Gives, Forgot, Stays};
 ghost use Rattle.space_api.specs.Tidied.{Tidied, SameRoom};
@@ -12,16 +13,16 @@ use symk_task::Memory;
 /// Why a call of a space is refused: want of memory alone.
 pub type SpaceFault = Memory;
 
-/// Sets of states of one transition system.
+/// Sets of states of one task.
 ///
 /// Each call is given valid sets of this space. Each call that gives a set gives one that was not valid before; it is
-/// valid until it is handed to `forget`. No call changes the system or what a valid set has, and a refused call makes no
-/// set valid.
+/// valid until it is handed to `forget`. No call changes the task or what a valid set has, and a refused call makes no set
+/// valid.
 pub trait Space {
     /// A name of a set. It is copied freely; the set is given back once, by `forget`.
     type Set: Copy;
 
-    /// The system, which sets are valid, which states each has, and how many nodes are held and were needed last.
+    /// The task and its system, which sets are valid, which states each has, and how many nodes are held and were needed last.
     ghost view: { Self → View Self.Set };
 
     /// Whether the space needs just so many nodes for its valid sets and for itself.
@@ -32,21 +33,24 @@ pub trait Space {
         ensures kept { Kept (view self.old) (view self.new) }
         ensures ok { IfOk result (Gives (view self.old) (view self.new) (λ _. ⊥)) }
         ensures err { OnErr result (NoMore (view self.old) (view self.new)) }
-        ensures last { (view self.new).last ≡ (view self.old).last };
+        ensures last { (view self.new).last ≡ (view self.old).last }
+        ensures task { (view self.new).task ≡ (view self.old).task };
 
     /// Every state of the system.
     fn all(&mut self) -> Result<Self::Set, SpaceFault>
         ensures kept { Kept (view self.old) (view self.new) }
         ensures ok { IfOk result (Gives (view self.old) (view self.new) (Listed (view self.old).system.states)) }
         ensures err { OnErr result (NoMore (view self.old) (view self.new)) }
-        ensures last { (view self.new).last ≡ (view self.old).last };
+        ensures last { (view self.new).last ≡ (view self.old).last }
+        ensures task { (view self.new).task ≡ (view self.old).task };
 
     /// The initial state alone.
     fn init(&mut self) -> Result<Self::Set, SpaceFault>
         ensures kept { Kept (view self.old) (view self.new) }
         ensures ok { IfOk result (Gives (view self.old) (view self.new) (λ s. s ≡ (view self.old).system.initial)) }
         ensures err { OnErr result (NoMore (view self.old) (view self.new)) }
-        ensures last { (view self.new).last ≡ (view self.old).last };
+        ensures last { (view self.new).last ≡ (view self.old).last }
+        ensures task { (view self.new).task ≡ (view self.old).task };
 
     /// The states of `a` where the goal holds.
     fn goal_in(&mut self, a: Self::Set) -> Result<Self::Set, SpaceFault>
@@ -54,7 +58,8 @@ pub trait Space {
         ensures kept { Kept (view self.old) (view self.new) }
         ensures ok { IfOk result (Gives (view self.old) (view self.new) (GoalIn (view self.old) a)) }
         ensures err { OnErr result (NoMore (view self.old) (view self.new)) }
-        ensures last { (view self.new).last ≡ (view self.old).last };
+        ensures last { (view self.new).last ≡ (view self.old).last }
+        ensures task { (view self.new).task ≡ (view self.old).task };
 
     /// The states of `a` or `b`.
     fn unite(&mut self, a: Self::Set, b: Self::Set) -> Result<Self::Set, SpaceFault>
@@ -63,7 +68,8 @@ pub trait Space {
         ensures kept { Kept (view self.old) (view self.new) }
         ensures ok { IfOk result (Gives (view self.old) (view self.new) (Unites (view self.old) a b)) }
         ensures err { OnErr result (NoMore (view self.old) (view self.new)) }
-        ensures last { (view self.new).last ≡ (view self.old).last };
+        ensures last { (view self.new).last ≡ (view self.old).last }
+        ensures task { (view self.new).task ≡ (view self.old).task };
 
     /// The states of both `a` and `b`.
     fn meet(&mut self, a: Self::Set, b: Self::Set) -> Result<Self::Set, SpaceFault>
@@ -72,7 +78,8 @@ pub trait Space {
         ensures kept { Kept (view self.old) (view self.new) }
         ensures ok { IfOk result (Gives (view self.old) (view self.new) (Meets (view self.old) a b)) }
         ensures err { OnErr result (NoMore (view self.old) (view self.new)) }
-        ensures last { (view self.new).last ≡ (view self.old).last };
+        ensures last { (view self.new).last ≡ (view self.old).last }
+        ensures task { (view self.new).task ≡ (view self.old).task };
 
     /// The states of `a` that are not in `b`.
     fn minus(&mut self, a: Self::Set, b: Self::Set) -> Result<Self::Set, SpaceFault>
@@ -81,7 +88,8 @@ pub trait Space {
         ensures kept { Kept (view self.old) (view self.new) }
         ensures ok { IfOk result (Gives (view self.old) (view self.new) (Lacks (view self.old) a b)) }
         ensures err { OnErr result (NoMore (view self.old) (view self.new)) }
-        ensures last { (view self.new).last ≡ (view self.old).last };
+        ensures last { (view self.new).last ≡ (view self.old).last }
+        ensures task { (view self.new).task ≡ (view self.old).task };
 
     /// The states to which operators of cost `w` lead from states of `a`.
     fn image_cost(&mut self, w: u64, a: Self::Set) -> Result<Self::Set, SpaceFault>
@@ -89,7 +97,8 @@ pub trait Space {
         ensures kept { Kept (view self.old) (view self.new) }
         ensures ok { IfOk result (Gives (view self.old) (view self.new) (CostImage (view self.old) w a)) }
         ensures err { OnErr result (NoMore (view self.old) (view self.new)) }
-        ensures last { (view self.new).last ≡ (view self.old).last };
+        ensures last { (view self.new).last ≡ (view self.old).last }
+        ensures task { (view self.new).task ≡ (view self.old).task };
 
     /// The states to which the operator leads from those states of `a` to which it applies.
     fn image_op(&mut self, op: u32, a: Self::Set) -> Result<Self::Set, SpaceFault>
@@ -98,7 +107,8 @@ pub trait Space {
         ensures kept { Kept (view self.old) (view self.new) }
         ensures ok { IfOk result (Gives (view self.old) (view self.new) (Image (view self.old) op a)) }
         ensures err { OnErr result (NoMore (view self.old) (view self.new)) }
-        ensures last { (view self.new).last ≡ (view self.old).last };
+        ensures last { (view self.new).last ≡ (view self.old).last }
+        ensures task { (view self.new).task ≡ (view self.old).task };
 
     /// The states of `within` from which an operator of cost `w` leads to a state of `a`.
     fn pre_cost(&mut self, w: u64, a: Self::Set, within: Self::Set) -> Result<Self::Set, SpaceFault>
@@ -107,7 +117,8 @@ pub trait Space {
         ensures kept { Kept (view self.old) (view self.new) }
         ensures ok { IfOk result (Gives (view self.old) (view self.new) (CostPreimage (view self.old) w a within)) }
         ensures err { OnErr result (NoMore (view self.old) (view self.new)) }
-        ensures last { (view self.new).last ≡ (view self.old).last };
+        ensures last { (view self.new).last ≡ (view self.old).last }
+        ensures task { (view self.new).task ≡ (view self.old).task };
 
     /// The states of `within` from which the operator leads to a state of `a`.
     fn pre_op(&mut self, op: u32, a: Self::Set, within: Self::Set) -> Result<Self::Set, SpaceFault>
@@ -117,7 +128,8 @@ pub trait Space {
         ensures kept { Kept (view self.old) (view self.new) }
         ensures ok { IfOk result (Gives (view self.old) (view self.new) (Preimage (view self.old) op a within)) }
         ensures err { OnErr result (NoMore (view self.old) (view self.new)) }
-        ensures last { (view self.new).last ≡ (view self.old).last };
+        ensures last { (view self.new).last ≡ (view self.old).last }
+        ensures task { (view self.new).task ≡ (view self.old).task };
 
     /// Gives a set back. It takes no memory.
     fn forget(&mut self, a: Self::Set)
@@ -137,7 +149,8 @@ pub trait Space {
     fn tidy(&mut self) -> Result<(), SpaceFault>
         ensures stays { Stays (view self.old) (view self.new) }
         ensures ok { OnOk result (Tidied (needs self.old) (needs self.new) (view self.old) (view self.new)) }
-        ensures err { OnErr result (SameRoom (view self.old) (view self.new)) };
+        ensures err { OnErr result (SameRoom (view self.old) (view self.new)) }
+        ensures task { (view self.new).task ≡ (view self.old).task };
 
     /// Whether the set has no state.
     fn is_empty(&self, a: Self::Set) -> bool
@@ -173,4 +186,7 @@ pub trait Space {
     fn cost_of(&self, op: u32) -> u64
         requires { op < (view self.now).system.operators }
         ensures { result ≡ (view self.now).system.cost op };
+
+    /// The system is that of the task.
+    ghost of_task: { (x : Self) → (view x).system ≡ system_of (view x).task };
 }

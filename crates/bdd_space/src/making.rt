@@ -4,6 +4,7 @@ ghost use Rattle.std.specs.Prelude.{◌≡◌, IfOk};
 ghost use Rattle.task_system.specs.System.{Listed};
 ghost use Rattle.space_api.specs.View.{Valid, GoalIn, Unites, Meets, Lacks};
 ghost use Rattle.space_api.specs.Frames.{Kept};
+ghost use Rattle.space_api.specs.Listing.{ListsReached};
 ghost use Rattle.bdd_space.specs.Symbolic.{Grows, Makes};
 ghost use Rattle.bdd_space.specs.Seen.{seen};
 
@@ -22,7 +23,8 @@ impl<'a> BddSpace<'a> {
 
     /// Every state.
     pub(crate) fn every(&self) -> Id
-        ensures { Makes self.now (Listed (seen self.now).system.states) result }
+        ensures reached { ListsReached (seen self.now).system }
+        ensures made { Makes self.now (Listed (seen self.now).system.states) result }
     {
         self.own.all
     }

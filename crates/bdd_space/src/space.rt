@@ -5,6 +5,7 @@ ghost use Rattle.task_system.specs.System.{Listed};
 ghost use Rattle.space_api.specs.View.{View, Valid, Has, HasMember, IsEmpty, HasSame, GoalIn, Unites, Meets, Lacks, Image, CostImage, Preimage, CostPreimage};
 ghost use Rattle.space_api.specs.Frames.{Kept, NoMore, Gives, Forgot, Stays};
 ghost use Rattle.space_api.specs.Tidied.{Tidied, SameRoom};
+ghost use Rattle.space_api.specs.Listing.{ListsReached};
 ghost use Rattle.space_api.specs.Costs.{costs_of};
 ghost use Rattle.bdd_space.specs.Seen.{seen, Needs};
 

@@ -32,6 +32,7 @@ ghost use Rattle.task_system.specs.System.{Listed};
 ghost use Rattle.task_system.specs.Computed.{system_of};
 ghost use Rattle.space_api.specs.View.{View, Valid, Has, HasMember, IsEmpty, HasSame, GoalIn, Unites, Meets, Lacks, Image, CostImage, Preimage, CostPreimage};
 ghost use Rattle.space_api.specs.Frames.{Kept, NoMore, Gives, Forgot};
+ghost use Rattle.space_api.specs.Listing.{ListsReached};
 ghost use Rattle.space_api.specs.Costs.{costs_of};
 ghost use Rattle.explicit_space.specs.Members.{has_state, AreStates, HasThose};
 ghost use Rattle.explicit_space.specs.Explicit.{set_at};
@@ -88,6 +89,7 @@ impl<'a> ExplicitSpace<'a> {
     fn every_state(&self) -> Result<BTreeSet<State>, Memory>
         ensures states { IfOk result (AreStates self.now.task) }
         ensures ok { IfOk result (λ set. HasThose set (Listed (seen self.now).system.states)) }
+        ensures reached { ListsReached (seen self.now).system }
     {
         all_states(self.alloc, self.task.parts().variables.as_slice())
     }

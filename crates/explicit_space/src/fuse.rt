@@ -5,6 +5,7 @@ ghost use Rattle.task_system.specs.System.{Listed};
 ghost use Rattle.space_api.specs.View.{View, Valid, GoalIn, Unites, Meets, Lacks, Image, CostImage, Preimage, CostPreimage};
 ghost use Rattle.space_api.specs.Frames.{Kept, NoMore, Gives, Forgot, Stays};
 ghost use Rattle.space_api.specs.Tidied.{Tidied, SameRoom};
+ghost use Rattle.space_api.specs.Listing.{ListsReached};
 
 use space_api::{Space, SpaceFault};
 use std::alloc::AllocError;
@@ -67,6 +68,7 @@ impl<S: Space> Space for FuseSpace<S> {
     }
 
     fn all(&mut self) -> Result<S::Set, SpaceFault>
+        ensures reached { IfOk result (λ _. ListsReached (S.view self.old.inner).system) }
         ensures kept { Kept (S.view self.old.inner) (S.view self.new.inner) }
         ensures ok { IfOk result (Gives (S.view self.old.inner) (S.view self.new.inner) (Listed (S.view self.old.inner).system.states)) }
         ensures err { OnErr result (NoMore (S.view self.old.inner) (S.view self.new.inner)) }

@@ -1,5 +1,6 @@
 pub mod View
 pub mod Frames
 pub mod Owned
+pub mod Listing
 pub mod Costs
 pub mod Tidied

@@ -6,6 +6,7 @@ ghost use Rattle.task_system.specs.Computed.{system_of};
 ghost use Rattle.space_api.specs.View.{View, Valid, Has, HasMember, IsEmpty, HasSame, GoalIn, Unites, Meets, Lacks, Image, CostImage, Preimage, CostPreimage};
 ghost use Rattle.space_api.specs.Frames.{Kept, NoMore, Gives, Forgot, Stays};
 ghost use Rattle.space_api.specs.Tidied.{Tidied, SameRoom};
+ghost use Rattle.space_api.specs.Listing.{ListsReached};
 ghost use Rattle.space_api.specs.Costs.{costs_of};
 
 use symk_task::Memory;
@@ -36,8 +37,9 @@ pub trait Space {
         ensures last { (view self.new).last ≡ (view self.old).last }
         ensures task { (view self.new).task ≡ (view self.old).task };
 
-    /// Every state of the system.
+    /// Every state of the system. The initial state is one, and no operator leads out of them.
     fn all(&mut self) -> Result<Self::Set, SpaceFault>
+        ensures reached { IfOk result (λ _. ListsReached (view self.old).system) }
         ensures kept { Kept (view self.old) (view self.new) }
         ensures ok { IfOk result (Gives (view self.old) (view self.new) (Listed (view self.old).system.states)) }
         ensures err { OnErr result (NoMore (view self.old) (view self.new)) }

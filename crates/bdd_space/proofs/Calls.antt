@@ -1,12 +1,15 @@
 -- What the calls of a space owe, from what the operations on its table say. The space is `e` inside, and `old` to its callers.
-use Rattle.std.proofs.Common.{◌≡◌, ℕ, ◌<◌, not, ◌&&◌, ◌||◌, List, length, Some, IsTrue, Result, Ok, Err, IfOk, OnErr, sym, ◌∙◌, ap, subst, arith}
+use Rattle.std.proofs.Common.{◌≡◌, ℕ, ◌<◌, ◌==◌, not, ◌&&◌, ◌||◌, List, length, Some, IsSome, IsTrue, Result, Ok, Err, IfOk, OnErr, sym, ◌∙◌, ap, subst, arith}
 use Rattle.symk_task.specs.declared.parts.TaskParts.{TaskParts}
-use Rattle.var_order.specs.Layout.{Layout}
+use Rattle.var_order.specs.Layout.{Layout, slot_of}
+use Rattle.var_order.specs.Codes.{IsCode, value_in}
+use Rattle.symk_task.specs.declared.parts.Fact.{Fact}
+use Rattle.symk_task.specs.Variables.{IsBase}
 use Rattle.symk_task.specs.Steps.{Step}
 use Rattle.bdd_table.specs.declared.node.Node.{Node}
 use Rattle.bdd_table.specs.Diagram.{Bits, means, Keeps}
 use Rattle.transitions.specs.Relations.{Names}
-use Rattle.space_api.specs.View.{GoalIn, Unites, Meets, Lacks, Image, CostImage, Preimage, CostPreimage}
+use Rattle.space_api.specs.View.{GoalIn, FactIn, Unites, Meets, Lacks, Image, CostImage, Preimage, CostPreimage}
 use Rattle.space_api.specs.Frames.{Kept, NoMore, Gives}
 use Rattle.operator_relations.specs.Steps.{StepOfCost, ImageBy, PreimageBy}
 use Rattle.operator_relations.specs.Relations.{AreAsked}
@@ -17,6 +20,7 @@ use Rattle.bdd_space.specs.Symbolic.{Symbolic, IsSpace, Grows, Makes}
 use Rattle.bdd_space.specs.Seen.{seen}
 use Rattle.space_api.proofs.Keeping.{kept_refl}
 use Rattle.bdd_space.proofs.Keeping.{over, with_sets, grows, kept_grown, id_there, space_put, kept_put, gives_put}
+use Rattle.bdd_space.proofs.Chosen.{slot_there, fact_made}
 use Rattle.bdd_space.proofs.Made.{goals_made, united_made, common_made, left_made}
 use Rattle.bdd_space.proofs.Stepping.{image_made, cost_image_made, preimage_made, cost_preimage_made}
 
@@ -38,6 +42,13 @@ module _ (e old : Symbolic) (start : List ℕ) (i : IsSpace e start) (same : e �
       let count = single.operators in
       let lt_inside : op < length e.task.operators = subst (λ (x : Symbolic). op < length x.task.operators) (sym same) lt in
       omega (arith, count, lt_inside)
+
+  -- a base variable has a value in each state
+  base_by : (fact : Fact) → IsBase old.task fact.var → IsBase e.task fact.var
+  base_by fact base = subst (λ (x : Symbolic). IsBase x.task fact.var) (sym same) base
+
+  pub slot_by : (fact : Fact) → IsBase old.task fact.var → IsSome (slot_of e.order fact.var)
+  slot_by fact base = slot_there e start i fact (base_by fact base)
 
   module _ (a f : ℕ) (is : set_at old.sets a ≡ Some f) where
     here : set_at e.sets a ≡ Some f
@@ -80,6 +91,15 @@ module _ (e old : Symbolic) (start : List ℕ) (i : IsSpace e start) (same : e �
       pub cost_image_by : (cost : ℕ) → IfOk r (λ id. (task : TaskParts) (o : Layout) → AreAsked task o e.nodes e.relations f → Names o (ImageBy o (StepOfCost task cost) (means e.nodes f)) (means new id)) → IfOk r (Makes (over e new) (CostImage (seen old) cost a))
       cost_image_by cost names = ok_both r (λ id. id < length new) (λ id. (task : TaskParts) (o : Layout) → AreAsked task o e.nodes e.relations f → Names o (ImageBy o (StepOfCost task cost) (means e.nodes f)) (means new id)) (Makes (over e new) (CostImage (seen old) cost a)) known names
           (λ id k m. subst (λ (x : Symbolic). Makes (over e new) (CostImage (seen x) cost a) id) same (cost_image_made e start i a f here cost new id (record { known = k; names = m e.task e.order asked_by })))
+
+    -- the states where a fact holds: `facts` over the table in the middle
+
+    module _ {E : Type 0} (fact : Fact) (base : IsBase old.task fact.var) (mid new : List Node) (facts : ℕ) (k : Keeps e.nodes mid)
+        (r : Result ℕ E) (known : IfOk r (λ id. id < length new)) (meaning : IfOk r (λ id. (v : Bits) → means new id v ≡ (means mid f v && means mid facts v))) where
+      pub fact_by : ((s : List ℕ) (b : Bits) → IsCode e.order 0 s b → means mid facts b ≡ (value_in e.order s fact.var == fact.val)) → IfOk r (Makes (over e new) (FactIn (seen old) fact a))
+      fact_by says = ok_both r (λ id. id < length new) (λ id. (v : Bits) → means new id v ≡ (means mid f v && means mid facts v)) (Makes (over e new) (FactIn (seen old) fact a)) known meaning
+          (λ id in_new m. subst (λ (x : Symbolic). Makes (over e new) (FactIn (seen x) fact a) id) same
+          (fact_made e start i fact (base_by fact base) a f here mid new facts id k in_new m says))
 
     -- preimages: `found` over the table in the middle, cut to the other set
 

@@ -2,6 +2,7 @@ pub mod Having
 pub mod Keeping
 pub mod Stepping
 pub mod Made
+pub mod Chosen
 pub mod Asked
 pub mod Needing
 pub mod Moved

@@ -1,16 +1,18 @@
 //! Sets made of others.
 
 ghost use Rattle.std.specs.Prelude.{◌≡◌, IfOk};
+ghost use Rattle.symk_task.specs.Variables.{IsBase};
 ghost use Rattle.task_system.specs.System.{Listed};
-ghost use Rattle.space_api.specs.View.{Valid, GoalIn, Unites, Meets, Lacks};
+ghost use Rattle.space_api.specs.View.{Valid, GoalIn, FactIn, Unites, Meets, Lacks};
 ghost use Rattle.space_api.specs.Frames.{Kept};
 ghost use Rattle.space_api.specs.Listing.{ListsReached};
 ghost use Rattle.bdd_space.specs.Symbolic.{Grows, Makes};
 ghost use Rattle.bdd_space.specs.Seen.{seen};
 
 use crate::symbolic::BddSpace;
+use bdd_sets::fact_set;
 use bdd_table::{FALSE, Id};
-use symk_task::Memory;
+use symk_task::{Fact, Memory};
 
 impl<'a> BddSpace<'a> {
     /// No state.
@@ -45,6 +47,19 @@ impl<'a> BddSpace<'a> {
     {
         let set = self.id(a);
         self.ops.conj(set, self.own.goals)
+    }
+
+    /// The states of a set where the fact of a base variable holds.
+    pub(crate) fn facts_of(&mut self, fact: Fact, a: usize) -> Result<Id, Memory>
+        requires fact { IsBase self.old.task fact.var }
+        requires a { Valid (seen self.old) a }
+        ensures made { IfOk result (Makes self.new (FactIn (seen self.old) fact a)) }
+        ensures grows { Grows self.old self.new }
+        ensures kept { Kept (seen self.old) (seen self.new) }
+    {
+        let set = self.id(a);
+        let facts = fact_set(&mut self.ops, &self.order, fact)?;
+        self.ops.conj(set, facts)
     }
 
     /// The states of one of both sets, or of both.

@@ -1,8 +1,9 @@
 //! The calls of a space.
 
 ghost use Rattle.std.specs.Prelude.{◌≡◌, ◌+◌, ◌*◌, ◌<◌, ◌≤◌, ◌↔◌, ◌⊎◌, ℕ, length, slice_index, IsTrue, IsFalse, IfOk, OnOk, OnErr, refl};
+ghost use Rattle.symk_task.specs.Variables.{IsBase};
 ghost use Rattle.task_system.specs.System.{Listed};
-ghost use Rattle.space_api.specs.View.{View, Valid, Has, HasMember, IsEmpty, HasSame, GoalIn, Unites, Meets, Lacks, Image, CostImage, Preimage, CostPreimage};
+ghost use Rattle.space_api.specs.View.{View, Valid, Has, HasMember, IsEmpty, HasSame, GoalIn, FactIn, Unites, Meets, Lacks, Image, CostImage, Preimage, CostPreimage};
 ghost use Rattle.space_api.specs.Frames.{Kept, NoMore, Gives, Forgot, Stays};
 ghost use Rattle.space_api.specs.Tidied.{Tidied, SameRoom};
 ghost use Rattle.space_api.specs.Listing.{ListsReached};
@@ -11,6 +12,7 @@ ghost use Rattle.bdd_space.specs.Seen.{seen, Needs};
 
 use crate::symbolic::BddSpace;
 use space_api::{Space, SpaceFault};
+use symk_task::Fact;
 
 impl<'a> Space for BddSpace<'a> {
     type Set = usize;
@@ -38,6 +40,11 @@ impl<'a> Space for BddSpace<'a> {
 
     fn goal_in(&mut self, a: usize) -> Result<usize, SpaceFault> {
         let set = self.goals_of(a)?;
+        self.add(set)
+    }
+
+    fn fact_in(&mut self, fact: Fact, a: usize) -> Result<usize, SpaceFault> {
+        let set = self.facts_of(fact, a)?;
         self.add(set)
     }
 

@@ -3,3 +3,4 @@ pub mod Stepping
 pub mod Choices
 pub mod Meaning
 pub mod Asking
+pub mod HavingFact

@@ -28,9 +28,10 @@ impl<'a> Model for ExplicitSpace<'a> {
 }
 
 ghost use Rattle.std.specs.Prelude.{◌≡◌, ◌<◌, ◌↔◌, ◌⊎◌, ℕ, [], Some, length, slice_index, IsTrue, IsFalse, IfOk, OnErr, refl};
+ghost use Rattle.symk_task.specs.Variables.{IsBase};
 ghost use Rattle.task_system.specs.System.{Listed};
 ghost use Rattle.task_system.specs.Computed.{system_of};
-ghost use Rattle.space_api.specs.View.{View, Valid, Has, HasMember, IsEmpty, HasSame, GoalIn, Unites, Meets, Lacks, Image, CostImage, Preimage, CostPreimage};
+ghost use Rattle.space_api.specs.View.{View, Valid, Has, HasMember, IsEmpty, HasSame, GoalIn, FactIn, Unites, Meets, Lacks, Image, CostImage, Preimage, CostPreimage};
 ghost use Rattle.space_api.specs.Frames.{Kept, NoMore, Gives, Forgot};
 ghost use Rattle.space_api.specs.Listing.{ListsReached};
 ghost use Rattle.space_api.specs.Costs.{costs_of};
@@ -38,10 +39,12 @@ ghost use Rattle.explicit_space.specs.Members.{has_state, AreStates, HasThose};
 ghost use Rattle.explicit_space.specs.Explicit.{set_at};
 ghost use Rattle.explicit_space.specs.Seen.{seen};
 
+use crate::facts::fact_states;
 use crate::members::{difference, intersection, is_subset, single, union};
 use crate::states::all_states;
 use crate::steps::{cost_image, cost_preimage, goal_states, image, preimage};
 use space_api::{Space, SpaceFault, operator_costs};
+use symk_task::Fact;
 
 impl<'a> ExplicitSpace<'a> {
     /// The space of the task, with no valid set.
@@ -107,6 +110,15 @@ impl<'a> ExplicitSpace<'a> {
         ensures ok { IfOk result (λ set. HasThose set (GoalIn (seen self.now) a)) }
     {
         goal_states(self.alloc, self.task, &self.rules, self.members(a))
+    }
+
+    fn fact_members(&self, fact: Fact, a: usize) -> Result<BTreeSet<State>, Memory>
+        requires fact { IsBase self.now.task fact.var }
+        requires a { Valid (seen self.now) a }
+        ensures states { IfOk result (AreStates self.now.task) }
+        ensures ok { IfOk result (λ set. HasThose set (FactIn (seen self.now) fact a)) }
+    {
+        fact_states(self.alloc, self.task, fact, self.members(a))
     }
 
     fn united(&self, a: usize, b: usize) -> Result<BTreeSet<State>, Memory>
@@ -214,6 +226,11 @@ impl<'a> Space for ExplicitSpace<'a> {
 
     fn goal_in(&mut self, a: usize) -> Result<usize, SpaceFault> {
         let members = self.goal_members(a)?;
+        self.add(members)
+    }
+
+    fn fact_in(&mut self, fact: Fact, a: usize) -> Result<usize, SpaceFault> {
+        let members = self.fact_members(fact, a)?;
         self.add(members)
     }
 

@@ -1,14 +1,16 @@
 //! A space that is refused memory after so many calls.
 
 ghost use Rattle.std.specs.Prelude.{◌≡◌, ◌-◌, ◌<◌, ℕ, IsErr, IfOk, OnOk, OnErr};
+ghost use Rattle.symk_task.specs.Variables.{IsBase};
 ghost use Rattle.task_system.specs.System.{Listed};
-ghost use Rattle.space_api.specs.View.{View, Valid, GoalIn, Unites, Meets, Lacks, Image, CostImage, Preimage, CostPreimage};
+ghost use Rattle.space_api.specs.View.{View, Valid, GoalIn, FactIn, Unites, Meets, Lacks, Image, CostImage, Preimage, CostPreimage};
 ghost use Rattle.space_api.specs.Frames.{Kept, NoMore, Gives, Forgot, Stays};
 ghost use Rattle.space_api.specs.Tidied.{Tidied, SameRoom};
 ghost use Rattle.space_api.specs.Listing.{ListsReached};
 
 use space_api::{Space, SpaceFault};
 use std::alloc::AllocError;
+use symk_task::Fact;
 
 /// A space over another, for callers who want to see what stands after a refusal.
 ///
@@ -106,6 +108,21 @@ impl<S: Space> Space for FuseSpace<S> {
     {
         spend(&mut self.left)?;
         self.inner.goal_in(a)
+    }
+
+    fn fact_in(&mut self, fact: Fact, a: S::Set) -> Result<S::Set, SpaceFault>
+        requires fact { IsBase (S.view self.old.inner).task fact.var }
+        requires a { Valid (S.view self.old.inner) a }
+        ensures kept { Kept (S.view self.old.inner) (S.view self.new.inner) }
+        ensures ok { IfOk result (Gives (S.view self.old.inner) (S.view self.new.inner) (FactIn (S.view self.old.inner) fact a)) }
+        ensures err { OnErr result (NoMore (S.view self.old.inner) (S.view self.new.inner)) }
+        ensures last { (S.view self.new.inner).last ≡ (S.view self.old.inner).last }
+        ensures task { (S.view self.new.inner).task ≡ (S.view self.old.inner).task }
+        ensures left { self.new.left ≡ self.old.left - 1 }
+        ensures spent { self.old.left ≡ 0 → IsErr result × (self.new.inner ≡ self.old.inner) }
+    {
+        spend(&mut self.left)?;
+        self.inner.fact_in(fact, a)
     }
 
     fn unite(&mut self, a: S::Set, b: S::Set) -> Result<S::Set, SpaceFault>

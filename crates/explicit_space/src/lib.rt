@@ -12,6 +12,7 @@
 #![tactic(auto)]
 
 mod explicit;
+mod facts;
 mod fuse;
 mod members;
 mod states;

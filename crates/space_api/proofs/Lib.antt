@@ -2,6 +2,7 @@ pub mod CostList
 pub mod CostSet
 pub mod Runs
 pub mod Listing
+pub mod Facts
 pub mod Missed
 pub mod Keeping
 pub mod Owning

@@ -1,7 +1,9 @@
 -- What a space tells: its task and the task's system, which sets are valid, and which states each has; and how many nodes it
 -- holds, and how many it needed after it last collected.
 use Rattle.std.specs.Prelude.{◌≡◌, ℕ, Bool, IsTrue, IsFalse, ◌⊎◌}
+use Rattle.symk_task.specs.declared.parts.Fact.{Fact}
 use Rattle.symk_task.specs.declared.parts.TaskParts.{TaskParts}
+use Rattle.symk_task.specs.Steps.{Holds}
 use Rattle.task_system.specs.System.{State, System, Leads, Listed}
 
 pub record View (Set : Type 0) : Type 0 where
@@ -35,6 +37,10 @@ HasSame v a b = (s : State) → v.has a s ≡ v.has b s
 -- the goal states of a
 abbrev pub GoalIn : {Set : Type 0} → View Set → Set → State → Type 0
 GoalIn v a s = Has v a s × IsTrue (v.system.goal s)
+
+-- the states of a where the fact holds
+abbrev pub FactIn : {Set : Type 0} → View Set → Fact → Set → State → Type 0
+FactIn v fact a s = Has v a s × Holds v.task s fact
 
 -- the states of a or of b
 abbrev pub Unites : {Set : Type 0} → View Set → Set → Set → State → Type 0

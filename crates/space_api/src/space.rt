@@ -1,15 +1,16 @@
 //! Spaces of sets of states.
 
 ghost use Rattle.std.specs.Prelude.{◌≡◌, ◌+◌, ◌*◌, ◌<◌, ◌≤◌, ◌↔◌, ℕ, IsTrue, IsFalse, IfOk, OnOk, OnErr, length, slice_index};
+ghost use Rattle.symk_task.specs.Variables.{IsBase};
 ghost use Rattle.task_system.specs.System.{State, Listed};
 ghost use Rattle.task_system.specs.Computed.{system_of};
-ghost use Rattle.space_api.specs.View.{View, Valid, Has, HasMember, IsEmpty, HasSame, GoalIn, Unites, Meets, Lacks, Image, CostImage, Preimage, CostPreimage};
+ghost use Rattle.space_api.specs.View.{View, Valid, Has, HasMember, IsEmpty, HasSame, GoalIn, FactIn, Unites, Meets, Lacks, Image, CostImage, Preimage, CostPreimage};
 ghost use Rattle.space_api.specs.Frames.{Kept, NoMore, Gives, Forgot, Stays};
 ghost use Rattle.space_api.specs.Tidied.{Tidied, SameRoom};
 ghost use Rattle.space_api.specs.Listing.{ListsReached};
 ghost use Rattle.space_api.specs.Costs.{costs_of};
 
-use symk_task::Memory;
+use symk_task::{Fact, Memory};
 
 /// Why a call of a space is refused: want of memory alone.
 pub type SpaceFault = Memory;
@@ -59,6 +60,16 @@ pub trait Space {
         requires { Valid (view self.old) a }
         ensures kept { Kept (view self.old) (view self.new) }
         ensures ok { IfOk result (Gives (view self.old) (view self.new) (GoalIn (view self.old) a)) }
+        ensures err { OnErr result (NoMore (view self.old) (view self.new)) }
+        ensures last { (view self.new).last ≡ (view self.old).last }
+        ensures task { (view self.new).task ≡ (view self.old).task };
+
+    /// The states of `a` where the fact, which is one of a base variable, holds.
+    fn fact_in(&mut self, fact: Fact, a: Self::Set) -> Result<Self::Set, SpaceFault>
+        requires fact { IsBase (view self.old).task fact.var }
+        requires a { Valid (view self.old) a }
+        ensures kept { Kept (view self.old) (view self.new) }
+        ensures ok { IfOk result (Gives (view self.old) (view self.new) (FactIn (view self.old) fact a)) }
         ensures err { OnErr result (NoMore (view self.old) (view self.new)) }
         ensures last { (view self.new).last ≡ (view self.old).last }
         ensures task { (view self.new).task ≡ (view self.old).task };

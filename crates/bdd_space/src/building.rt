@@ -6,6 +6,7 @@ ghost use Rattle.symk_task.specs.Plans.{IsInitial};
 ghost use Rattle.task_system.specs.Computed.{system_of};
 ghost use Rattle.var_order.specs.Layout.{IsOrderOf};
 ghost use Rattle.axiom_layers.specs.Roots.{AreRoots};
+ghost use Rattle.operator_relations.specs.Relations.{AreJoinedWithin};
 ghost use Rattle.bdd_space.specs.Symbolic.{OwnAre};
 ghost use Rattle.bdd_space.specs.Seen.{seen};
 
@@ -52,10 +53,12 @@ fn own_sets(
 }
 
 impl<'a> BddSpace<'a> {
-    /// The space of the task, with no valid set.
+    /// The space of the task, with no valid set. The relations of operators of one cost are joined, in the order of the
+    /// operators, while a joined one has at most 4,096 nodes.
     pub fn of(alloc: Global, task: &'a Task) -> Result<BddSpace<'a>, Memory>
         ensures task { IfOk result (λ space. space.task ≡ task.now) }
         ensures system { IfOk result (λ space. (seen space).system ≡ system_of task.now) }
+        ensures joined { IfOk result (λ space. AreJoinedWithin task.now space.order 4096 space.nodes space.relations) }
         ensures none { IfOk result (λ space. (a : ℕ) → IsFalse ((seen space).valid a)) }
         ensures last { IfOk result (λ space. (seen space).last ≡ 0) }
     {

@@ -5,7 +5,8 @@
 //! comparison; images are by the operators' relations, those of one cost joined up to a bound of nodes. A set is the number of
 //! a place that keeps its Id: `forget` empties the place, and a later set takes it. `held` counts the nodes of the table, and
 //! `tidy` throws away those that neither a valid set nor the space itself needs, by a rule that the trait states. Want of
-//! memory is the one refusal, and then each valid set has the states that it had. Sources: Bryant, "Graph-Based Algorithms for
+//! memory is the one refusal, and then each valid set has the states that it had. For who writes a set down, `id` tells the
+//! root of its diagram, and `task`, `order` and `ops` lend what the diagram is over. Sources: Bryant, "Graph-Based Algorithms for
 //! Boolean Function Manipulation" (1986); for search by sets of states, Edelkamp and Reffel, "OBDDs in Heuristic Search"
 //! (1998), and Torralba, Alcázar, Kissmann and Edelkamp, "Efficient Symbolic Search for Cost-optimal Planning" (2017).
 //! It stands on `space_api` for what a space is, on `bdd_table`, `bdd_ops` and `bdd_sets` for diagrams of states, on
@@ -16,6 +17,7 @@
 mod asking;
 mod building;
 mod collecting;
+mod diagram;
 mod images;
 mod making;
 mod slots;

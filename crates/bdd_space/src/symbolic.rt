@@ -53,8 +53,8 @@ ghost use Rattle.bdd_space.specs.Symbolic.{Grows, Makes};
 ghost use Rattle.bdd_space.specs.Seen.{seen};
 
 impl<'a> BddSpace<'a> {
-    /// The Id of a valid set.
-    pub(crate) fn id(&self, a: usize) -> Id
+    /// The Id of a valid set, up to the next call that collects.
+    pub fn id(&self, a: usize) -> Id
         requires { Valid (seen self.now) a }
         ensures is { set_at self.now.sets a ≡ Some result }
         ensures set { IsKnownSet self.now.order self.now.nodes result }

@@ -1,5 +1,5 @@
 -- What two calls keep, one after the other.
-use Rattle.std.proofs.Common.{◌≢◌, IsFalse, refl, sym, ◌∙◌, subst, inl, inr}
+use Rattle.std.proofs.Common.{◌≢◌, ◌↔◌, IsFalse, refl, sym, ◌∙◌, subst, inl, inr}
 use Rattle.task_system.specs.System.{State}
 use Rattle.space_api.specs.View.{View, Valid}
 use Rattle.space_api.specs.Frames.{Kept, Gives, Forgot, Stays}
@@ -40,3 +40,21 @@ module _ {Set : Type 0} {u v w : View Set} {P : State → Type 0} {r : Set} (k :
     };
     only = only;
   }
+
+-- a set that was made stays through calls that keep all sets as they are
+pub gives_stays : {Set : Type 0} {u v w : View Set} {P : State → Type 0} {r : Set} → Gives u v P r → Stays v w → Gives u w P r
+gives_stays {r = r} g z = record {
+  fresh = g.fresh;
+  valid = z.kept.valid r g.valid;
+  only = λ a h. g.only a (z.only a h);
+  means = λ s. ((λ h. (g.means s).0 (sym (z.kept.same r g.valid s) ∙ h)), (λ p. z.kept.same r g.valid s ∙ (g.means s).1 p));
+}
+
+-- the same set, its states told in other words
+pub gives_as : {Set : Type 0} {v w : View Set} {P Q : State → Type 0} {r : Set} → ((s : State) → P s ↔ Q s) → Gives v w P r → Gives v w Q r
+gives_as same g = record {
+  fresh = g.fresh;
+  valid = g.valid;
+  only = g.only;
+  means = λ s. ((λ h. (same s).0 ((g.means s).0 h)), (λ q. (g.means s).1 ((same s).1 q)));
+}

@@ -9,7 +9,5 @@
 
 mod layers;
 mod meeting;
-#[cfg(test)]
-mod tests;
 
 pub use layers::Layers;

@@ -1,0 +1,5 @@
+use Rattle.forward_search.specs.Forward.{IsForward}
+use Rattle.search_rows.proofs.forward.settles.Given as goal
+
+abbrev pub invariant-costs : goal.invariant-costs
+invariant-costs g l = IsForward (g.S.Space.view l.space) l.forward

@@ -1,0 +1,184 @@
+//! The search ahead.
+
+ghost use Rattle.std.specs.Prelude.{IfOk};
+ghost use Rattle.space_api.specs.View.{Valid};
+ghost use Rattle.space_api.specs.Frames.{Kept};
+ghost use Rattle.forward_search.specs.Forward.{IsForward};
+
+use bdd_space::BddSpace;
+use explicit_space::{ExplicitSpace, FuseSpace};
+use forward_search::{Forward, Step};
+use small_tasks::{past_64_bits, switch_and_back, zero_costs};
+use space_api::{Space, SpaceFault};
+use std::alloc::Global;
+use std::process::Abort;
+use std::test::Fail;
+
+fn begin<S: Space>(alloc: Global, space: &mut S) -> Result<Forward<S::Set>, SpaceFault>
+    ensures { IfOk result (IsForward (S.view space.new)) }
+{
+    let all = space.all()?;
+    Forward::new(alloc, space, all)
+}
+
+/// What one call more settles, or None where it closes the search.
+fn goes<S: Space>(
+    alloc: Global,
+    space: &mut S,
+    forward: &mut Forward<S::Set>,
+) -> Result<Option<u64>, SpaceFault>
+    requires { IsForward (S.view space.old) forward.old }
+    ensures { IsForward (S.view space.new) forward.new }
+{
+    match forward.extend(alloc, space)? {
+        Step::Settled { cost } => Ok(Some(cost)),
+        Step::Closed => Ok(None),
+    }
+}
+
+/// Whether one call after the other settles these costs, and one more closes the search.
+fn settles<S: Space>(
+    alloc: Global,
+    space: &mut S,
+    forward: &mut Forward<S::Set>,
+    costs: &[u64],
+) -> Result<bool, SpaceFault>
+    requires { IsForward (S.view space.old) forward.old }
+    ensures { IsForward (S.view space.new) forward.new }
+{
+    'costs: for cost in costs {
+        if goes(alloc, space, forward)? != Some(*cost) {
+            return Ok(false);
+        }
+    }
+    Ok(goes(alloc, space, forward)?.is_none())
+}
+
+/// Whether the layer of the cost has the initial state, where there is one.
+fn layer_has_init<S: Space>(space: &S, forward: &Forward<S::Set>, cost: u64) -> Option<bool>
+    requires { IsForward (S.view space.now) forward.now }
+{
+    match forward.layers().layer(cost) {
+        Some(whole) => Some(space.has_init(whole)),
+        None => None,
+    }
+}
+
+/// On the task of costs 0: layers 0 and 1, of which the first alone has the initial state.
+fn two_layers<S: Space>(rt: &impl Abort, alloc: Global, space: &mut S) -> Result<(), SpaceFault> {
+    let mut forward = begin(alloc, space)?;
+    assert!(rt; settles(alloc, space, &mut forward, &[0, 1, 2])?);
+    assert_eq!(rt; layer_has_init(space, &forward, 0), Some(true));
+    assert_eq!(rt; layer_has_init(space, &forward, 1), Some(false));
+    assert_eq!(rt; layer_has_init(space, &forward, 2), None);
+    assert!(rt; forward.found().is_some());
+    assert!(rt; !forward.layers().beyond());
+    Ok(())
+}
+
+fn has_two_layers<S: Space + Drop>(
+    rt: &impl Abort,
+    alloc: Global,
+    space: S,
+) -> Result<(), SpaceFault> {
+    let mut space = space;
+    two_layers(rt, alloc, &mut space)
+}
+
+#[test]
+fn each_layer_has_what_its_cost_reaches_and_an_empty_one_closes(
+    rt: HostRuntime,
+) -> Result<(), Fail> {
+    let task = zero_costs(rt.alloc())?;
+    has_two_layers(&rt, rt.alloc(), ExplicitSpace::of(rt.alloc(), &task)?)?;
+    has_two_layers(&rt, rt.alloc(), BddSpace::of(rt.alloc(), &task)?)?;
+    Ok(())
+}
+
+/// Cuts the layers to the initial state.
+#[tactic(auto, using(crate::proofs::Standing::forward_stays))]
+fn keep_init<S: Space>(
+    alloc: Global,
+    space: &mut S,
+    forward: &mut Forward<S::Set>,
+) -> Result<(), SpaceFault>
+    requires { IsForward (S.view space.old) forward.old }
+    ensures { IsForward (S.view space.new) forward.new }
+{
+    let init = space.init()?;
+    forward.narrow(alloc, space, init)
+}
+
+/// Whether a cost past the range was left out, where the layers were cut after the first or not at all.
+fn is_beyond<S: Space>(
+    rt: &impl Abort,
+    alloc: Global,
+    space: &mut S,
+    cut: bool,
+) -> Result<bool, SpaceFault> {
+    let mut forward = begin(alloc, space)?;
+    assert!(rt; goes(alloc, space, &mut forward)? == Some(0));
+    if cut {
+        keep_init(alloc, space, &mut forward)?;
+    }
+    assert!(rt; settles(alloc, space, &mut forward, &[1, u64::MAX])?);
+    Ok(forward.layers().beyond())
+}
+
+#[test]
+fn a_cost_past_the_range_is_marked_unless_its_states_were_cut(rt: HostRuntime) -> Result<(), Fail> {
+    let task = past_64_bits(rt.alloc())?;
+    let mut space = ExplicitSpace::of(rt.alloc(), &task)?;
+    assert!(rt; !is_beyond(&rt, rt.alloc(), &mut space, true)?);
+    assert!(rt; is_beyond(&rt, rt.alloc(), &mut space, false)?);
+    Ok(())
+}
+
+/// Whether one call more is answered. One that is refused leaves the bound, and how many rings cost 0 has.
+fn is_answered<S: Space>(
+    rt: &impl Abort,
+    alloc: Global,
+    space: &mut S,
+    forward: &mut Forward<S::Set>,
+) -> bool
+    requires { IsForward (S.view space.old) forward.old }
+    ensures { IsForward (S.view space.new) forward.new }
+{
+    let known = forward.layers().known_below();
+    let rings = forward.layers().rings(0);
+    if forward.extend(alloc, space).is_ok() {
+        return true;
+    }
+    assert!(rt; forward.layers().known_below() == known);
+    assert!(rt; forward.layers().rings(0) == rings);
+    false
+}
+
+/// Whether three calls are answered. After one that is refused each is.
+fn are_answered<S: Space>(
+    rt: &impl Abort,
+    alloc: Global,
+    space: &mut S,
+) -> Result<bool, SpaceFault> {
+    let mut forward = begin(alloc, space)?;
+    let first = is_answered(rt, alloc, space, &mut forward);
+    let second = is_answered(rt, alloc, space, &mut forward);
+    let third = is_answered(rt, alloc, space, &mut forward);
+    assert!(rt; first >= second && second >= third);
+    Ok(third)
+}
+
+#[test]
+fn after_a_refused_call_each_is_refused_and_the_layers_stay(rt: HostRuntime) -> Result<(), Fail> {
+    let task = switch_and_back(rt.alloc())?;
+    let mut answered = false;
+    for n in 0..100 {
+        let mut space = FuseSpace::new(ExplicitSpace::of(rt.alloc(), &task)?, n);
+        answered = are_answered(&rt, rt.alloc(), &mut space).unwrap_or(false);
+        if answered {
+            break;
+        }
+    }
+    assert!(rt; answered);
+    Ok(())
+}

@@ -4,7 +4,7 @@ use Rattle.std.specs.Bool.{Decides}
 use Rattle.task_system.specs.System.{System, IsPlanOf, are_equal}
 use Rattle.symk_task.specs.declared.parts.Mode.{Mode}
 use Rattle.symk_task.specs.declared.parts.Mode.TheVariants.{Loopless}
-use Rattle.space_api.specs.View.{View}
+use Rattle.space_api.specs.View.{View, Valid}
 use Rattle.space_api.specs.Frames.{Stays as SetsStay}
 use Rattle.lazy_plans.specs.Law.{Gave, Stays, Stops, Turned, Ended, Last, last_of}
 use Rattle.lazy_plans.specs.declared.stop.Stop.{Stop}
@@ -16,8 +16,10 @@ use Rattle.backward_search.proofs.Standing.{backward_kept}
 use Rattle.prefix_laws.specs.Queue.{Right, Pending}
 use Rattle.prefix_tree.specs.declared.tree.Node.{Node}
 use Rattle.prefix_tree.specs.declared.entry.Entry.{Entry}
+use Rattle.prefix_tree.specs.Entries.{IsOnWay}
+use Rattle.prefix_tree.proofs.Ways.{on_way}
 use Rattle.loopless.specs.Children.{prefixes}
-use Rattle.loopless.specs.Standing.{IsReady}
+use Rattle.loopless.specs.Standing.{IsBeneath, IsReady}
 use Rattle.loopless.specs.Owing.{Owes, IsTidy, IsHeld, IsSound, Answered}
 use Rattle.loopless.proofs.Moving.{moved_stays}
 use Rattle.loopless.proofs.Readying.{ready_moved}
@@ -149,6 +151,10 @@ module _ {Set : Type 0} (v w : View Set) (h : Backward Set) (nodes grown : List 
   untidied found h =
       let law = held_law found h in
       record { engine = sound found (Some (Some Memory)) (Err Memory) (held_fine found h) law refl (λ e. absurd (none_left Memory e)); system = system; law = law; last = refl; room = tt }
+
+-- each valid set is one of the search back, or that of a prefix on the way to an entry of the queue
+pub keeps_all : {Set : Type 0} (v : View Set) (b : Backward Set) (nodes : List (Node Set)) (es : List Entry) → IsReady v b nodes es → (a : Set) → Valid v a → IsBeneath b a ⊎ IsOnWay nodes es a
+keeps_all v b nodes es z a h = elim (z.keeps a h) [ inl o ↦ inl o | inr t ↦ inr (on_way nodes es a z.tree.linked z.counted t) ]
 
 -- a call of an engine that has ended
 pub repeated : {Set : Type 0} (v : View Set) (b : Backward Set) (nodes : List (Node Set)) (most : Option ℕ) (es : List Entry) (held : Option (List ℕ)) (ended : Last) (r : Result (Option (List ℕ)) Stop) → IsSound v b nodes most es held ended → ended ≢ None → ended ≡ last_of r → Answered v v most (Owes v.system (prefixes nodes es) held) (Owes v.system (prefixes nodes es) held) (IsSound v b nodes most es held ended) ended r

@@ -1,10 +1,11 @@
 -- An engine before its first call.
-use Rattle.std.proofs.Common.{◌≡◌, ℕ, inl, inr, Bool, true, false, IsTrue, IsFalse, List, [], ◌∷◌, slice_index_or, Option, Some, None, refl, sym, ◌∙◌, ap, subst, arith}
+use Rattle.std.proofs.Common.{◌≡◌, ℕ, zero, suc, ◌⊎◌, inl, inr, Bool, true, false, IsTrue, IsFalse, List, [], ◌∷◌, slice_index_or, Option, Some, None, refl, sym, ◌∙◌, ap, subst, arith}
 use Rattle.std.specs.Bool.{Decides}
 use Rattle.std.specs.List.{AllByRecursion}
 use Rattle.std.specs.List.Sorted.{IsPermutation}
 use Rattle.std.proofs.lemmas.List.Sorted.{length_permutation, All-permutation}
 use Rattle.std.proofs.lemmas.List.Elements.{recursion_from_All, All-from_recursion}
+use Rattle.std.proofs.lemmas.List.Sums.{sum_by-cons}
 use Rattle.task_system.specs.System.{State, System, Listed, IsPlan, IsPlanOf, cost_of}
 use Rattle.symk_task.specs.declared.parts.Mode.TheVariants.{Loopless}
 use Rattle.space_api.specs.View.{View, Valid, Has, IsEmpty, HasMember}
@@ -20,11 +21,12 @@ use Rattle.backward_search.specs.declared.backward.Backward.{Backward}
 use Rattle.backward_search.proofs.Standing.{backward_kept}
 use Rattle.prefix_laws.specs.Queue.{Good, Right, Pending}
 use Rattle.prefix_laws.proofs.Traces.{good_first, plan_by}
-use Rattle.prefix_tree.specs.Tree.{One, IsTree, IsNode, path_at}
+use Rattle.prefix_tree.specs.Tree.{One, IsTree, IsNode, InTree, IsCounted, path_at, uses_at, one_at}
+use Rattle.prefix_tree.specs.Entries.{entries_at}
 use Rattle.prefix_tree.specs.declared.tree.Node.{Node}
 use Rattle.prefix_tree.specs.declared.entry.Entry.{Entry}
 use Rattle.loopless.specs.Children.{IsEntry, prefixes}
-use Rattle.loopless.specs.Standing.{Keeping}
+use Rattle.loopless.specs.Standing.{IsBeneath}
 use Rattle.loopless.specs.Owing.{Owes, IsSound}
 use Rattle.loopless.proofs.Moving.{own_valid}
 use Rattle.prefix_laws.proofs.Turns.{first_right, first_pends}
@@ -50,7 +52,7 @@ module _ {Set : Type 0} (u v w x : View Set) (b : Backward Set) (within start : 
     (alone : (a : Set) → Valid u a → a ≡ within) (wide : (s : State) → Useful u.system s → Has u within s) (valid : Valid u within) (listed : Listed u.system.states u.system.initial)
     (back : IsBackward v b) (is : within_of (search_of b) ≡ within) (made : Trades u v (λ a. ⊥) (IsOwn (search_of b)))
     (kept : Kept v w) (init : Gives v w (λ s. s ≡ v.system.initial) start) (stays : Stays w x)
-    (set : n.set ≡ start) (put : IsPermutation (e ∷ []) es) (bound : e.bound.0 ≡ 0) (cost : e.cost ≡ 0) (place : e.node ≡ 0)
+    (set : n.set ≡ start) (one : n.uses ≡ 1) (put : IsPermutation (e ∷ []) es) (bound : e.bound.0 ≡ 0) (cost : e.cost ≡ 0) (place : e.node ≡ 0)
     (goal : Decides e.at_goal (IsTrue (w.system.goal v.system.initial))) where
   k0 : Kept u v
   k0 = kept_made made
@@ -89,14 +91,18 @@ module _ {Set : Type 0} (u v w x : View Set) (b : Backward Set) (within start : 
   tree = record {
     some = omega arith;
     linked = λ i d lt. inl (omega (arith, lt), refl_at i (omega (arith, lt)));
-    each = λ i d lt. at i d (omega (arith, lt));
+    each = λ i m h. at i m (omega (arith, h.inside)) h.at;
+    up = λ i m h. inl (omega (arith, h.inside));
+    apart = λ i j m k h l e. omega (arith, h.inside, l.inside);
   }
     where
       refl_at : (i : ℕ) → i ≡ 0 → path_at (n ∷ []) i ≡ []
       refl_at i z = ap (path_at (n ∷ [])) z
 
-      at : (i : ℕ) (d : Node Set) → i ≡ 0 → IsNode x i (path_at (n ∷ []) i) (slice_index_or (n ∷ []) i d).set
-      at i d z = subst (λ (j : ℕ). IsNode x j (path_at (n ∷ []) j) (slice_index_or (n ∷ []) j d).set) (sym z) node
+      at : (i : ℕ) (m : Node Set) → i ≡ 0 → m ≡ slice_index_or (n ∷ []) i m → IsNode x i (path_at (n ∷ []) i) m.set
+      at i m z is =
+          let same : m ≡ n = subst (λ (j : ℕ). m ≡ slice_index_or (n ∷ []) j m) z is in
+          subst (λ (k : Node Set). IsNode x i (path_at (n ∷ []) i) k.set) (sym same) (subst (λ (j : ℕ). IsNode x j (path_at (n ∷ []) j) n.set) (sym z) node)
 
   path : path_at (n ∷ []) e.node ≡ []
   path = ap (path_at (n ∷ [])) place
@@ -121,10 +127,29 @@ module _ {Set : Type 0} (u v w x : View Set) (b : Backward Set) (within start : 
   fresh : IsFalse (v.valid n.set)
   fresh = subst (λ (a : Set). IsFalse (v.valid a)) (sym set) init.fresh
 
-  kept_by : (a : Set) → Valid x a → Keeping b (n ∷ []) a
+  root_in : InTree (n ∷ []) n.set
+  root_in = (0, n, record { inside = omega arith; at = refl; used = omega (arith, one) }, refl)
+
+  in_root : (a : Set) → InTree (n ∷ []) a → a ≡ n.set
+  in_root a t =
+      let zero : t.0 ≡ 0 = omega (arith, t.2.inside) in
+      let same : t.1 ≡ n = subst (λ (j : ℕ). t.1 ≡ slice_index_or (n ∷ []) j t.1) zero t.2.at in
+      t.3 ∙ ap (λ (m : Node Set). m.set) same
+
+  root_counted : IsCounted (n ∷ []) (entries_at (e ∷ []))
+  root_counted i = omega (arith, at i, ap (λ (j : ℕ). one_at j i) place, sum_by-cons (λ (k : Entry). one_at k.node i) e [])
+    where
+      at : (i : ℕ) → uses_at (n ∷ []) i ≡ one_at 0 i
+      at zero = one
+      at (suc i) = refl
+
+  beneath_valid : (a : Set) → IsBeneath b a → Valid v a
+  beneath_valid a o = elim o [ inl own ↦ own_valid v b back a own | inr same ↦ subst (λ (c : Set). Valid v c) (sym same) back.search.within ]
+
+  kept_by : (a : Set) → Valid x a → IsBeneath b a ⊎ InTree (n ∷ []) a
   kept_by a h = elim (init.only a (stays.only a h)) [
     | inl old ↦ elim (made.only a old) [ inl own ↦ inl (inl own) | inr first ↦ inl (inr (alone a first ∙ sym is)) ]
-    | inr new ↦ inr (inl (new ∙ sym set))
+    | inr new ↦ inr (subst (λ (c : Set). InTree (n ∷ []) c) (sym (new ∙ sym set)) root_in)
   ]
 
   pub begun : (most : Option ℕ) → IsSound x b (n ∷ []) most es None None
@@ -134,7 +159,8 @@ module _ {Set : Type 0} (u v w x : View Set) (b : Backward Set) (within start : 
       wide = λ s useful. subst (λ (a : Set). Has x a s) (sym is) (k.same within valid s ∙ wide s (subst (λ (y : System). Useful y s) k.system useful));
       tree = tree;
       each = (entry, tt);
-      apart = λ a h own. elim h [ inl same ↦ valid_clash (own_valid v b back a own) (subst (λ (c : Set). IsFalse (v.valid c)) (sym same) fresh) | inr gone ↦ gone ];
+      counted = root_counted;
+      apart = λ a h beneath. valid_clash (beneath_valid a beneath) (subst (λ (c : Set). IsFalse (v.valid c)) (sym (in_root a h)) fresh);
       keeps = kept_by;
     };
     right = subst (λ (p : List ℕ). Right x.system most (p ∷ [])) (sym path) (first_right x.system most);

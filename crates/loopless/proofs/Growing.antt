@@ -1,63 +1,61 @@
 -- Entries while the tree grows, and the children of one, operator after operator.
-use Rattle.std.proofs.Common.{◌≡◌, ℕ, ◌+◌, ◌<◌, ◌^◌, ◌⊎◌, inl, inr, Bool, true, false, IsTrue, IsFalse, List, [], ◌∷◌, ◌++◌, length, slice_index_or, Some, refl, sym, ◌∙◌, ap, subst, arith, add-one}
+use Rattle.std.proofs.Common.{◌≡◌, ℕ, ◌+◌, ◌<◌, ◌≤◌, ◌^◌, ◌⊎◌, inl, inr, Bool, true, false, IsTrue, IsFalse, List, [], ◌∷◌, ◌++◌, length, Some, refl, sym, ◌∙◌, ap, subst, arith, add-one}
 use Rattle.std.specs.Bool.{Decides}
 use Rattle.std.specs.List.{AllByRecursion}
 use Rattle.std.proofs.lemmas.List.{length-append}
 use Rattle.task_system.specs.System.{State, System, Runs, IsPlan, cost_of}
 use Rattle.space_api.specs.View.{View}
 use Rattle.space_api.specs.Frames.{Stays}
+use Rattle.space_api.specs.Owned.{Trades}
 use Rattle.space_api.proofs.Keeping.{kept_refl, kept_trans}
 use Rattle.prefix_laws.specs.Queue.{prefix, ind, count, sum_ops, Good, Bounds}
 use Rattle.prefix_laws.proofs.Splits.{count_join, cost_join}
 use Rattle.prefix_laws.proofs.Traces.{bounds_by, plan_by, one_end}
-use Rattle.prefix_tree.specs.Tree.{One, IsTree, IsNode, InTree, Grows, path_at}
+use Rattle.prefix_tree.specs.Tree.{One, IsTree, IsNode, InTree, IsCounted, Grows, GivesUp, path_at, uses_at, with_child, one_at}
+use Rattle.prefix_tree.specs.Entries.{entries_at}
 use Rattle.prefix_tree.specs.declared.tree.Node.{Node}
 use Rattle.prefix_tree.specs.declared.entry.Entry.{Entry}
-use Rattle.prefix_tree.proofs.Paths.{path_more, path_last, tree_more, tree_kept, in_more, in_last, in_front}
+use Rattle.prefix_tree.proofs.Paths.{tree_kept}
+use Rattle.prefix_tree.proofs.Counting.{counted_child, uses_put}
+use Rattle.prefix_tree.proofs.Using.{some_used, in_valid, tree_child, in_child, child_in, old_in, path_child, path_new, length_child}
+use Rattle.prefix_tree.proofs.Releasing.{entries_last}
+use Rattle.space_api.proofs.Trading.{trades_trans}
 use Rattle.loopless.specs.Left.{CostsAtLeast}
 use Rattle.loopless.specs.Reach.{IsLonger, IsReach}
-use Rattle.loopless.specs.Children.{IsEntry, prefixes, Added, AreChildren}
+use Rattle.loopless.specs.Children.{IsEntry, prefixes, Added, AreChildren, CountsOn, Regrows}
 use Rattle.loopless.specs.declared.reach.Reached.{Reached}
 
--- an entry stands while the tree grows
-pub entry_more : {T : Type 0} (y : System) (nodes more : List (Node T)) (e : Entry) → IsEntry y nodes e → IsEntry y (nodes ++ more) e
-entry_more y nodes more e z =
-    let same = sym (path_more nodes more e.node z.inside) in
+-- an entry stands where its place has the same prefix
+pub entry_like : {T : Type 0} (y : System) (a c : List (Node T)) (e : Entry) → length a ≤ length c → ((i : ℕ) → i < length a → path_at c i ≡ path_at a i) → IsEntry y a e → IsEntry y c e
+entry_like y a c e longer same z =
+    let path = sym (same e.node z.inside) in
     record {
-      inside = omega (arith, z.inside, length-append nodes more);
-      cost = subst (λ (p : List ℕ). e.cost ≡ cost_of y p) same z.cost;
+      inside = omega (arith, z.inside, longer);
+      cost = subst (λ (p : List ℕ). e.cost ≡ cost_of y p) path z.cost;
       roomy = z.roomy;
       least = z.least;
       span = z.span;
-      bounds = subst (λ (p : List ℕ). Bounds y p e.bound.0) same z.bounds;
-      plan = subst (λ (p : List ℕ). Decides e.at_goal (IsPlan y p)) same z.plan;
+      bounds = subst (λ (p : List ℕ). Bounds y p e.bound.0) path z.bounds;
+      plan = subst (λ (p : List ℕ). Decides e.at_goal (IsPlan y p)) path z.plan;
     }
 
-pub each_more : {T : Type 0} (y : System) (nodes more : List (Node T)) (es : List Entry) → AllByRecursion (IsEntry y nodes) es → AllByRecursion (IsEntry y (nodes ++ more)) es
-each_more y nodes more [] a = tt
-each_more y nodes more (e ∷ es) a = (entry_more y nodes more e a.0, each_more y nodes more es a.1)
+pub each_like : {T : Type 0} (y : System) (a c : List (Node T)) (es : List Entry) → length a ≤ length c → ((i : ℕ) → i < length a → path_at c i ≡ path_at a i) → AllByRecursion (IsEntry y a) es → AllByRecursion (IsEntry y c) es
+each_like y a c [] longer same z = tt
+each_like y a c (e ∷ es) longer same z = (entry_like y a c e longer same z.0, each_like y a c es longer same z.1)
 
-pub prefixes_more : {T : Type 0} (y : System) (nodes more : List (Node T)) (es : List Entry) → AllByRecursion (IsEntry y nodes) es → prefixes (nodes ++ more) es ≡ prefixes nodes es
-prefixes_more y nodes more [] a = refl
-prefixes_more y nodes more (e ∷ es) a =
-    let one = path_more nodes more e.node a.0.inside in
-    let rest = prefixes_more y nodes more es a.1 in
+pub prefixes_like : {T : Type 0} (y : System) (a c : List (Node T)) (es : List Entry) → ((i : ℕ) → i < length a → path_at c i ≡ path_at a i) → AllByRecursion (IsEntry y a) es → prefixes c es ≡ prefixes a es
+prefixes_like y a c [] same z = refl
+prefixes_like y a c (e ∷ es) same z =
+    let one = same e.node z.0.inside in
+    let rest = prefixes_like y a c es same z.1 in
     λ i. one i ∷ rest i
 
 -- the tree as it was
-pub grows_refl : {Set : Type 0} (v : View Set) (nodes : List (Node Set)) → Grows v v nodes nodes
-grows_refl v nodes = record { kept = kept_refl v; longer = ([], sym (append_nil nodes)); only = λ a h. inl h; fresh = λ a h. inl h; tree = λ z. z }
-  where
-    append_nil : {X : Type 0} (xs : List X) → xs ++ [] ≡ xs
-    append_nil [] = refl
-    append_nil (x ∷ xs) = ap (λ (z : List _). x ∷ z) (append_nil xs)
+pub grows_refl : {Set : Type 0} (v : View Set) (nodes : List (Node Set)) → IsTree v nodes → Grows v v nodes nodes
+grows_refl v nodes z = record { kept = kept_refl v; longer = omega arith; paths = λ i lt. refl; stays = λ a t. t; only = λ a h. inl h; fresh = λ a h. inl h; tree = z }
 
-pub grows_stays : {Set : Type 0} (v w : View Set) (nodes : List (Node Set)) → Stays v w → Grows v w nodes nodes
-grows_stays v w nodes s = record { kept = s.kept; longer = (grows_refl v nodes).longer; only = λ a h. inl (s.only a h); fresh = λ a h. inl h; tree = λ z. tree_kept v w nodes s.kept z }
-
-append_more : {X : Type 0} (xs ys zs : List X) → (xs ++ ys) ++ zs ≡ xs ++ (ys ++ zs)
-append_more [] ys zs = refl
-append_more (x ∷ xs) ys zs = ap (λ (z : List _). x ∷ z) (append_more xs ys zs)
+pub grows_stays : {Set : Type 0} (v w : View Set) (nodes : List (Node Set)) → IsTree v nodes → Stays v w → Grows v w nodes nodes
+grows_stays v w nodes z s = record { kept = s.kept; longer = omega arith; paths = λ i lt. refl; stays = λ a t. t; only = λ a h. inl (s.only a h); fresh = λ a h. inl h; tree = tree_kept v w nodes s.kept z }
 
 valid_or : (b : Bool) → (b ≡ true) ⊎ (b ≡ false)
 valid_or true = inl refl
@@ -69,25 +67,68 @@ clash b e f = cc
 pub grows_trans : {Set : Type 0} (u v w : View Set) (a b c : List (Node Set)) → Grows u v a b → Grows v w b c → Grows u w a c
 grows_trans {Set} u v w a b c j k = record {
   kept = kept_trans j.kept k.kept;
-  longer = (j.longer.0 ++ k.longer.0, k.longer.1 ∙ (ap (λ (z : List (Node Set)). z ++ k.longer.0) j.longer.1 ∙ append_more a j.longer.0 k.longer.0));
+  longer = omega (arith, j.longer, k.longer);
+  paths = λ i lt. k.paths i (omega (arith, lt, j.longer)) ∙ j.paths i lt;
+  stays = λ x t. k.stays x (j.stays x t);
   only = λ x h. elim (k.only x h) [
-    | inl o ↦ elim (j.only x o) [ inl p ↦ inl p | inr t ↦ inr (subst (λ (z : List (Node Set)). InTree z x) (sym k.longer.1) (in_front b k.longer.0 x t)) ]
+    | inl o ↦ elim (j.only x o) [ inl p ↦ inl p | inr t ↦ inr (k.stays x t) ]
     | inr t ↦ inr t
   ];
   fresh = λ x h. elim (k.fresh x h) [
     | inl t ↦ j.fresh x t
     | inr off ↦ elim (valid_or (u.valid x)) [ inl on ↦ absurd (clash (v.valid x) (j.kept.valid x on) off) | inr gone ↦ inr gone ]
   ];
-  tree = λ z. k.tree (j.tree z);
+  tree = k.tree;
+}
+
+-- the tree's sets change hands: they are its own as before, and new ones
+pub grows_trades : {Set : Type 0} (v w : View Set) (a c : List (Node Set)) → Grows v w a c → Trades v w (InTree a) (InTree c)
+grows_trades v w a c g = record {
+  system = g.kept.system;
+  owned = λ x t. in_valid w c x g.tree t;
+  fresh = λ x t off. elim (g.fresh x t) [ inl old ↦ absurd (off old) | inr new ↦ new ];
+  given = λ x t h. g.stays x t;
+  others = λ x h off. g.kept.valid x h;
+  only = λ x h. elim (g.only x h) [ inl old ↦ inr old | inr t ↦ inl t ];
+  same = λ x h off. g.kept.same x h;
+}
+
+-- what is made for a list of entries that was empty
+pub counts_first : {T : Type 0} (a b : List (Node T)) (es kids : List Entry) → es ≡ [] → CountsOn a b es kids → CountsOn a b [] kids
+counts_first a b es kids is n = subst (λ (l : List Entry). CountsOn a b l kids) is n
+
+plus_none : {T : Type 0} (a : List (Node T)) (others : ℕ → ℕ) → IsCounted a others → IsCounted a (λ i. others i + entries_at [] i)
+plus_none a others h i = omega (arith, h i, none i)
+  where
+    none : (j : ℕ) → entries_at [] j ≡ 0
+    none j = refl
+
+pub counts_made : {T : Type 0} (a b : List (Node T)) (kids : List Entry) (others : ℕ → ℕ) → CountsOn a b [] kids → IsCounted a others → IsCounted b (λ i. others i + entries_at kids i)
+counts_made a b kids others n h = n others (plus_none a others h)
+
+-- what came is given up again
+pub regrows : {Set : Type 0} (u v w : View Set) (a b c : List (Node Set)) (kids : List Entry) → Grows u v a b → CountsOn a b [] kids → GivesUp v w b c (entries_at kids) → Regrows u w a c
+regrows u v w a b c kids g n k = record {
+  trades = trades_trans (grows_trades u v a b g) k.trades;
+  tree = k.tree;
+  longer = omega (arith, g.longer, k.long);
+  paths = λ i lt. k.paths i ∙ g.paths i lt;
+  counted = λ others h. k.counted others (counts_made a b kids others n h);
 }
 
 -- one prefix more, at the end of the tree
-module _ {Set : Type 0} (v w : View Set) (nodes : List (Node Set)) (n : Node Set) (r : Reached Set) (z : IsTree v nodes) (behind : n.parent < length nodes) (same : n.set ≡ r.set) (is : IsReach v w (path_at nodes n.parent) n.op (Some r)) where
+module _ {Set : Type 0} (v w : View Set) (nodes : List (Node Set)) (n : Node Set) (r : Reached Set) (z : IsTree v nodes) (used : 0 < uses_at nodes n.parent) (one : n.uses ≡ 1) (same : n.set ≡ r.set) (is : IsReach v w (path_at nodes n.parent) n.op (Some r)) where
   longer : IsLonger v.system w (path_at nodes n.parent ++ n.op ∷ []) r
   longer = is.2
 
-  before : IsNode v n.parent (path_at nodes n.parent) (slice_index_or nodes n.parent n).set
-  before = z.each n.parent n behind
+  deep : length (path_at nodes n.parent) ≤ n.parent
+  deep = let m = some_used nodes n.parent used in (z.each n.parent m.0 m.1).deep
+
+  behind : n.parent < length nodes
+  behind = let m = some_used nodes n.parent used in m.1.inside
+
+  some : 0 < n.uses
+  some = omega (arith, one)
 
   node : IsNode w (length nodes) (path_at nodes n.parent ++ n.op ∷ []) n.set
   node =
@@ -97,23 +138,27 @@ module _ {Set : Type 0} (v w : View Set) (nodes : List (Node Set)) (n : Node Set
       record {
         good = good;
         one = subst (One w n.set) end (subst (λ (a : Set). One w a longer.state) (sym same) longer.one);
-        deep = omega (arith, before.deep, behind, length-append (path_at nodes n.parent) (n.op ∷ []));
+        deep = omega (arith, deep, behind, length-append (path_at nodes n.parent) (n.op ∷ []));
       }
 
-  pub grows_push : Grows v w nodes (nodes ++ n ∷ [])
+  fresh : IsFalse (v.valid n.set)
+  fresh = subst (λ (x : Set). IsFalse (v.valid x)) (sym same) is.1.fresh
+
+  pub grows_push : Grows v w nodes (with_child nodes n)
   grows_push = record {
     kept = is.0;
-    longer = (n ∷ [], refl);
-    only = λ a h. elim (is.1.only a h) [ inl o ↦ inl o | inr e ↦ inr (in_last nodes n a (e ∙ sym same)) ];
-    fresh = λ a h. elim (in_more nodes n a h) [ inl t ↦ inl t | inr e ↦ inr (subst (λ (x : Set). IsFalse (v.valid x)) (sym (e ∙ same)) is.1.fresh) ];
-    tree = λ old. tree_more w nodes n (tree_kept v w nodes is.0 old) behind node;
+    longer = omega (arith, length_child v w nodes n z is.0 used some fresh node);
+    paths = λ i lt. path_child v w nodes n z is.0 used some fresh node i lt;
+    stays = λ a t. old_in v w nodes n z is.0 used some fresh node a t;
+    only = λ a h. elim (is.1.only a h) [ inl o ↦ inl o | inr e ↦ inr (child_in v w nodes n z is.0 used some fresh node a (e ∙ sym same)) ];
+    fresh = λ a h. elim (in_child v w nodes n z is.0 used some fresh node a h) [ inl t ↦ inl t | inr e ↦ inr (subst (λ (x : Set). IsFalse (v.valid x)) (sym e) fresh) ];
+    tree = tree_child v w nodes n z is.0 used some fresh node;
   }
 
   -- the entry of the new prefix
-  pub entry_push : (e k : Entry) → IsEntry v.system nodes e → e.node ≡ n.parent → k.node ≡ length nodes → k.cost ≡ e.cost + v.system.cost n.op → k.bound.0 ≡ k.cost + r.left.cost → k.at_goal ≡ r.at_goal → v.system.cost n.op < 2 ^ 64 → IsEntry v.system (nodes ++ n ∷ []) k × (path_at (nodes ++ n ∷ []) k.node ≡ path_at nodes n.parent ++ n.op ∷ [])
+  pub entry_push : (e k : Entry) → IsEntry v.system nodes e → e.node ≡ n.parent → k.node ≡ length nodes → k.cost ≡ e.cost + v.system.cost n.op → k.bound.0 ≡ k.cost + r.left.cost → k.at_goal ≡ r.at_goal → v.system.cost n.op < 2 ^ 64 → IsEntry v.system (with_child nodes n) k × (path_at (with_child nodes n) k.node ≡ path_at nodes n.parent ++ n.op ∷ [])
   entry_push e k old at place cost bound goal small =
-      let p = path_at nodes n.parent ++ n.op ∷ [] in
-      let path : path_at (nodes ++ n ∷ []) k.node ≡ path_at nodes n.parent ++ n.op ∷ [] = path_last nodes n k.node z.some place in
+      let path : path_at (with_child nodes n) k.node ≡ path_at nodes n.parent ++ n.op ∷ [] = path_new v w nodes n z is.0 used some fresh node k.node place in
       let same_path : path_at nodes e.node ≡ path_at nodes n.parent = ap (path_at nodes) at in
       let total : k.cost ≡ cost_of v.system (path_at nodes n.parent ++ n.op ∷ []) = omega (arith, cost, old.cost, ap (cost_of v.system) same_path, cost_join v.system (path_at nodes n.parent) (n.op ∷ [])) in
       let end : longer.state ≡ longer.good.end = one_end v.system (path_at nodes n.parent ++ n.op ∷ []) v.system.initial longer.state longer.good.end longer.run longer.good.runs in
@@ -123,7 +168,7 @@ module _ {Set : Type 0} (v w : View Set) (nodes : List (Node Set)) (n : Node Set
       let b : k.bound.0 ≡ cost_of v.system (path_at nodes n.parent ++ n.op ∷ []) + r.left.cost = omega (arith, bound, total) in
       let plan = plan_by v.system (path_at nodes n.parent ++ n.op ∷ []) longer.good r.at_goal holds in (
         record {
-          inside = omega (arith, place, length-append nodes (n ∷ []));
+          inside = omega (arith, place, length_child v w nodes n z is.0 used some fresh node);
           cost = subst (λ (q : List ℕ). k.cost ≡ cost_of v.system q) (sym path) total;
           roomy = omega (arith, cost, old.roomy, at, behind, place, small);
           least = omega (arith, bound);
@@ -133,6 +178,17 @@ module _ {Set : Type 0} (v w : View Set) (nodes : List (Node Set)) (n : Node Set
         },
         path,
       )
+
+  -- the new prefix is used by its entry, and uses the one before it
+  pub counts_push : (kids : List Entry) (k : Entry) → k.node ≡ length nodes → CountsOn nodes (with_child nodes n) kids (kids ++ k ∷ [])
+  counts_push kids k place others c i =
+      omega (arith, counted_child nodes n (λ j. others j + entries_at kids j) behind used one c i, entries_last kids k i, ap (λ (j : ℕ). one_at j i) place)
+
+  -- the one before it stays used
+  pub used_push : 0 < uses_at (with_child nodes n) n.parent
+  used_push =
+      let inside : n.parent < length (nodes ++ n ∷ []) = omega (arith, behind, length-append nodes (n ∷ [])) in
+      omega (arith, uses_put (nodes ++ n ∷ []) n.parent (uses_at nodes n.parent + 1) inside)
 
 each_last : {X : Type 0} (P : X → Type 0) (xs : List X) (x : X) → AllByRecursion P xs → P x → AllByRecursion P (xs ++ x ∷ [])
 each_last P [] x a h = (h, tt)
@@ -145,17 +201,23 @@ prefixes_last nodes (j ∷ ks) k = ap (λ (z : List (List ℕ)). path_at nodes j
 sum_next : (n : ℕ) (f : ℕ → ℕ) → sum_ops (n + 1) f ≡ sum_ops n f + f n
 sum_next n f = rw add-one refl
 
+pub counts_same : {T : Type 0} (a : List (Node T)) (es : List Entry) → CountsOn a a es es
+counts_same a es others c = c
+
+pub counts_trans : {T : Type 0} (a b c : List (Node T)) (x y z : List Entry) → CountsOn a b x y → CountsOn b c y z → CountsOn a c x z
+counts_trans a b c x y z j k others h = k others (j others h)
+
 pub children_none : {T : Type 0} (y : System) (nodes : List (Node T)) (e : List ℕ) → AreChildren y nodes e 0 []
 children_none y nodes e = record { each = tt; longer = tt; few = omega arith; counted = λ p i. refl }
 
-pub children_more : {T : Type 0} (y : System) (nodes more : List (Node T)) (e : List ℕ) (n : ℕ) (kids : List Entry) → AreChildren y nodes e n kids → AreChildren y (nodes ++ more) e n kids
-children_more y nodes more e n kids g =
-    let same = sym (prefixes_more y nodes more kids g.each) in
+pub children_like : {T : Type 0} (y : System) (a c : List (Node T)) (e : List ℕ) (n : ℕ) (kids : List Entry) → length a ≤ length c → ((i : ℕ) → i < length a → path_at c i ≡ path_at a i) → AreChildren y a e n kids → AreChildren y c e n kids
+children_like y a c e n kids longer same g =
+    let back = sym (prefixes_like y a c kids same g.each) in
     record {
-      each = each_more y nodes more kids g.each;
-      longer = subst (AllByRecursion (λ k. length k ≡ length e + 1)) same g.longer;
+      each = each_like y a c kids longer same g.each;
+      longer = subst (AllByRecursion (λ k. length k ≡ length e + 1)) back g.longer;
       few = g.few;
-      counted = λ p i. subst (λ (ks : List (List ℕ)). count ks p ≡ sum_ops n (λ op. ind (prefix (e ++ op ∷ []) p))) same (g.counted p i);
+      counted = λ p i. subst (λ (ks : List (List ℕ)). count ks p ≡ sum_ops n (λ op. ind (prefix (e ++ op ∷ []) p))) back (g.counted p i);
     }
 
 pub children_next : {T : Type 0} (y : System) (nodes : List (Node T)) (e : List ℕ) (n : ℕ) (kids new : List Entry) → AreChildren y nodes e n kids → Added y nodes e n kids new → AreChildren y nodes e (n + 1) new
@@ -176,15 +238,10 @@ children_next y nodes e n kids new g (inr (k, pushed, stands, path)) =
 
 -- entries and children stand while the tree grows
 pub entry_grown : {Set : Type 0} (v w : View Set) (a b : List (Node Set)) (e : Entry) → Grows v w a b → IsEntry v.system a e → IsEntry w.system b e
-entry_grown {Set} v w a b e g z =
-    subst (λ (y : System). IsEntry y b e) (sym g.kept.system)
-    (subst (λ (t : List (Node Set)). IsEntry v.system t e) (sym g.longer.1) (entry_more v.system a g.longer.0 e z))
-
-pub path_grown : {Set : Type 0} (v w : View Set) (a b : List (Node Set)) (i : ℕ) → Grows v w a b → i < length a → path_at b i ≡ path_at a i
-path_grown {Set} v w a b i g lt = ap (λ (t : List (Node Set)). path_at t i) g.longer.1 ∙ path_more a g.longer.0 i lt
+entry_grown {Set} v w a b e g z = subst (λ (y : System). IsEntry y b e) (sym g.kept.system) (entry_like v.system a b e g.longer g.paths z)
 
 pub children_grown : {Set : Type 0} (v w : View Set) (a b : List (Node Set)) (y : System) (e : List ℕ) (n : ℕ) (kids : List Entry) → Grows v w a b → AreChildren y a e n kids → AreChildren y b e n kids
-children_grown {Set} v w a b y e n kids g z = subst (λ (t : List (Node Set)). AreChildren y t e n kids) (sym g.longer.1) (children_more y a g.longer.0 e n kids z)
+children_grown v w a b y e n kids g z = children_like y a b e n kids g.longer g.paths z
 
 pub added_at : {T : Type 0} (y z : System) (nodes : List (Node T)) (e f : List ℕ) (op : ℕ) (old new : List Entry) → z ≡ y → f ≡ e → Added z nodes f op old new → Added y nodes e op old new
 added_at y z nodes e f op old new same path h = subst (λ (q : List ℕ). Added y nodes q op old new) path (subst (λ (x : System). Added x nodes f op old new) same h)

@@ -1,27 +1,26 @@
 -- The tree and what is known of it while the search back goes on.
-use Rattle.std.proofs.Common.{◌≡◌, ℕ, zero, suc, ◌+◌, ◌<◌, ◌≤◌, ◌^◌, ◌⊎◌, inl, inr, Bool, true, false, List, [], ◌∷◌, length, slice_index_or, Option, Some, None, refl, sym, ◌∙◌, ap, subst, arith}
+use Rattle.std.proofs.Common.{◌≡◌, ℕ, ◌+◌, ◌<◌, ◌≤◌, ◌^◌, ◌⊎◌, inl, inr, Bool, true, false, List, slice_index_or, Option, Some, None, refl, sym, ◌∙◌, ap, subst, arith}
 use Rattle.std.specs.Bool.{Decides}
-use Rattle.std.specs.List.{AllByRecursion}
-use Rattle.symk_task.specs.Plans.{AllDifferent}
-use Rattle.task_system.specs.System.{State, System, Listed, Runs, IsPlan, trace, cost_of}
+use Rattle.task_system.specs.System.{State, System, IsPlan, cost_of}
 use Rattle.space_api.specs.View.{View, Valid, Has}
 use Rattle.space_api.specs.Frames.{Stays}
 use Rattle.space_api.specs.Owned.{Trades}
 use Rattle.space_api.proofs.Trading.{trades_stays, trades_trans}
 use Rattle.run_graph.specs.Reached.{Useful}
 use Rattle.cost_search.specs.Search.{IsOwn, within_of, GoesOn}
-use Rattle.cost_search.proofs.Standing.{uses_valid, own_used}
+use Rattle.cost_search.proofs.Standing.{Uses, search_in, uses_valid, own_used}
 use Rattle.backward_search.specs.Backward.{IsBackward, search_of}
 use Rattle.backward_search.specs.declared.backward.Backward.{Backward}
 use Rattle.prefix_laws.specs.Queue.{Good, Bounds, Hopeless}
 use Rattle.prefix_laws.proofs.Traces.{bounds_by, stuck}
-use Rattle.prefix_tree.specs.Tree.{One, IsTree, IsNode, InTree, path_at}
+use Rattle.prefix_tree.specs.Tree.{One, IsTree, InTree, path_at, uses_at}
 use Rattle.prefix_tree.specs.declared.tree.Node.{Node}
 use Rattle.prefix_tree.specs.declared.entry.Entry.{Entry}
-use Rattle.prefix_tree.proofs.Paths.{in_valid}
+use Rattle.prefix_tree.proofs.Paths.{one_as, node_as}
+use Rattle.prefix_tree.proofs.Using.{used_here, in_valid}
 use Rattle.loopless.specs.Left.{IsWide, IsReached, IsLeft}
 use Rattle.loopless.specs.Children.{IsEntry}
-use Rattle.loopless.specs.Standing.{Moved, AreApart, Keeping}
+use Rattle.loopless.specs.Standing.{Moved, IsBeneath, AreApart}
 use Rattle.loopless.specs.declared.left.Left.{Left}
 
 pub own_valid : {Set : Type 0} (v : View Set) (b : Backward Set) → IsBackward v b → (a : Set) → IsOwn (search_of b) a → Valid v a
@@ -44,38 +43,25 @@ moved_then {Set} u v w b h z m s = record {
 pub wide_moved : {Set : Type 0} (v w : View Set) (b h : Backward Set) → Moved v w b h → IsWide v b → IsWide w h
 wide_moved {Set} v w b h m wide s u = subst (λ (a : Set). Has w a s) (sym m.within) (m.states s ∙ wide s (subst (λ (y : System). Useful y s) m.trades.system u))
 
-in_at : {T : Type 0} (nodes : List (Node T)) (i : ℕ) (d : Node T) → i < length nodes → InTree nodes (slice_index_or nodes i d).set
-in_at [] i d lt = absurd (omega arith)
-in_at (n ∷ nodes) zero d lt = inl refl
-in_at (n ∷ nodes) (suc i) d lt = inr (in_at nodes i d (omega arith))
-
-one_moved : {Set : Type 0} (v w : View Set) (a : Set) (s : State) → Valid w a → ((t : State) → w.has a t ≡ v.has a t) → One v a s → One w a s
-one_moved v w a s valid same one = record { valid = valid; means = λ t. ((λ h. (one.means t).0 (sym (same t) ∙ h)), (λ e. same t ∙ (one.means t).1 e)) }
-
 -- the tree stands while the sets of others are traded
 module _ {Set : Type 0} (v w : View Set) (b h : Backward Set) (nodes : List (Node Set)) (m : Moved v w b h) (apart : AreApart b nodes) (z : IsTree v nodes) where
-  node_moved : (i : ℕ) (p : List ℕ) (a : Set) → InTree nodes a → IsNode v i p a → IsNode w i p a
-  node_moved i p a t n =
-      let sys = sym m.trades.system in
-      record {
-        good = record {
-          end = n.good.end;
-          runs = subst (λ (y : System). Runs y y.initial p n.good.end) sys n.good.runs;
-          different = subst (λ (y : System). AllDifferent (trace y y.initial p)) sys n.good.different;
-          listed = subst (λ (y : System). AllByRecursion (Listed y.states) (trace y y.initial p)) sys n.good.listed;
-        };
-        one = one_moved v w a n.good.end (m.trades.others a n.one.valid (apart a t)) (m.trades.same a n.one.valid (apart a t)) n.one;
-        deep = n.deep;
-      }
+  apart_own : (a : Set) → InTree nodes a → ¬ IsOwn (search_of b) a
+  apart_own a t o = apart a t (inl o)
 
-  in_here : (i : ℕ) (n : Node Set) → i < length nodes → n ≡ slice_index_or nodes i n → InTree nodes n.set
-  in_here i n lt is = subst (λ (k : Node Set). InTree nodes k.set) (sym is) (in_at nodes i n lt)
+  valid_on : (a : Set) → InTree nodes a → Valid w a
+  valid_on a t = m.trades.others a (in_valid v nodes a z t) (apart_own a t)
 
-  pub valid_here : (i : ℕ) (n : Node Set) → i < length nodes → n ≡ slice_index_or nodes i n → Valid w n.set
-  valid_here i n lt is = m.trades.others n.set (in_valid v nodes n.set z (in_here i n lt is)) (apart n.set (in_here i n lt is))
+  same_on : (a : Set) → InTree nodes a → (s : State) → w.has a s ≡ v.has a s
+  same_on a t = m.trades.same a (in_valid v nodes a z t) (apart_own a t)
 
-  pub one_here : (i : ℕ) (n : Node Set) (s : State) → i < length nodes → n ≡ slice_index_or nodes i n → One v n.set s → One w n.set s
-  one_here i n s lt is one = one_moved v w n.set s (valid_here i n lt is) (m.trades.same n.set one.valid (apart n.set (in_here i n lt is))) one
+  in_here : (i : ℕ) (n : Node Set) → 0 < uses_at nodes i → n ≡ slice_index_or nodes i n → InTree nodes n.set
+  in_here i n used is = (i, n, used_here nodes i n is used, refl)
+
+  pub valid_here : (i : ℕ) (n : Node Set) → 0 < uses_at nodes i → n ≡ slice_index_or nodes i n → Valid w n.set
+  valid_here i n used is = valid_on n.set (in_here i n used is)
+
+  pub one_here : (i : ℕ) (n : Node Set) (s : State) → 0 < uses_at nodes i → n ≡ slice_index_or nodes i n → One v n.set s → One w n.set s
+  one_here i n s used is one = one_as v w n.set s (valid_on n.set (in_here i n used is)) (same_on n.set (in_here i n used is)) one
 
   pub reached_here : (p : List ℕ) (good : Good v.system p) → IsReached w.system good.end
   reached_here p good = subst (λ (y : System). IsReached y good.end) (sym m.trades.system) (p, good.runs)
@@ -84,22 +70,65 @@ module _ {Set : Type 0} (v w : View Set) (b h : Backward Set) (nodes : List (Nod
   left_here s o h = subst (λ (y : System). IsLeft y s o) m.trades.system h
 
   pub tree_moved : IsTree w nodes
-  tree_moved = record { some = z.some; linked = z.linked; each = λ i d lt. node_moved i (path_at nodes i) (slice_index_or nodes i d).set (in_at nodes i d lt) (z.each i d lt) }
+  tree_moved = record {
+    some = z.some;
+    linked = z.linked;
+    each = λ i n u. node_as v w i (path_at nodes i) n.set m.trades.system (valid_on n.set (i, n, u, refl)) (same_on n.set (i, n, u, refl)) (z.each i n u);
+    up = z.up;
+    apart = z.apart;
+  }
 
   -- a new set of the search back is none of the tree
   pub apart_moved : AreApart h nodes
-  apart_moved a t o = clash (v.valid a) (in_valid v nodes a z t) (m.trades.fresh a o (apart a t))
+  apart_moved a t o = elim o [
+    | inl own ↦ clash (v.valid a) (in_valid v nodes a z t) (m.trades.fresh a own (apart_own a t))
+    | inr e ↦ apart a t (inr (e ∙ m.within))
+  ]
     where
       clash : (x : Bool) → x ≡ true → x ≡ false → ⊥
       clash x e f = cc
 
-  pub keeps_moved : ((a : Set) → Valid v a → Keeping b nodes a) → (a : Set) → Valid w a → Keeping h nodes a
+  pub keeps_moved : ((a : Set) → Valid v a → IsBeneath b a ⊎ InTree nodes a) → (a : Set) → Valid w a → IsBeneath h a ⊎ InTree nodes a
   keeps_moved keeps a valid = elim (m.trades.only a valid) [
     | inl o ↦ inl (inl o)
     | inr old ↦ elim (keeps a old) [
       | inl k ↦ elim k [ inl o ↦ inl (inl (m.trades.given a o valid)) | inr e ↦ inl (inr (e ∙ sym m.within)) ]
       | inr t ↦ inr t
     ]
+  ]
+
+-- the search back stands while the sets of the tree are traded
+module _ {Set : Type 0} (v w : View Set) (b : Backward Set) (nodes grown : List (Node Set)) (t : Trades v w (InTree nodes) (InTree grown)) (apart : AreApart b nodes) (z : IsBackward v b) where
+  used_beneath : (a : Set) → Uses (search_of b) a → IsBeneath b a
+  used_beneath a u = elim u [ inl k ↦ inl (inl k) | inr o ↦ elim o [ inl e ↦ inl (inr (inl e)) | inr e ↦ inr e ] ]
+
+  beneath_valid : (a : Set) → IsBeneath b a → Valid v a
+  beneath_valid a o = elim o [ inl own ↦ own_valid v b z a own | inr e ↦ subst (λ (x : Set). Valid v x) (sym e) z.search.within ]
+
+  off_tree : (a : Set) → IsBeneath b a → ¬ InTree nodes a
+  off_tree a o i = apart a i o
+
+  pub backward_traded : IsBackward w b
+  backward_traded = record {
+    search = search_in v w (search_of b) t.system
+        (λ a u. t.others a (beneath_valid a (used_beneath a u)) (off_tree a (used_beneath a u)))
+        (λ a u. t.same a (beneath_valid a (used_beneath a u)) (off_tree a (used_beneath a u))) z.search;
+    side = z.side;
+  }
+
+  pub wide_traded : IsWide v b → IsWide w b
+  wide_traded wide s u = t.same (within_of (search_of b)) z.search.within (off_tree (within_of (search_of b)) (inr refl)) s ∙ wide s (subst (λ (y : System). Useful y s) t.system u)
+
+  pub apart_traded : AreApart b grown
+  apart_traded a i o = clash (v.valid a) (beneath_valid a o) (t.fresh a i (off_tree a o))
+    where
+      clash : (x : Bool) → x ≡ true → x ≡ false → ⊥
+      clash x e f = cc
+
+  pub keeps_traded : ((a : Set) → Valid v a → IsBeneath b a ⊎ InTree nodes a) → (a : Set) → Valid w a → IsBeneath b a ⊎ InTree grown a
+  keeps_traded keeps a valid = elim (t.only a valid) [
+    | inl i ↦ inr i
+    | inr old ↦ elim (keeps a old) [ inl o ↦ inl o | inr i ↦ inr (t.given a i valid) ]
   ]
 
 -- a better bound for the entry

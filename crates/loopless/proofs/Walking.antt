@@ -1,5 +1,5 @@
 -- How a turn ends the list, and turns one after the other.
-use Rattle.std.proofs.Common.{◌≡◌, ℕ, ◌-◌, ◌<◌, ◌≤◌, ◌^◌, ◌⊎◌, inl, inr, IsTrue, List, [], ◌∷◌, length, slice_index_or, Option, Some, None, Result, Ok, Err, OnErr, sym, ◌∙◌, ap, subst, arith}
+use Rattle.std.proofs.Common.{◌≡◌, ℕ, ◌-◌, ◌<◌, ◌≤◌, ◌^◌, ◌⊎◌, inl, inr, IsTrue, List, [], ◌∷◌, length, slice_index_or, Option, Some, None, Ok, Err, sym, subst, arith}
 use Rattle.std.specs.List.{AllByRecursion}
 use Rattle.symk_task.specs.declared.parts.Mode.TheVariants.{Loopless}
 use Rattle.task_system.specs.System.{System, cost_of}
@@ -13,15 +13,12 @@ use Rattle.prefix_laws.proofs.Turns as turns
 use Rattle.prefix_tree.specs.Tree.{path_at}
 use Rattle.prefix_tree.specs.declared.tree.Node.{Node}
 use Rattle.prefix_tree.specs.declared.entry.Entry.{Entry}
+use Rattle.prefix_tree.proofs.Ways.{first_used}
 use Rattle.loopless.specs.Children.{IsEntry, prefixes}
 use Rattle.loopless.specs.Standing.{IsReady}
 use Rattle.loopless.specs.Turned.{IsPast, IsOut}
 use Rattle.loopless.proofs.Turning.{first_is, first_in}
 use Rattle.loopless.proofs.Readying.{good_at}
-
-pub err_put : {T X E : Type 0} (a c : List (Node T)) (es new : List Entry) (r : Result X E) → OnErr r (new ≡ es) → prefixes c es ≡ prefixes a es → OnErr r (prefixes c new ≡ prefixes a es)
-err_put a c es new (Ok x) same grown = tt
-err_put a c es new (Err e) same grown = ap (prefixes c) same ∙ grown
 
 bounds_all : {T : Type 0} (y : System) (nodes : List (Node T)) (b : ℕ) (ks : List Entry) → AllByRecursion (IsEntry y nodes) ks → AllByRecursion (λ (k : Entry). b ≤ k.bound.0) ks → AllByRecursion (λ x. Bounds y x b) (prefixes nodes ks)
 bounds_all y nodes b [] c d = tt
@@ -45,7 +42,7 @@ out_turn v b None nodes es e out z right some first least =
     let entry : IsEntry v.system nodes e = first_is (IsEntry v.system nodes) es e some first z.each in
     let le : cost_of v.system (path_at nodes e.node) ≤ e.bound.0 = omega (arith, entry.cost, entry.least) in
     let dear : top None < cost_of v.system (path_at nodes e.node) = omega (arith, entry.cost, out.1) in
-    turns.out_of_range v.system None (path_at nodes e.node) (prefixes nodes es) right (good_at v nodes e.node entry.inside z.tree) (first_in nodes es e some first) e.bound.0 (bounds_all v.system nodes e.bound.0 es z.each least) le (entry.plan.0 out.0) dear
+    turns.out_of_range v.system None (path_at nodes e.node) (prefixes nodes es) right (good_at v nodes e.node (first_used nodes es e z.counted some first) z.tree) (first_in nodes es e some first) e.bound.0 (bounds_all v.system nodes e.bound.0 es z.each least) le (entry.plan.0 out.0) dear
 
 self : (y : System) (es fs : List (List ℕ)) → fs ≡ es → Stays (Pending y es) (Pending y fs)
 self y es fs e p = (subst (λ (z : List (List ℕ)). Pending y z p) e, subst (λ (z : List (List ℕ)). Pending y z p) (sym e))

@@ -5,7 +5,10 @@ use Rattle.std.specs.List.{AllByRecursion}
 use Rattle.symk_task.specs.declared.parts.Mode.TheVariants.{Loopless}
 use Rattle.task_system.specs.System.{System, IsPlan, IsPlanOf, cost_of}
 use Rattle.prefix_laws.specs.Queue.{prefix, ind, count, sum_ops, Bounds, Hopeless}
-use Rattle.prefix_tree.specs.Tree.{path_at}
+use Rattle.space_api.specs.View.{View}
+use Rattle.space_api.specs.Owned.{Trades}
+use Rattle.prefix_tree.specs.Tree.{IsCounted, IsTree, InTree, path_at}
+use Rattle.prefix_tree.specs.Entries.{entries_at}
 use Rattle.prefix_tree.specs.declared.tree.Node.{Node}
 use Rattle.prefix_tree.specs.declared.entry.Entry.{Entry}
 
@@ -34,3 +37,15 @@ pub record AreChildren {T : Type 0} (y : System) (nodes : List (Node T)) (e : Li
   pub longer : AllByRecursion (λ k. length k ≡ length e + 1) (prefixes nodes kids)
   pub few : length kids ≤ n
   pub counted : (p : List ℕ) → IsPlanOf y Loopless p → count (prefixes nodes kids) p ≡ sum_ops n (λ op. ind (prefix (e ++ op ∷ []) p))
+
+-- while entries come, each prefix is used by just those entries more
+abbrev pub CountsOn : {T : Type 0} → List (Node T) → List (Node T) → List Entry → List Entry → Type 0
+CountsOn a b old new = (others : ℕ → ℕ) → IsCounted a (λ i. others i + entries_at old i) → IsCounted b (λ i. others i + entries_at new i)
+
+-- the tree may have places more, but its sets changed hands, and each prefix is used as before
+pub record Regrows {Set : Type 0} (v w : View Set) (old new : List (Node Set)) : Type 0 where
+  pub trades : Trades v w (InTree old) (InTree new)
+  pub tree : IsTree w new
+  pub longer : length old ≤ length new
+  pub paths : (i : ℕ) → i < length old → path_at new i ≡ path_at old i
+  pub counted : (others : ℕ → ℕ) → IsCounted old others → IsCounted new others

@@ -1,14 +1,15 @@
 -- An engine as its callers see it.
-use Rattle.std.specs.Prelude.{◌≡◌, ℕ, Bool, IsFalse, List, Option, Result}
+use Rattle.std.specs.Prelude.{◌≡◌, ℕ, ◌⊎◌, Bool, IsFalse, List, Option, Result}
 use Rattle.task_system.specs.System.{State, System, IsPlanOf, Listed}
 use Rattle.symk_task.specs.declared.parts.Mode.TheVariants.{Loopless}
 use Rattle.run_graph.specs.Reached.{Useful}
 use Rattle.space_api.specs.View.{View, Valid, Has}
+use Rattle.lazy_plans.specs.Law.{Last}
 use Rattle.lazy_plans.specs.declared.stop.Stop.{Stop}
-use Rattle.prefix_tree.specs.Entries.{entries_of}
+use Rattle.prefix_tree.specs.Entries.{entries_of, IsOnWay}
 use Rattle.loopless.specs.declared.engine.LooplessPlans.{LooplessPlans}
 use Rattle.loopless.specs.Children.{prefixes}
-use Rattle.loopless.specs.Standing.{Keeping}
+use Rattle.loopless.specs.Standing.{IsBeneath}
 use Rattle.loopless.specs.Owing.{Owes, tells_owed, IsTidy, IsSound, Answered}
 
 abbrev pub system_of : {S Set : Type 0} → (S → View Set) → LooplessPlans S Set → System
@@ -17,6 +18,10 @@ system_of view x = (view x.space).system
 -- the greatest cost that is wanted, or none
 abbrev pub most_of : {S Set : Type 0} → LooplessPlans S Set → Option ℕ
 most_of x = x.most
+
+-- the answer that ended it, which every later call repeats; none, while it goes on
+abbrev pub ended_of : {S Set : Type 0} → LooplessPlans S Set → Last
+ended_of x = x.ended
 
 -- what is still owed, and the same computed
 abbrev pub Pends : {S Set : Type 0} → (S → View Set) → LooplessPlans S Set → List ℕ → Type 0
@@ -29,9 +34,9 @@ tells view x p = tells_owed (view x.space).system (prefixes x.tree.items (entrie
 abbrev pub IsEngine : {S Set : Type 0} → (S → View Set) → LooplessPlans S Set → Type 0
 IsEngine view x = IsSound (view x.space) x.backward x.tree.items x.most (entries_of x.queue) x.held x.ended
 
--- every valid set is one of the search back, the one that it is kept to, or that of a prefix
+-- every valid set is one of the search back, the one that it is kept to, or that of a prefix on the way to one in the queue
 abbrev pub KeepsAll : {S Set : Type 0} → (S → View Set) → LooplessPlans S Set → Type 0
-KeepsAll {S} {Set} view x = (a : Set) → Valid (view x.space) a → Keeping x.backward x.tree.items a
+KeepsAll {S} {Set} view x = (a : Set) → Valid (view x.space) a → IsBeneath x.backward a ⊎ IsOnWay x.tree.items (entries_of x.queue) a
 
 -- no more is held than twice what was needed last, and 1,000
 abbrev pub HasRoom : {S Set : Type 0} → (S → View Set) → LooplessPlans S Set → Type 0

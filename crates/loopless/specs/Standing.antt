@@ -10,7 +10,8 @@ use Rattle.backward_search.specs.declared.backward.Backward.{Backward}
 use Rattle.symk_task.specs.declared.parts.Mode.TheVariants.{Loopless}
 use Rattle.lazy_plans.specs.Law.{Gave, Stays, top}
 use Rattle.prefix_laws.specs.Queue.{Hopeless, Right, Pending, weight}
-use Rattle.prefix_tree.specs.Tree.{IsTree, InTree, path_at}
+use Rattle.prefix_tree.specs.Tree.{IsTree, IsCounted, InTree, path_at}
+use Rattle.prefix_tree.specs.Entries.{entries_at}
 use Rattle.prefix_tree.specs.declared.tree.Node.{Node}
 use Rattle.prefix_tree.specs.declared.entry.Entry.{Entry}
 use Rattle.loopless.specs.Left.{IsWide}
@@ -22,13 +23,13 @@ pub record Moved {Set : Type 0} (v w : View Set) (b h : Backward Set) : Type 0 w
   pub within : within_of (search_of h) ≡ within_of (search_of b)
   pub states : (s : State) → w.has (within_of (search_of b)) s ≡ v.has (within_of (search_of b)) s
 
--- no set of the tree is one of the search back
-abbrev pub AreApart : {Set : Type 0} → Backward Set → List (Node Set) → Type 0
-AreApart {Set} b nodes = (a : Set) → InTree nodes a → ¬ IsOwn (search_of b) a
+-- a is one of the sets of the search back, or the one that it is kept to
+abbrev pub IsBeneath : {Set : Type 0} → Backward Set → Set → Type 0
+IsBeneath b a = IsOwn (search_of b) a ⊎ (a ≡ within_of (search_of b))
 
--- the sets that are kept: those of the search back, what it is kept to, and those of the tree
-abbrev pub Keeping : {Set : Type 0} → Backward Set → List (Node Set) → Set → Type 0
-Keeping b nodes a = (IsOwn (search_of b) a ⊎ (a ≡ within_of (search_of b))) ⊎ InTree nodes a
+-- no set of the tree is one of those
+abbrev pub AreApart : {Set : Type 0} → Backward Set → List (Node Set) → Type 0
+AreApart {Set} b nodes = (a : Set) → InTree nodes a → ¬ IsBeneath b a
 
 -- how much may still be learned of an entry's bound
 abbrev pub stale : Entry → ℕ
@@ -47,14 +48,16 @@ IsBetter y nodes e (Some k) = (k.node ≡ e.node) × IsEntry y nodes k × (stale
 abbrev pub work : {T : Type 0} → System → List (Node T) → List Entry → ℕ
 work y nodes es = 2 ^ 65 * weight y (prefixes nodes es) + all_stale es
 
--- The search back, the tree and the entries of the queue stand, and each valid set is kept.
+-- The search back, the tree and the entries of the queue stand, each prefix is used as it is counted, and each valid set is one
+-- of the search back or of the tree.
 pub record IsReady {Set : Type 0} (v : View Set) (b : Backward Set) (nodes : List (Node Set)) (es : List Entry) : Type 0 where
   pub backward : IsBackward v b
   pub wide : IsWide v b
   pub tree : IsTree v nodes
   pub each : AllByRecursion (IsEntry v.system nodes) es
+  pub counted : IsCounted nodes (entries_at es)
   pub apart : AreApart b nodes
-  pub keeps : (a : Set) → Valid v a → Keeping b nodes a
+  pub keeps : (a : Set) → Valid v a → IsBeneath b a ⊎ InTree nodes a
 
 -- the entry alone, or none
 abbrev pub listed_of : Option Entry → List Entry

@@ -2,7 +2,7 @@
 
 ghost use Rattle.std.specs.Prelude.{◌≡◌, IfOk, None, Some};
 ghost use Rattle.space_api.specs.View.{View, Valid};
-ghost use Rattle.loopless.specs.Engine.{system_of, most_of, IsEngine, HasNone, HasAlone, HasUseful, ListsUseful, OwesAll};
+ghost use Rattle.loopless.specs.Engine.{system_of, most_of, ended_of, IsEngine, HasNone, HasAlone, HasUseful, ListsUseful, OwesAll};
 
 use crate::engine::LooplessPlans;
 use crate::reach::is_goal;
@@ -31,7 +31,7 @@ impl<S: Space + Drop> LooplessPlans<S> {
         ensures system { IfOk result (λ x. system_of S.view x ≡ (S.view space).system) }
         ensures all { IfOk result (λ x. OwesAll S.view (S.view space).system x) }
         ensures most { IfOk result (λ x. most_of x ≡ most) }
-        ensures last { IfOk result (λ x. x.ended ≡ None) }
+        ensures last { IfOk result (λ x. ended_of x ≡ None) }
     {
         let mut space = space;
         let backward = Backward::new(alloc, &mut space, within, Kind::Least)?;
@@ -44,6 +44,7 @@ impl<S: Space + Drop> LooplessPlans<S> {
             parent: 0,
             op: 0,
             set: start,
+            uses: 1,
         })?;
         let mut queue = Queue::new(alloc);
         queue.push(Entry {
@@ -75,7 +76,7 @@ impl<S: Space + Drop> LooplessPlans<S> {
         ensures system { IfOk result (λ x. system_of S.view x ≡ (S.view space).system) }
         ensures all { IfOk result (λ x. OwesAll S.view (S.view space).system x) }
         ensures most { IfOk result (λ x. most_of x ≡ None) }
-        ensures last { IfOk result (λ x. x.ended ≡ None) }
+        ensures last { IfOk result (λ x. ended_of x ≡ None) }
     {
         LooplessPlans::begin(alloc, space, None, within)
     }
@@ -94,7 +95,7 @@ impl<S: Space + Drop> LooplessPlans<S> {
         ensures system { IfOk result (λ x. system_of S.view x ≡ (S.view space).system) }
         ensures all { IfOk result (λ x. OwesAll S.view (S.view space).system x) }
         ensures most { IfOk result (λ x. most_of x ≡ Some most) }
-        ensures last { IfOk result (λ x. x.ended ≡ None) }
+        ensures last { IfOk result (λ x. ended_of x ≡ None) }
     {
         LooplessPlans::begin(alloc, space, Some(most), within)
     }
@@ -111,7 +112,7 @@ impl<S: Space + Drop> LooplessPlans<S> {
         ensures system { IfOk result (λ x. system_of S.view x ≡ (S.view space).system) }
         ensures all { IfOk result (λ x. OwesAll S.view (S.view space).system x) }
         ensures most { IfOk result (λ x. most_of x ≡ most) }
-        ensures last { IfOk result (λ x. x.ended ≡ None) }
+        ensures last { IfOk result (λ x. ended_of x ≡ None) }
     {
         let mut space = space;
         let within = space.all()?;
@@ -128,7 +129,7 @@ impl<S: Space + Drop> LooplessPlans<S> {
         ensures system { IfOk result (λ x. system_of S.view x ≡ (S.view space).system) }
         ensures all { IfOk result (λ x. OwesAll S.view (S.view space).system x) }
         ensures most { IfOk result (λ x. most_of x ≡ None) }
-        ensures last { IfOk result (λ x. x.ended ≡ None) }
+        ensures last { IfOk result (λ x. ended_of x ≡ None) }
     {
         LooplessPlans::begin_anywhere(alloc, space, None)
     }
@@ -141,7 +142,7 @@ impl<S: Space + Drop> LooplessPlans<S> {
         ensures system { IfOk result (λ x. system_of S.view x ≡ (S.view space).system) }
         ensures all { IfOk result (λ x. OwesAll S.view (S.view space).system x) }
         ensures most { IfOk result (λ x. most_of x ≡ Some most) }
-        ensures last { IfOk result (λ x. x.ended ≡ None) }
+        ensures last { IfOk result (λ x. ended_of x ≡ None) }
     {
         LooplessPlans::begin_anywhere(alloc, space, Some(most))
     }

@@ -11,7 +11,7 @@ use symk_task::Plan;
 pub struct LooplessPlans<S: Space> {
     pub(crate) space: S,
     pub(crate) backward: Backward<S::Set>,
-    /// Each prefix that was made.
+    /// The prefixes that were made. Those that lead to none in the queue have no set any more.
     pub(crate) tree: Vec<Node<S::Set>>,
     /// Those that may go on.
     pub(crate) queue: Queue,
@@ -28,7 +28,7 @@ ghost use Rattle.symk_task.specs.declared.parts.Mode.TheVariants.{Loopless};
 ghost use Rattle.lazy_plans.specs.Law.{Turned, last_of};
 ghost use Rattle.prefix_tree.specs.Entries.{entries_of};
 ghost use Rattle.loopless.specs.Children.{prefixes};
-ghost use Rattle.loopless.specs.Engine.{system_of, most_of, Pends, tells, IsEngine, KeepsAll, HasRoom, Answers};
+ghost use Rattle.loopless.specs.Engine.{system_of, most_of, ended_of, Pends, tells, IsEngine, KeepsAll, HasRoom, Answers};
 ghost use Rattle.loopless.specs.Laws.{owed_fair, owed_told};
 
 use crate::walk::walk;
@@ -41,9 +41,9 @@ impl<S: Space> LooplessPlans<S> {
     /// engine stops.
     fn ask<L: Ledger>(&mut self, alloc: Global, steps: &mut Steps<L>) -> Result<Option<Plan>, Stop>
         requires engine { IsEngine S.view self.old }
-        requires goes_on { self.old.ended ≡ None }
+        requires goes_on { ended_of self.old ≡ None }
         ensures answers { Answers S.view self.old self.new result }
-        ensures most { self.new.most ≡ self.old.most }
+        ensures most { most_of self.new ≡ most_of self.old }
     {
         match walk(
             alloc,
@@ -89,10 +89,10 @@ impl<S: Space> LazyPlans for LooplessPlans<S> {
 
     ghost lawful = { λ x. IsEngine S.view x };
 
-    ghost last = { λ x. x.ended };
+    ghost last = { λ x. ended_of x };
 
-    /// The next plan. One turn is one step. After each call every valid set is one that the engine keeps, and after a plan or
-    /// None the space is tidy.
+    /// The next plan. One turn is one step. After each call, also one that is refused, every valid set is one of the search back,
+    /// the one that it is kept to, or that of a prefix on the way to one in the queue. After a plan or None the space is tidy.
     fn next_plan<L: Ledger>(
         &mut self,
         alloc: Global,
@@ -104,8 +104,8 @@ impl<S: Space> LazyPlans for LooplessPlans<S> {
         ensures mode { Loopless ≡ Loopless }
         ensures most { most_of self.new ≡ most_of self.old }
         ensures law { Turned (system_of S.view self.old) Loopless (most_of self.old) (Pends S.view self.old) (Pends S.view self.new) result }
-        ensures last { self.new.ended ≡ last_of result }
-        ensures again { self.old.ended ≢ None → self.new.ended ≡ self.old.ended }
+        ensures last { ended_of self.new ≡ last_of result }
+        ensures again { ended_of self.old ≢ None → ended_of self.new ≡ ended_of self.old }
         ensures keeps { KeepsAll S.view self.new }
         ensures tidy { IfOk result (λ o. HasRoom S.view self.new) }
     {

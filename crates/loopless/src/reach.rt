@@ -1,13 +1,13 @@
 //! Where an operator leads from the end of a prefix.
 
-ghost use Rattle.std.specs.Prelude.{◌<◌, IfOk, OnErr, length};
+ghost use Rattle.std.specs.Prelude.{◌<◌, IfOk, OnErr};
 ghost use Rattle.std.specs.Bool.{Decides};
 ghost use Rattle.std.specs.Prelude.{IsTrue};
 ghost use Rattle.task_system.specs.System.{State};
 ghost use Rattle.space_api.specs.View.{View, Valid};
 ghost use Rattle.space_api.specs.Frames.{Stays};
 ghost use Rattle.backward_search.specs.Backward.{IsBackward};
-ghost use Rattle.prefix_tree.specs.Tree.{One, IsTree, path_at};
+ghost use Rattle.prefix_tree.specs.Tree.{One, IsTree, path_at, uses_at};
 ghost use Rattle.loopless.specs.Left.{IsWide, IsReached};
 ghost use Rattle.loopless.specs.Reach.{Makes, IsStepped, IsSeen, IsReach};
 
@@ -63,7 +63,7 @@ fn look<S: Space>(
     requires backward { IsBackward (S.view space.old) backward.now }
     requires wide { IsWide (S.view space.old) backward.now }
     requires tree { IsTree (S.view space.old) tree.now }
-    requires node { node < length tree.now }
+    requires node { 0 < uses_at tree.now node }
     requires set { Valid (S.view space.old) set }
     ensures stays { Stays (S.view space.old) (S.view space.new) }
     ensures ok { IfOk result (λ found. (s : State) → One (S.view space.old) set s → IsReached (S.view space.old).system s → IsSeen (S.view space.old).system (path_at tree.now node) set s found) }
@@ -92,7 +92,7 @@ pub(crate) fn reach<S: Space>(
     requires backward { IsBackward (S.view space.old) backward.now }
     requires wide { IsWide (S.view space.old) backward.now }
     requires tree { IsTree (S.view space.old) tree.now }
-    requires node { node < length tree.now }
+    requires node { 0 < uses_at tree.now node }
     requires op { op < (S.view space.old).system.operators }
     ensures ok { IfOk result (IsReach (S.view space.old) (S.view space.new) (path_at tree.now node) op) }
     ensures err { OnErr result (Stays (S.view space.old) (S.view space.new)) }

@@ -3,7 +3,7 @@
 ghost use Rattle.std.specs.Prelude.{◌≡◌, ◌+◌, ◌*◌, ◌-◌, ◌<◌, ◌≤◌, ◌^◌, ◌⊎◌, IsFalse, IfOk};
 ghost use Rattle.space_api.specs.View.{View};
 ghost use Rattle.backward_search.specs.Backward.{IsBackward};
-ghost use Rattle.prefix_tree.specs.Tree.{IsTree};
+ghost use Rattle.prefix_tree.specs.Tree.{IsTree, uses_at};
 ghost use Rattle.loopless.specs.Left.{IsWide};
 ghost use Rattle.loopless.specs.Children.{IsEntry};
 ghost use Rattle.loopless.specs.Standing.{Moved, AreApart, IsBetter, stale};
@@ -88,6 +88,7 @@ pub(crate) fn refresh<S: Space>(
     requires tree { IsTree (S.view space.old) tree.now }
     requires apart { AreApart backward.old tree.now }
     requires entry { IsEntry (S.view space.old).system tree.now entry }
+    requires used { 0 < uses_at tree.now entry.node }
     requires open { IsFalse entry.settled }
     ensures backward { IsBackward (S.view space.new) backward.new }
     ensures moved { Moved (S.view space.old) (S.view space.new) backward.old backward.new }

@@ -2,14 +2,15 @@
 
 ghost use Rattle.std.specs.Prelude.{◌≡◌, ◌<◌, IsFalse, IfOk, OnOk, OnErr, length, slice_index_or};
 ghost use Rattle.space_api.specs.View.{View};
-ghost use Rattle.prefix_tree.specs.Tree.{AreLinked, Grows};
+ghost use Rattle.prefix_tree.specs.Tree.{AreLinked};
 ghost use Rattle.prefix_tree.specs.Entries.{entries_of};
+ghost use Rattle.loopless.specs.Children.{prefixes};
 ghost use Rattle.loopless.specs.Standing.{IsReady, GoesOn, Opens, IsPlanAt, listed_of};
 
 use crate::expand::expand;
 use crate::refresh::refresh;
 use backward_search::Backward;
-use prefix_tree::{Entry, Node, Queue, operators_to};
+use prefix_tree::{Entry, Node, Queue, operators_to, release};
 use space_api::{Space, SpaceFault};
 use std::alloc::{AllocError, Global};
 use symk_task::Plan;
@@ -28,28 +29,36 @@ fn one_or_none(alloc: Global, entry: Option<Entry>) -> Result<Vec<Entry>, AllocE
     }
 }
 
-/// Learns more of the first entry's bound, which puts it where it then belongs, or takes it out where no plan goes on from it.
-/// Want of memory leaves the entries.
+/// Learns more of the first entry's bound, which puts it where it then belongs, or takes it out where no plan goes on from it; its
+/// prefix is given up then. Want of memory leaves the entries.
 pub fn learn<S: Space>(
     alloc: Global,
     space: &mut S,
     backward: &mut Backward<S::Set>,
-    tree: &[Node<S::Set>],
+    tree: &mut Vec<Node<S::Set>>,
     queue: &mut Queue,
     entry: Entry,
 ) -> Result<(), SpaceFault>
-    requires ready { IsReady (S.view space.old) backward.old tree.now (entries_of queue.old) }
+    requires ready { IsReady (S.view space.old) backward.old tree.old.items (entries_of queue.old) }
     requires some { 0 < length (entries_of queue.old) }
     requires first { entry ≡ slice_index_or (entries_of queue.old) 0 entry }
     requires open { IsFalse entry.settled }
     ensures system { (S.view space.new).system ≡ (S.view space.old).system }
-    ensures ready { IsReady (S.view space.new) backward.new tree.now (entries_of queue.new) }
-    ensures ok { OnOk result (GoesOn (S.view space.old).system tree.now tree.now (entries_of queue.old) (entries_of queue.new)) }
-    ensures err { OnErr result (entries_of queue.new ≡ entries_of queue.old) }
+    ensures ready { IsReady (S.view space.new) backward.new tree.new.items (entries_of queue.new) }
+    ensures ok { OnOk result (GoesOn (S.view space.old).system tree.old.items tree.new.items (entries_of queue.old) (entries_of queue.new)) }
+    ensures err { OnErr result (prefixes tree.new.items (entries_of queue.new) ≡ prefixes tree.old.items (entries_of queue.old)) }
 {
     let better = refresh(alloc, space, backward, tree, entry)?;
     let others = one_or_none(alloc, better)?;
-    queue.replace(others)
+    queue.make_room(others.len())?;
+    queue.replace(others);
+    match better {
+        Some(_) => Ok(()),
+        None => {
+            release(space, tree, entry.node);
+            Ok(())
+        }
+    }
 }
 
 /// The plan that the entry is, if it is one.
@@ -68,8 +77,8 @@ fn plan_of<T: Copy>(
     Ok(None)
 }
 
-/// Takes the first entry out and puts its children in, and gives the plan that it is, if it is one. Want of memory leaves the
-/// entries, but the tree may have prefixes more.
+/// Takes the first entry out and puts its children in, and gives the plan that it is, if it is one. Where it has no child its prefix
+/// is given up. Want of memory leaves the entries.
 pub fn open<S: Space>(
     alloc: Global,
     space: &mut S,
@@ -81,13 +90,14 @@ pub fn open<S: Space>(
     requires ready { IsReady (S.view space.old) backward.now tree.old.items (entries_of queue.old) }
     requires some { 0 < length (entries_of queue.old) }
     requires first { entry ≡ slice_index_or (entries_of queue.old) 0 entry }
-    ensures grows { Grows (S.view space.old) (S.view space.new) tree.old.items tree.new.items }
+    ensures system { (S.view space.new).system ≡ (S.view space.old).system }
     ensures ready { IsReady (S.view space.new) backward.now tree.new.items (entries_of queue.new) }
     ensures ok { IfOk result (Opens (S.view space.old).system tree.old.items tree.new.items entry (entries_of queue.old) (entries_of queue.new)) }
-    ensures err { OnErr result (entries_of queue.new ≡ entries_of queue.old) }
+    ensures err { OnErr result (prefixes tree.new.items (entries_of queue.new) ≡ prefixes tree.old.items (entries_of queue.old)) }
 {
-    let children = expand(alloc, space, backward, tree, entry)?;
     let plan = plan_of(alloc, tree, entry)?;
-    queue.replace(children)?;
+    let children = expand(alloc, space, backward, tree, queue, entry)?;
+    queue.replace(children);
+    release(space, tree, entry.node);
     Ok(plan)
 }

@@ -1,13 +1,13 @@
 -- The states on the way of a prefix, read along the ones before it.
-use Rattle.std.proofs.Common.{◌≡◌, ℕ, ◌<◌, Bool, true, false, ◌⊎◌, ◌↔◌, inl, inr, IsTrue, List, [], ◌∷◌, ◌++◌, length, slice_index_or, reverse, Option, unwrap_or, refl, sym, ◌∙◌, ap, subst, arith, append_assoc}
-use Rattle.std.specs.Bool.{Decides}
+use Rattle.std.proofs.Common.{◌≡◌, ℕ, ◌<◌, Bool, true, false, ◌↔◌, inl, inr, List, [], ◌∷◌, ◌++◌, length, slice_index_or, reverse, Option, unwrap_or, refl, sym, ◌∙◌, ap, subst, arith, append_assoc}
 use Rattle.std.proofs.lemmas.List.{reverse-append}
 use Rattle.task_system.specs.System.{State, System, Listed, Leads, Runs, trace, next_state}
-use Rattle.space_api.specs.View.{View, Valid, Has, HasSame}
-use Rattle.prefix_laws.specs.Queue.{Good}
+use Rattle.space_api.specs.View.{View, Valid, HasSame}
 use Rattle.prefix_laws.proofs.Traces.{trace_more, runs_cut}
-use Rattle.prefix_tree.specs.Tree.{One, path_at, IsLinked, AreLinked, IsNode, IsTree}
+use Rattle.prefix_tree.specs.Tree.{One, path_at, IsLinked, AreLinked, uses_at, IsUsed, IsNode, IsTree}
 use Rattle.prefix_tree.specs.declared.tree.Node.{Node}
+use Rattle.prefix_tree.proofs.Counting.{uses_beyond}
+use Rattle.prefix_tree.proofs.Using.{used_here}
 
 one_same : {Set : Type 0} (v : View Set) (a b : Set) (s t : State) → One v a s → One v b t → HasSame v a b → s ≡ t
 one_same v a b s t one two same = (two.means s).0 (sym (same s) ∙ (one.means s).1 refl)
@@ -43,15 +43,21 @@ trace_end y (op ∷ p) s t r = inr (subst (λ (x : State). Listed (trace y x p) 
     next_is : (y : System) (op : ℕ) (s m : State) → Leads y op s m → next_state y op s ≡ m
     next_is y op s m l = ap (λ (o : Option State). unwrap_or o s) l.step
 
-module _ {Set : Type 0} (v : View Set) (nodes : List (Node Set)) (z : IsTree v nodes) (at : ℕ) (n : Node Set) (within : at < length nodes) (is : n ≡ slice_index_or nodes at n) where
+module _ {Set : Type 0} (v : View Set) (nodes : List (Node Set)) (z : IsTree v nodes) (at : ℕ) (n : Node Set) (used : 0 < uses_at nodes at) (is : n ≡ slice_index_or nodes at n) where
+  up_within : at < length nodes
+  up_within = uses_beyond nodes at used
+
+  self : IsUsed nodes at n
+  self = used_here nodes at n is used
+
   node : IsNode v at (path_at nodes at) n.set
-  node = subst (λ (m : Node Set). IsNode v at (path_at nodes at) m.set) (sym is) (z.each at n within)
+  node = z.each at n self
 
   pub node_valid : Valid v n.set
   node_valid = node.one.valid
 
   link : IsLinked nodes at n
-  link = subst (IsLinked nodes at) (sym is) (z.linked at n within)
+  link = subst (IsLinked nodes at) (sym is) (z.linked at n up_within)
 
   pub here : (next : Set) (t : State) → One v next t → HasSame v n.set next → Listed (trace v.system v.system.initial (path_at nodes at)) t
   here next t one same = subst (Listed (trace v.system v.system.initial (path_at nodes at))) (one_same v n.set next node.good.end t node.one one same) (trace_end v.system (path_at nodes at) v.system.initial node.good.end node.good.runs)
@@ -72,6 +78,10 @@ module _ {Set : Type 0} (v : View Set) (nodes : List (Node Set)) (z : IsTree v n
 
   pub up_less : ¬ (at ≡ 0) → n.parent < at
   up_less off = elim link [ inl first ↦ absurd (off first.0) | inr k ↦ k.0 ]
+
+  -- the one before it is used too
+  pub up_used : ¬ (at ≡ 0) → 0 < uses_at nodes n.parent
+  up_used off = elim (z.up at n self) [ inl first ↦ absurd (off first) | inr h ↦ h ]
 
   up_path : ¬ (at ≡ 0) → path_at nodes at ≡ path_at nodes n.parent ++ n.op ∷ []
   up_path off = elim link [ inl first ↦ absurd (off first.0) | inr k ↦ k.1 ]

@@ -1,7 +1,5 @@
--- The first entry gives way to others, in whatever order a heap keeps them.
-use Rattle.std.proofs.Common.{◌≡◌, ℕ, zero, suc, ◌<◌, List, [], ◌∷◌, ◌++◌, length, slice_index_or, Result, Ok, Err, OnOk, OnErr, refl, sym, ◌∙◌, subst, arith}
-use Rattle.std.specs.BinaryHeap.{IsHeap}
-use Rattle.std.specs.declared.cmp.Ordering.{Ordering}
+-- The first entry gives way to others, in whatever order a heap keeps them; a list that is lent and written back.
+use Rattle.std.proofs.Common.{◌≡◌, ℕ, zero, suc, ◌<◌, true, false, List, [], ◌∷◌, ◌++◌, length, take, slice_index_or, Result, Ok, Err, OnOk, IsOk, refl, ap, sym, ◌∙◌, subst, arith}
 use Rattle.std.specs.List.Sorted.{IsPermutation}
 use Rattle.std.proofs.lemmas.List.Sorted.{IsPermutation-append, IsPermutation-trans, IsPermutation-cons}
 
@@ -16,7 +14,15 @@ replaced {X} old kids rest more new x e some top first out in_ joined =
     subst (λ (y : X). IsPermutation (old ++ kids) (y ∷ new)) same
     (IsPermutation-trans (old ++ kids) (x ∷ (rest ++ more)) (x ∷ new) (IsPermutation-append old (x ∷ rest) kids more out in_) (IsPermutation-cons x (rest ++ more) new joined))
 
--- a heap stays one, whether what was added found memory or not
-pub still_heap : {X E : Type 0} (R : X → X → Ordering) (xs ys : List X) (n m : ℕ) (r : Result (Unit {0}) E) → IsHeap R xs → OnOk r (IsHeap R xs → IsHeap R ys) → OnErr r ((ys ≡ xs) × (n ≡ m)) → IsHeap R ys
-still_heap R xs ys n m (Ok u) h k e = k h
-still_heap R xs ys n m (Err x) h k e = subst (IsHeap R) (sym e.0) h
+pub written_back : {X : Type 0} (xs ys : List X) (n : ℕ) → n ≡ length xs → take n (xs ++ ys) ≡ xs
+written_back [] ys zero e = refl
+written_back [] ys (suc n) e = absurd (omega arith)
+written_back (x ∷ xs) ys zero e = absurd (omega arith)
+written_back {X} (x ∷ xs) ys (suc n) e = ap (λ (l : List X). x ∷ l) (written_back xs ys n (omega arith))
+
+never : false ≡ true → ⊥
+never e = cc
+
+pub on_ok : {X E P : Type 0} (r : Result X E) → OnOk r P → IsOk r → P
+on_ok (Ok x) h ok = h
+on_ok (Err e) h ok = absurd (never ok)

@@ -1,7 +1,7 @@
 //! What a queue of prefixes does.
 
 ghost use Rattle.std.specs.Prelude.{◌≡◌, ◌<◌, ◌≤◌, ◌∷◌, ◌++◌, [], All, IfSome, IfNone, IfOk, OnOk, OnErr, IsPermutation, slice_index_or, length};
-ghost use Rattle.prefix_tree.specs.Entries.{entries_of};
+ghost use Rattle.prefix_tree.specs.Entries.{entries_of, HasRoom};
 
 use crate::entry::Entry;
 use crate::queue::Queue;
@@ -40,20 +40,23 @@ impl Queue {
         }
     }
 
-    /// Takes the first entry out and puts the others in. Want of memory leaves the queue as it was.
-    pub fn replace(&mut self, others: Vec<Entry>) -> Result<(), AllocError>
-        requires { 0 < length (entries_of self.old) }
-        ensures ok { OnOk result ((e : Entry) → e ≡ slice_index_or (entries_of self.old) 0 e → IsPermutation (entries_of self.old ++ others.items) (e ∷ entries_of self.new)) }
-        ensures err { OnErr result (entries_of self.new ≡ entries_of self.old) }
+    /// Finds memory for so many entries more, which `replace` then needs no more.
+    pub fn make_room(&mut self, more: usize) -> Result<(), AllocError>
+        ensures same { entries_of self.new ≡ entries_of self.old }
+        ensures ok { OnOk result (HasRoom self.new more) }
+    {
+        self.heap.reserve(more)
+    }
+
+    /// Takes the first entry out and puts the others in. It takes no memory.
+    pub fn replace(&mut self, others: Vec<Entry>)
+        requires some { 0 < length (entries_of self.old) }
+        requires room { HasRoom self.old (length others.items) }
+        ensures { (e : Entry) → e ≡ slice_index_or (entries_of self.old) 0 e → IsPermutation (entries_of self.old ++ others.items) (e ∷ entries_of self.new) }
     {
         let mut others = BinaryHeap::from(others);
-        self.heap.reserve(others.len())?;
-        match self.heap.pop() {
-            None => Ok(()),
-            Some(_) => {
-                self.heap.append(&mut others)?;
-                Ok(())
-            }
+        if let Some(_) = self.heap.pop() {
+            let _ = self.heap.append(&mut others);
         }
     }
 }

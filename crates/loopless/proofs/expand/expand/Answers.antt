@@ -1,32 +1,22 @@
-use Rattle.prefix_tree.specs.Tree.{path_at}
-use Rattle.backward_search.proofs.Standing.{backward_kept}
-use Rattle.loopless.proofs.Reaching.{wide_kept}
-use Rattle.loopless.proofs.Growing.{grows_trans, entry_grown, path_grown, children_grown, children_next, added_at}
+use Rattle.std.proofs.Common.{◌≡◌, drop, length, arith}
+use Rattle.prefix_tree.proofs.Replacing.{written_back}
+use Rattle.loopless.proofs.Growing.{counts_first, counts_made, regrows}
 use Rattle.loopless.proofs.expand.expand.Goals as goal
 
-pub add_child-requires-clause-backward : goal.add_child-requires-clause-backward
-add_child-requires-clause-backward g c = backward_kept (g.S.Space.view c.args.space.now) (g.S.Space.view c.operators.space) c.args.backward.now c.operators.invariant.grows.kept c.requires.backward
+pub release_all-requires-clause-used : goal.release_all-requires-clause-used
+release_all-requires-clause-used g c =
+    let n = counts_first c.args.tree.now.items c.add_all.new.tree.items c.new-children.result.items c.add_all.new.children.items c.new-children.ensures.items c.add_all.ensures.counted in
+    rw c.deref_mut.ensures.value (c.requires.counted.0, counts_made c.args.tree.now.items c.add_all.new.tree.items c.add_all.new.children.items c.requires.counted.0 n c.requires.counted.1)
 
-pub add_child-requires-clause-wide : goal.add_child-requires-clause-wide
-add_child-requires-clause-wide g c = wide_kept (g.S.Space.view c.args.space.now) (g.S.Space.view c.operators.space) c.args.backward.now c.operators.invariant.grows.kept c.requires.backward c.requires.wide
+pub returns-in-Ok-clause-counted : goal.returns-in-Ok-clause-counted
+returns-in-Ok-clause-counted g c = counts_first c.args.tree.now.items c.add_all.new.tree.items c.new-children.result.items c.add_all.new.children.items c.new-children.ensures.items c.add_all.ensures.counted
 
-pub add_child-requires-clause-entry : goal.add_child-requires-clause-entry
-add_child-requires-clause-entry g c = entry_grown (g.S.Space.view c.args.space.now) (g.S.Space.view c.operators.space) c.args.tree.now.items c.operators.tree.items c.args.entry c.operators.invariant.grows c.requires.entry
-
-pub returns-in_err-add_child-clause-grows : goal.returns-in_err-add_child-clause-grows
-returns-in_err-add_child-clause-grows g c = grows_trans (g.S.Space.view c.args.space.now) (g.S.Space.view c.operators.space) (g.S.Space.view c.add_child.new.space) c.args.tree.now.items c.operators.tree.items c.add_child.new.tree.items c.operators.invariant.grows c.add_child.ensures.grows
-
-pub operators-preserved : goal.operators-preserved
-operators-preserved g c =
+pub returns-in-Err-clause-err : goal.returns-in-Err-clause-err
+returns-in-Err-clause-err g c =
     let u = g.S.Space.view c.args.space.now in
-    let v = g.S.Space.view c.operators.space in
-    let w = g.S.Space.view c.add_child.new.space in
-    let i = c.operators.invariant in
-    let e = path_at c.args.tree.now.items c.args.entry.node in
-    let path = path_grown u v c.args.tree.now.items c.operators.tree.items c.args.entry.node i.grows c.requires.entry.inside in
-    let added = added_at u.system v.system c.add_child.new.tree.items e (path_at c.operators.tree.items c.args.entry.node) c.operators.op c.operators.children.items c.add_child.new.children.items i.grows.kept.system path c.in_ok-add_child.ensures.added in
-    record {
-      grows = grows_trans u v w c.args.tree.now.items c.operators.tree.items c.add_child.new.tree.items i.grows c.add_child.ensures.grows;
-      end = i.end;
-      children = children_next u.system c.add_child.new.tree.items e c.operators.op c.operators.children.items c.add_child.new.children.items (children_grown v w c.operators.tree.items c.add_child.new.tree.items u.system e c.operators.op c.operators.children.items c.add_child.ensures.grows i.children) added;
-    }
+    let v = g.S.Space.view c.add_all.new.space in
+    let w = g.S.Space.view c.release_all.new.space in
+    let n = counts_first c.args.tree.now.items c.add_all.new.tree.items c.new-children.result.items c.add_all.new.children.items c.new-children.ensures.items c.add_all.ensures.counted in
+    let long : c.add_all.new.tree.len ≡ length c.release_all.new.tree = omega (arith, c.release_all.ensures.long, c.deref_mut.ensures.len) in
+    let back = written_back c.release_all.new.tree (drop (length c.release_all.new.tree) c.add_all.new.tree.items) c.add_all.new.tree.len long in
+    rw back (regrows u v w c.args.tree.now.items c.add_all.new.tree.items c.release_all.new.tree c.add_all.new.children.items c.add_all.ensures.grows n (rw c.deref_mut.ensures.value at c.release_all.ensures))

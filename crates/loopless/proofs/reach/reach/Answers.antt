@@ -1,8 +1,12 @@
 use Rattle.prefix_tree.specs.Tree.{path_at}
 use Rattle.prefix_tree.proofs.Paths.{tree_kept}
+use Rattle.prefix_tree.proofs.Counting.{uses_beyond}
 use Rattle.backward_search.proofs.Standing.{backward_kept}
 use Rattle.loopless.proofs.Reaching.{node_here, none_lost, wide_kept, made_on, made_back, next_reached, seen_lost, seen_reach}
 use Rattle.loopless.proofs.reach.reach.Goals as goal
+
+pub node_at-here-requires : goal.node_at-here-requires
+node_at-here-requires g c = uses_beyond c.args.tree.now c.args.node c.requires.node
 
 pub step-requires-clause-set : goal.step-requires-clause-set
 step-requires-clause-set g c = (node_here (g.S.Space.view c.args.space.now) c.args.tree.now c.args.node c.node_at-here.result c.requires.tree c.requires.node (c.node_at-here.ensures c.node_at-here.result)).one.valid

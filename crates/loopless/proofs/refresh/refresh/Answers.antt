@@ -9,7 +9,7 @@ pub left_from-requires-clause-wide : goal.left_from-requires-clause-wide
 left_from-requires-clause-wide g c = wide_moved (g.S.Space.view c.args.space.now) (g.S.Space.view c.look_further.new.space) c.args.backward.now c.look_further.new.backward c.look_further.ensures.moved c.requires.wide
 
 pub left_from-requires-clause-set : goal.left_from-requires-clause-set
-left_from-requires-clause-set g c = valid_here (g.S.Space.view c.args.space.now) (g.S.Space.view c.look_further.new.space) c.args.backward.now c.look_further.new.backward c.args.tree.now c.look_further.ensures.moved c.requires.apart c.requires.tree c.args.entry.node c.node_at-here.result c.requires.entry.inside (c.node_at-here.ensures c.node_at-here.result)
+left_from-requires-clause-set g c = valid_here (g.S.Space.view c.args.space.now) (g.S.Space.view c.look_further.new.space) c.args.backward.now c.look_further.new.backward c.args.tree.now c.look_further.ensures.moved c.requires.apart c.requires.tree c.args.entry.node c.node_at-here.result c.requires.used (c.node_at-here.ensures c.node_at-here.result)
 
 pub returns-in_err-left_from-clause-backward : goal.returns-in_err-left_from-clause-backward
 returns-in_err-left_from-clause-backward g c = backward_kept (g.S.Space.view c.look_further.new.space) (g.S.Space.view c.left_from.new.space) c.look_further.new.backward c.left_from.ensures.stays.kept c.look_further.ensures.backward
@@ -40,8 +40,8 @@ improved-requires-clause-small g c =
     let n = c.node_at-here.result in
     let is = c.node_at-here.ensures c.node_at-here.result in
     let m = c.look_further.ensures.moved in
-    let node = node_here u c.args.tree.now c.args.entry.node c.node_at-here.result c.requires.tree c.requires.entry.inside (c.node_at-here.ensures c.node_at-here.result) in
-    let one = one_here u v b h nodes m c.requires.apart c.requires.tree i n node.good.end c.requires.entry.inside is node.one in
+    let node = node_here u c.args.tree.now c.args.entry.node c.node_at-here.result c.requires.tree c.requires.used (c.node_at-here.ensures c.node_at-here.result) in
+    let one = one_here u v b h nodes m c.requires.apart c.requires.tree i n node.good.end c.requires.used is node.one in
     let reached = reached_here u v b h nodes m c.requires.apart c.requires.tree (path_at c.args.tree.now c.args.entry.node) node.good in
     let now = c.in_ok-left_from.ensures.left node.good.end one reached in
     let left = rw c.in-Some.is at now in
@@ -58,8 +58,8 @@ returns-in-None-clause-better g c =
     let n = c.node_at-here.result in
     let is = c.node_at-here.ensures c.node_at-here.result in
     let m = c.look_further.ensures.moved in
-    let node = node_here u c.args.tree.now c.args.entry.node c.node_at-here.result c.requires.tree c.requires.entry.inside (c.node_at-here.ensures c.node_at-here.result) in
-    let one = one_here u v b h nodes m c.requires.apart c.requires.tree i n node.good.end c.requires.entry.inside is node.one in
+    let node = node_here u c.args.tree.now c.args.entry.node c.node_at-here.result c.requires.tree c.requires.used (c.node_at-here.ensures c.node_at-here.result) in
+    let one = one_here u v b h nodes m c.requires.apart c.requires.tree i n node.good.end c.requires.used is node.one in
     let reached = reached_here u v b h nodes m c.requires.apart c.requires.tree (path_at c.args.tree.now c.args.entry.node) node.good in
     let now = c.in_ok-left_from.ensures.left node.good.end one reached in
     let left = left_here u v b h nodes m c.requires.apart c.requires.tree node.good.end None (rw c.in-None.is at now) in
@@ -76,8 +76,8 @@ returns-in-Some-clause-better g c =
     let n = c.node_at-here.result in
     let is = c.node_at-here.ensures c.node_at-here.result in
     let m = c.look_further.ensures.moved in
-    let node = node_here u c.args.tree.now c.args.entry.node c.node_at-here.result c.requires.tree c.requires.entry.inside (c.node_at-here.ensures c.node_at-here.result) in
-    let one = one_here u v b h nodes m c.requires.apart c.requires.tree i n node.good.end c.requires.entry.inside is node.one in
+    let node = node_here u c.args.tree.now c.args.entry.node c.node_at-here.result c.requires.tree c.requires.used (c.node_at-here.ensures c.node_at-here.result) in
+    let one = one_here u v b h nodes m c.requires.apart c.requires.tree i n node.good.end c.requires.used is node.one in
     let reached = reached_here u v b h nodes m c.requires.apart c.requires.tree (path_at c.args.tree.now c.args.entry.node) node.good in
     let now = c.in_ok-left_from.ensures.left node.good.end one reached in
     let left = left_here u v b h nodes m c.requires.apart c.requires.tree node.good.end (Some c.in-Some.left) (rw c.in-Some.is at now) in

@@ -1,4 +1,4 @@
-use Rattle.std.proofs.Common.{◌≡◌, ◌<◌, ◌∙◌, arith}
+use Rattle.std.proofs.Common.{◌<◌, arith}
 use Rattle.prefix_tree.specs.Tree.{path_at}
 use Rattle.prefix_tree.proofs.Passing.{back_less, back_path, back_first, back_more, back_done}
 use Rattle.prefix_tree.proofs.tree.operators_back.Goals as goal

@@ -1,4 +1,4 @@
-use Rattle.std.proofs.Common.{ℕ, ◌≡◌, ◌<◌, ◌++◌, length, reverse}
+use Rattle.std.proofs.Common.{◌≡◌, ◌<◌, ◌++◌, length, reverse}
 use Rattle.prefix_tree.specs.Tree.{path_at}
 use Rattle.prefix_tree.proofs.tree.operators_back.Given as goal
 

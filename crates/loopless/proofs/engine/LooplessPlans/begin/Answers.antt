@@ -17,7 +17,7 @@ returns-clause-lawful g c =
     let w = view c.init.new.self in
     let x = view c.is_goal.new.space in
     let b = c.in_ok-backward.backward in
-    let n : Node g.row.S-Set.Denot = record { parent = 0; op = 0; set = c.in_ok-start.start } in
+    let n : Node g.row.S-Set.Denot = record { parent = 0; op = 0; set = c.in_ok-start.start; uses = 1 } in
     let e : Entry = record { bound = record { 0 = 0 }; cost = 0; node = 0; settled = false; at_goal = c.in_ok-at_goal.at_goal } in
     let es = entries_of c.push-2.new.self in
     let tree : c.push.new.self.items ≡ n ∷ [] = c.in_ok-push.ensures.items ∙ ap (λ (l : List (Node g.row.S-Set.Denot)). l ++ n ∷ []) c.new-tree.ensures.items in
@@ -25,7 +25,7 @@ returns-clause-lawful g c =
     let init = c.in_ok-start.ensures.ok in
     let listed = initial_listed u v w c.in_ok-start.start c.is_empty.result (kept_made c.in_ok-backward.ensures.trades) c.in_ok-start.ensures.kept init c.is_empty.ensures.empty.0 c.is_empty.ensures.member in
     let goal = c.in_ok-at_goal.ensures.ok v.system.initial (record { valid = init.valid; means = init.means }) in
-    subst (λ (l : List (Node g.row.S-Set.Denot)). IsSound x b l c.args.most es None None) (sym tree) (begun u v w x b c.args.within c.in_ok-start.start n e es c.requires.alone c.requires.wide c.requires.within listed c.in_ok-backward.ensures.backward c.in_ok-backward.ensures.ok.within_is c.in_ok-backward.ensures.trades c.in_ok-start.ensures.kept init c.in_ok-at_goal.ensures.stays refl put refl refl refl goal c.args.most)
+    subst (λ (l : List (Node g.row.S-Set.Denot)). IsSound x b l c.args.most es None None) (sym tree) (begun u v w x b c.args.within c.in_ok-start.start n e es c.requires.alone c.requires.wide c.requires.within listed c.in_ok-backward.ensures.backward c.in_ok-backward.ensures.ok.within_is c.in_ok-backward.ensures.trades c.in_ok-start.ensures.kept init c.in_ok-at_goal.ensures.stays refl refl put refl refl refl goal c.args.most)
 
 pub returns-clause-all : goal.returns-clause-all
 returns-clause-all g c p i =
@@ -35,7 +35,7 @@ returns-clause-all g c p i =
     let w = view c.init.new.self in
     let x = view c.is_goal.new.space in
     let b = c.in_ok-backward.backward in
-    let n : Node g.row.S-Set.Denot = record { parent = 0; op = 0; set = c.in_ok-start.start } in
+    let n : Node g.row.S-Set.Denot = record { parent = 0; op = 0; set = c.in_ok-start.start; uses = 1 } in
     let e : Entry = record { bound = record { 0 = 0 }; cost = 0; node = 0; settled = false; at_goal = c.in_ok-at_goal.at_goal } in
     let es = entries_of c.push-2.new.self in
     let tree : c.push.new.self.items ≡ n ∷ [] = c.in_ok-push.ensures.items ∙ ap (λ (l : List (Node g.row.S-Set.Denot)). l ++ n ∷ []) c.new-tree.ensures.items in
@@ -43,4 +43,4 @@ returns-clause-all g c p i =
     let init = c.in_ok-start.ensures.ok in
     let listed = initial_listed u v w c.in_ok-start.start c.is_empty.result (kept_made c.in_ok-backward.ensures.trades) c.in_ok-start.ensures.kept init c.is_empty.ensures.empty.0 c.is_empty.ensures.member in
     let goal = c.in_ok-at_goal.ensures.ok v.system.initial (record { valid = init.valid; means = init.means }) in
-    subst (λ (l : List (Node g.row.S-Set.Denot)). Owes x.system (prefixes l es) None p) (sym tree) (begun_all u v w x b c.args.within c.in_ok-start.start n e es c.requires.alone c.requires.wide c.requires.within listed c.in_ok-backward.ensures.backward c.in_ok-backward.ensures.ok.within_is c.in_ok-backward.ensures.trades c.in_ok-start.ensures.kept init c.in_ok-at_goal.ensures.stays refl put refl refl refl goal p i)
+    subst (λ (l : List (Node g.row.S-Set.Denot)). Owes x.system (prefixes l es) None p) (sym tree) (begun_all u v w x b c.args.within c.in_ok-start.start n e es c.requires.alone c.requires.wide c.requires.within listed c.in_ok-backward.ensures.backward c.in_ok-backward.ensures.ok.within_is c.in_ok-backward.ensures.trades c.in_ok-start.ensures.kept init c.in_ok-at_goal.ensures.stays refl refl put refl refl refl goal p i)

@@ -1,13 +1,15 @@
-use Rattle.std.proofs.Common.{◌≡◌}
-use Rattle.prefix_tree.specs.Tree.{Grows, path_at}
-use Rattle.loopless.specs.Children.{AreChildren}
-use Rattle.loopless.proofs.expand.expand.Given as goal
+use Rattle.std.proofs.Common.{◌≡◌, ◌<◌}
+use Rattle.prefix_tree.specs.Tree.{Grows, path_at, uses_at}
+use Rattle.loopless.specs.Children.{AreChildren, CountsOn}
+use Rattle.loopless.proofs.expand.add_all.Given as goal
 
 abbrev pub invariant-operators : goal.invariant-operators
 invariant-operators g l =
     let v = g.S.Space.view l.fn.space in
     record {
       grows : Grows v (g.S.Space.view l.space) l.fn.tree.items l.tree.items;
+      counted : CountsOn l.fn.tree.items l.tree.items l.fn.children.items l.children.items;
+      used : 0 < uses_at l.tree.items l.entry.node;
       end : l.op-end ≡ v.system.operators;
       children : AreChildren v.system l.tree.items (path_at l.fn.tree.items l.entry.node) l.op l.children.items;
     }

@@ -1,6 +1,6 @@
 use Rattle.std.proofs.Common.{◌≡◌, length, All}
 use Rattle.plan_out.specs.declared.blocks.ReadBlock.{ReadBlock}
-use Rattle.reconstruct_rows.proofs.listing.blocks_of.Given as goal
+use Rattle.plan_listing.proofs.costs.blocks_of.Given as goal
 
 -- each block so far has a name for each operator
 abbrev pub invariant-plans : goal.invariant-plans

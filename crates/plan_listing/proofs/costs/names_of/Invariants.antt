@@ -1,5 +1,5 @@
 use Rattle.std.proofs.Common.{◌≡◌, length}
-use Rattle.reconstruct_rows.proofs.listing.names_of.Given as goal
+use Rattle.plan_listing.proofs.costs.names_of.Given as goal
 
 -- a name for each operator so far
 abbrev pub invariant-operators : goal.invariant-operators

@@ -1,81 +1,11 @@
-//! The first plans of an engine, and what they cost.
+//! What a list of plans costs.
 
-use lazy_plans::Stop;
-use symk_task::Plan;
+ghost use Rattle.std.specs.Prelude.{◌≡◌, All, IfOk, IfSome, length, vec_len};
 
-/// How a list ended.
-#[derive(Clone, Copy, Debug, PartialEq, Eq)]
-pub enum Ending {
-    /// As many as were asked for are listed.
-    Reached,
-    /// No plan is left.
-    Exhausted,
-    /// The engine stopped.
-    Stopped(Stop),
-}
-
-/// Plans, in the order in which they came, and how their list ended.
-#[derive(Drop)]
-pub struct Listing {
-    pub plans: Vec<Plan>,
-    pub ending: Ending,
-}
-
-ghost use Rattle.std.specs.Prelude.{◌≡◌, ◌<◌, All, IfOk, IfSome, length};
-ghost use Rattle.lazy_plans.specs.Asked.{Asked};
-
-use lazy_plans::{LazyPlans, Steps};
 use plan_out::{Blocks, Checked, ReadBlock, check_list};
 use std::alloc::Global;
-use std::marker::Brand;
-use std::sync::ledger::{Blank, Ledger};
-use symk_task::{List, Memory, Mode, Name, Task};
+use symk_task::{List, Memory, Mode, Name, Plan, Task};
 use task_run::{Verdict, run_plan};
-
-/// The next plan, with a count of its own for the turns.
-fn ask<I: LazyPlans, L: Ledger>(
-    alloc: Global,
-    engine: &mut I,
-    blank: Blank,
-) -> Result<Option<Plan>, Stop>
-    requires lawful { I.lawful engine.old }
-    requires name { blank.name ≡ L.name }
-    requires parts { blank.parts ≡ L.parts }
-    requires some { 0 < blank.parts }
-    ensures { Asked I.system I.mode I.most I.pends I.lawful I.last engine.old engine.new result }
-{
-    let mut steps = Steps::<L>::new(blank);
-    engine.next_plan(alloc, &mut steps)
-}
-
-/// The next plans of the engine, at most so many.
-pub fn first_plans<I: LazyPlans>(
-    alloc: Global,
-    engine: &mut I,
-    count: u32,
-) -> Result<Listing, Memory>
-    requires { I.lawful engine.old }
-    ensures { I.lawful engine.new }
-{
-    let mut plans = Vec::new(alloc);
-    'plans: for _ in 0..count {
-        let ending = match ask::<I, Brand>(alloc, engine, Blank::new(1)) {
-            Ok(Some(plan)) => {
-                plans.push(plan)?;
-                Ending::Reached
-            }
-            Ok(None) => Ending::Exhausted,
-            Err(stop) => Ending::Stopped(stop),
-        };
-        if ending != Ending::Reached {
-            return Ok(Listing { plans, ending });
-        }
-    }
-    Ok(Listing {
-        plans,
-        ending: Ending::Reached,
-    })
-}
 
 /// The name of the operator, empty where there is none.
 fn name_of(alloc: Global, task: &Task, op: u32) -> Result<Name, Memory> {
@@ -142,12 +72,17 @@ fn costs_in(alloc: Global, blocks: &Blocks) -> Result<Vec<u64>, Memory> {
     Ok(costs)
 }
 
-/// What each plan costs, where they are a good list of plans of any shape. None where they are not.
-pub fn costs_of(alloc: Global, task: &Task, plans: &[Plan]) -> Result<Option<Vec<u64>>, Memory> {
+/// What each plan costs, where they are a good list of the mode by `check_list`. None where they are not.
+pub fn costs_of(
+    alloc: Global,
+    task: &Task,
+    mode: Mode,
+    plans: &[Plan],
+) -> Result<Option<Vec<u64>>, Memory> {
     let Some(blocks) = blocks_of(alloc, task, plans)? else {
         return Ok(None);
     };
-    match check_list(alloc, task, Mode::TopK, &blocks)? {
+    match check_list(alloc, task, mode, &blocks)? {
         Checked::Good { n: _ } => Ok(Some(costs_in(alloc, &blocks)?)),
         Checked::Bad { plan: _, why: _ } => Ok(None),
     }

@@ -19,6 +19,9 @@ pub const LOWER: Choice = Choice::Lower(Lower);
 
 pub const LIGHTER: Choice = Choice::Lighter(Lighter { ahead: 0, back: 0 });
 
+/// Each of them.
+pub const CHOICES: [Choice; 4] = [FORWARD, BACKWARD, LOWER, LIGHTER];
+
 impl Choose for Choice {
     fn forward_next(&mut self, f: u128, b: u128) -> bool {
         match self {

@@ -1,0 +1,172 @@
+//! Lists by any engine over either space.
+
+ghost use Rattle.std.specs.Prelude.{◌≡◌, None, Some, IfOk};
+ghost use Rattle.reconstruct.specs.Engine.{ListsUseful, IsReadyFor, IsEngine};
+ghost use Rattle.loopless.specs.Engine.{IsEngine as IsLoopless};
+
+use crate::choice::Choice;
+use crate::costs::costs_of;
+use crate::listing::{Ending, Listing, first_plans};
+use bdd_space::BddSpace;
+use explicit_space::{ExplicitSpace, FuseSpace};
+use lazy_plans::LazyPlans;
+use loopless::LooplessPlans;
+use reconstruct::TopPlans;
+use selectors::Unordered;
+use space_api::Space;
+use std::alloc::Global;
+use symk_task::{Memory, Mode, Task};
+
+/// An engine of plans.
+#[derive(Clone, Copy)]
+pub enum Engine {
+    /// All plans, from the middle outwards.
+    Top(Choice),
+    /// Of those the first of each class of rearrangements.
+    Unordered(Choice),
+    /// The plans that visit no state twice.
+    Loopless,
+}
+
+impl Engine {
+    /// Which plans it gives.
+    pub fn mode(self) -> Mode {
+        match self {
+            Engine::Top(_) => Mode::TopK,
+            Engine::Unordered(_) => Mode::Unordered,
+            Engine::Loopless => Mode::Loopless,
+        }
+    }
+}
+
+/// What sets of states are made of.
+#[derive(Clone, Copy)]
+pub enum Sets {
+    /// Lists of states, in order; so many calls of the space are passed on, and each later one is refused.
+    States { calls: u64 },
+    /// Diagrams.
+    Diagrams,
+}
+
+/// What is asked for.
+#[derive(Clone, Copy)]
+pub struct Request {
+    pub engine: Engine,
+    pub sets: Sets,
+    /// The greatest cost that is wanted, where there is one.
+    pub most: Option<u64>,
+    /// Whether the engine is handed a set of all states.
+    pub handed: bool,
+    /// How many plans are wanted.
+    pub count: u32,
+}
+
+/// The first plans of the engine.
+fn list_of<I: LazyPlans + Drop>(alloc: Global, engine: I, count: u32) -> Result<Listing, Memory>
+    requires { I.lawful engine }
+{
+    let mut engine = engine;
+    first_plans(alloc, &mut engine, count)
+}
+
+/// The engine of all plans.
+fn all_plans<S: Space + Drop>(
+    alloc: Global,
+    space: S,
+    choice: Choice,
+    request: Request,
+) -> Result<TopPlans<S, Choice>, Memory>
+    requires none { IsReadyFor (S.view space) None }
+    requires states { ListsUseful (S.view space) }
+    ensures { IfOk result (IsEngine S.view) }
+{
+    let mut space = space;
+    if !request.handed {
+        return match request.most {
+            None => TopPlans::new(alloc, space, choice),
+            Some(most) => TopPlans::within(alloc, space, choice, most),
+        };
+    }
+    let all = space.all()?;
+    match request.most {
+        None => TopPlans::new_within(alloc, space, choice, all),
+        Some(most) => TopPlans::within_most(alloc, space, choice, most, all),
+    }
+}
+
+/// The engine of loopless plans.
+fn loopless_plans<S: Space + Drop>(
+    alloc: Global,
+    space: S,
+    request: Request,
+) -> Result<LooplessPlans<S>, Memory>
+    requires none { IsReadyFor (S.view space) None }
+    requires states { ListsUseful (S.view space) }
+    ensures { IfOk result (IsLoopless S.view) }
+{
+    let mut space = space;
+    if !request.handed {
+        return match request.most {
+            None => LooplessPlans::new(alloc, space),
+            Some(most) => LooplessPlans::within(alloc, space, most),
+        };
+    }
+    let all = space.all()?;
+    match request.most {
+        None => LooplessPlans::new_within(alloc, space, all),
+        Some(most) => LooplessPlans::within_most(alloc, space, most, all),
+    }
+}
+
+/// The first plans over a space.
+fn listed_over<S: Space + Drop>(
+    alloc: Global,
+    space: S,
+    request: Request,
+) -> Result<Listing, Memory>
+    requires none { IsReadyFor (S.view space) None }
+    requires states { ListsUseful (S.view space) }
+{
+    match request.engine {
+        Engine::Top(choice) => {
+            let plans = all_plans(alloc, space, choice, request)?;
+            list_of(alloc, plans, request.count)
+        }
+        Engine::Unordered(choice) => {
+            let plans = all_plans(alloc, space, choice, request)?;
+            list_of(alloc, Unordered::new(alloc, plans)?, request.count)
+        }
+        Engine::Loopless => {
+            let plans = loopless_plans(alloc, space, request)?;
+            list_of(alloc, plans, request.count)
+        }
+    }
+}
+
+/// The first plans of the task, as they are asked for.
+pub fn listed(alloc: Global, task: &Task, request: Request) -> Result<Listing, Memory> {
+    // A task fits, and so its system lists each useful state.
+    let _ = task.parts();
+    match request.sets {
+        Sets::States { calls } => {
+            let space = FuseSpace::new(ExplicitSpace::of(alloc, task)?, calls);
+            listed_over(alloc, space, request)
+        }
+        Sets::Diagrams => listed_over(alloc, BddSpace::of(alloc, task)?, request),
+    }
+}
+
+/// Whether the list that is asked for is good, costs this and ends so, for good.
+pub fn lists(
+    alloc: Global,
+    task: &Task,
+    request: Request,
+    costs: &[u64],
+    ending: Ending,
+) -> Result<bool, Memory> {
+    let listing = listed(alloc, task, request)?;
+    match costs_of(alloc, task, request.engine.mode(), &listing.plans)? {
+        Some(found) => Ok(found.as_slice() == costs && listing.ending == ending && listing.lasts),
+        None => Ok(false),
+    }
+}

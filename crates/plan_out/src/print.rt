@@ -1,7 +1,7 @@
 //! One plan as a block of text.
 
-ghost use Rattle.std.specs.Prelude.{◌≡◌, ◌<◌, ◌^◌, ◌++◌, All, IfOk, OnOk, length, flat_map};
-ghost use Rattle.symk_task.specs.Plans.{cost_of};
+ghost use Rattle.std.specs.Prelude.{◌≡◌, ◌<◌, ◌^◌, ◌++◌, ◌↔◌, All, IfOk, IsTrue, OnOk, length, flat_map};
+ghost use Rattle.symk_task.specs.Plans.{IsUnit, cost_of};
 ghost use Rattle.plan_out.specs.Texts.{numbered, spaced, ops_line, step_line, cost_line, is_unit, block};
 
 use std::alloc::Global;
@@ -14,11 +14,29 @@ pub fn block(alloc: Global, task: &Task, number: u64, plan: &Plan) -> Result<Vec
     requires cost { cost_of task.now plan.now < 2 ^ 64 }
     ensures { IfOk result (λ bytes. bytes.items ≡ block task.now number plan.now) }
 {
+    let cost = task.plan_cost(plan) as u64;
+    block_with_cost(alloc, task, number, plan, cost, task.unit())
+}
+
+/// The same block, where it is known already what the plan costs, and whether each operator of the task costs 1.
+pub fn block_with_cost(
+    alloc: Global,
+    task: &Task,
+    number: u64,
+    plan: &Plan,
+    cost: u64,
+    unit: bool,
+) -> Result<Vec<u8>, Memory>
+    requires operators { All (λ op. op < length task.now.operators) plan.now }
+    requires cost { cost ≡ cost_of task.now plan.now }
+    requires unit { IsTrue unit ↔ IsUnit task.now }
+    ensures { IfOk result (λ bytes. bytes.items ≡ block task.now number plan.now) }
+{
     let mut text = Text::new(alloc);
     push_numbered(&mut text, b"; plan ", number)?;
     push_operators(&mut text, plan.as_slice())?;
     push_steps(&mut text, task, plan.as_slice())?;
-    push_cost(&mut text, task.plan_cost(plan) as u64, is_unit(task))?;
+    push_cost(&mut text, cost, unit)?;
     Ok(text.into_vec())
 }
 

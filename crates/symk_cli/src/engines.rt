@@ -7,11 +7,11 @@ ghost use Rattle.space_api.specs.View.{View};
 ghost use Rattle.symk_cli.specs.Ends.{HasCauses, Puts};
 ghost use Rattle.symk_cli.specs.Lists.{OrPart};
 
+use crate::choice::Choice;
 use crate::planning::list_plans;
 use crate::request::Direction;
 use crate::status::Status;
 use bdd_space::BddSpace;
-use bidirectional::{AlwaysBackward, AlwaysForward, Choose, Lighter, Lower};
 use loopless::LooplessPlans;
 use reconstruct::TopPlans;
 use selectors::Unordered;
@@ -20,8 +20,7 @@ use std::alloc::Global;
 use symk_io::Sink;
 use symk_task::{Mode, Task};
 
-/// Lists at most that many plans of the task in the mode, found in the direction that is asked for. The program's own choice
-/// is the side whose last step made less.
+/// Lists at most that many plans of the task in the mode, found in the direction that is asked for.
 pub fn list_found<K: Sink>(
     alloc: Global,
     task: &Task,
@@ -39,12 +38,7 @@ pub fn list_found<K: Sink>(
     if mode == Mode::Loopless {
         return list_loopless(alloc, task, most, space, sink);
     }
-    match direction {
-        Direction::Auto => list_by(alloc, task, mode, most, space, Lighter::new(), sink),
-        Direction::Forward => list_by(alloc, task, mode, most, space, AlwaysForward, sink),
-        Direction::Backward => list_by(alloc, task, mode, most, space, AlwaysBackward, sink),
-        Direction::Bidirectional => list_by(alloc, task, mode, most, space, Lower, sink),
-    }
+    list_by(alloc, task, mode, most, space, Choice::of(direction), sink)
 }
 
 // Lists loopless plans, over a space of the task that has no valid set.
@@ -69,13 +63,13 @@ fn list_loopless<S: Space + Drop, K: Sink>(
 }
 
 // Lists plans that grow from the middle outwards, over such a space.
-fn list_by<S: Space + Drop, P: Choose + Drop, K: Sink>(
+fn list_by<S: Space + Drop, K: Sink>(
     alloc: Global,
     task: &Task,
     mode: Mode,
     most: u64,
     space: S,
-    choose: P,
+    choose: Choice,
     sink: &mut K,
 ) -> Status
     requires system { (S.view space).system ≡ system_of task.now }

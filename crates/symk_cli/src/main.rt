@@ -8,6 +8,7 @@
 #![tactic(auto)]
 
 mod checking;
+mod choice;
 mod ending;
 mod engines;
 mod pieces;

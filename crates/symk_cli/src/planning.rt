@@ -1,6 +1,7 @@
 //! Plans, listed one by one.
 
-ghost use Rattle.std.specs.Prelude.{◌≡◌, ◌⊎◌, IfErr, OnOk, OnErr};
+ghost use Rattle.std.specs.Prelude.{◌≡◌, ◌⊎◌, ◌↔◌, IfErr, IsTrue, OnOk, OnErr};
+ghost use Rattle.symk_task.specs.Plans.{IsUnit};
 ghost use Rattle.plan_out.specs.Texts.{block as block_text, end_line as end_text};
 ghost use Rattle.symk_cli.specs.Ends.{Ends, HasCauses, Puts};
 ghost use Rattle.symk_cli.specs.Engines.{OwesAll};
@@ -10,7 +11,7 @@ ghost use Rattle.symk_cli.specs.Lists.{OrPart, end_status};
 
 use crate::ending::{end, status_of};
 use crate::status::Status;
-use plan_out::{End, block, end_line};
+use plan_out::{End, block_with_cost, end_line};
 use selectors::{LazyPlans, Limited, Stop};
 use std::alloc::Global;
 use symk_io::{Sink, put};
@@ -31,10 +32,11 @@ pub fn list_plans<I: LazyPlans + Drop, K: Sink>(
 {
     // A task fits.
     let _ = task.parts();
+    let unit = task.unit();
     let mut plans = Limited::new(alloc, engine, most);
     'plans: for number in 0..most {
         match plans.next() {
-            Some(Ok(plan)) => match put_block(alloc, task, number + 1, &plan, sink) {
+            Some(Ok(plan)) => match put_block(alloc, task, number + 1, &plan, unit, sink) {
                 Ok(()) => {}
                 Err(status) => return status,
             },
@@ -46,22 +48,26 @@ pub fn list_plans<I: LazyPlans + Drop, K: Sink>(
     end_list(alloc, sink, End::Reached { n: most })
 }
 
-/// Puts the block of a plan, which is the one of this number in its list, as one piece, or ends the run.
+/// Puts the block of a plan, which is the one of this number in its list, as one piece, or ends the run. What is known already
+/// is whether each operator of the task costs 1.
 pub fn put_block<K: Sink>(
     alloc: Global,
     task: &Task,
     number: u64,
     plan: &Plan,
+    unit: bool,
     sink: &mut K,
 ) -> Result<(), Status>
-    requires { IsListable task.now plan.now }
+    requires listable { IsListable task.now plan.now }
+    requires unit { IsTrue unit ↔ IsUnit task.now }
     ensures ok { OnOk result (TookPiece (block_text task.now number plan.now) (K.view sink.old) (K.view sink.new)) }
     ensures quiet { OnOk result ((K.view sink.new).faults ≡ (K.view sink.old).faults) }
     ensures err { OnErr result (TookFront (block_text task.now number plan.now) (K.view sink.old) (K.view sink.new)) }
     ensures stop { IfErr result (λ status. (status ≡ Status.WriteFault) ⊎ (status ≡ Status.Memory)) }
     ensures causes { IfErr result (λ status. HasCauses status 0 0 (K.view sink.old).faults (K.view sink.new).faults) }
 {
-    let Ok(text) = block(alloc, task, number, plan) else {
+    let cost = task.plan_cost(plan) as u64;
+    let Ok(text) = block_with_cost(alloc, task, number, plan, cost, unit) else {
         return Err(Status::Memory);
     };
     match put(sink, &text) {

@@ -7,11 +7,12 @@ ghost use Rattle.symk_cli.specs.Ends.{HasCauses, OrFront, Puts};
 ghost use Rattle.symk_cli.specs.Engines.{OwesAll};
 ghost use Rattle.symk_cli.specs.Shown.{HasMore, HasPlans, IsSummary, Summary, counts_line, costs_line, reached_line};
 
+use crate::choice::Choice;
 use crate::ending::end_with;
 use crate::pieces::{push_cost_after, push_number_after};
+use crate::request::Direction;
 use crate::status::Status;
 use bdd_space::BddSpace;
-use bidirectional::Lighter;
 use reconstruct::TopPlans;
 use sas_reader::{ReadFault, read_task};
 use sas_writer::write_task;
@@ -106,7 +107,11 @@ fn costs_found(alloc: Global, task: &Task) -> Result<Costs, Memory>
     // A task fits, and so its system lists each useful state.
     let _ = task.parts();
     let space = BddSpace::of(alloc, task)?;
-    costs_of(alloc, task, TopPlans::new(alloc, space, Lighter::new())?)
+    costs_of(
+        alloc,
+        task,
+        TopPlans::new(alloc, space, Choice::of(Direction::Auto))?,
+    )
 }
 
 fn summary(alloc: Global, number: u32) -> Result<Text, Memory>

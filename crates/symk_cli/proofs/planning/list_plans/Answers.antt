@@ -17,8 +17,8 @@ plans-init g c =
       quiet = refl;
     }
 
-pub put_block-requires : goal.put_block-requires
-put_block-requires g c =
+pub put_block-requires-clause-listable : goal.put_block-requires-clause-listable
+put_block-requires-clause-listable g c =
     let e = g.I.LazyPlans in
     let mode = e.mode c.args.engine in
     let within : c.plans.number < c.args.most = omega arith in

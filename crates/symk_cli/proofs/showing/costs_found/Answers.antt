@@ -3,8 +3,8 @@ use Rattle.task_system.specs.System.{System, IsPlan}
 use Rattle.symk_cli.proofs.Spaces.{useful_are_listed}
 use Rattle.symk_cli.proofs.showing.costs_found.Goals as goal
 
-pub new-requires-2-clause-states : goal.new-requires-2-clause-states
-new-requires-2-clause-states c = useful_are_listed c.args.task.now _ c.in_ok-space.ensures.system c.parts.ensures.fits
+pub new-requires-clause-states : goal.new-requires-clause-states
+new-requires-clause-states c = useful_are_listed c.args.task.now _ c.in_ok-space.ensures.system c.parts.ensures.fits
 
 pub costs_of-requires-clause-owes : goal.costs_of-requires-clause-owes
 costs_of-requires-clause-owes c =

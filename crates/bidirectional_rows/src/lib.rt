@@ -1,22 +1,23 @@
 //! Worked rows of the search from both ends, and its cuts beside those of listed plans.
 //!
-//! `first_cuts` lists the cuts of the plans of one cost by one call after the other, and `all_cuts` by the iterator.
-//! `cuts_once_settled` and `list_costs` begin a search from both ends over any space, with any choice of the side that goes on, and tell what
-//! came of it; `plan_cuts_of` lists the cuts of a task's plans without any search, from the plans themselves. The tests compare
-//! what is told with rows that were worked out by hand, and, on tasks that are drawn, with the listed plans, over the space of
-//! ordered sets and the space of decision diagrams.
+//! `first_cuts` lists the cuts of the plans of one cost by one call after the other, `all_cuts` by the iterator, and
+//! `cuts_up_to` those of all costs. `cuts_once_settled`, `list_cuts`, `list_costs` and `list_answers` begin a search from both
+//! ends over any space, with any choice of the side that goes on, and tell what came of it; `plan_cuts_of` lists the cuts of a
+//! task's plans without any search, from the plans themselves. The tests compare what is told with rows that were worked out
+//! by hand, and, on tasks that are drawn, with the listed plans, over the space of ordered sets and the space of decision
+//! diagrams; and they refuse one call of the space after the other.
 //! It stands on `bidirectional`, for the listed plans on `task_run`, and for its tests on `explicit_space`, `bdd_space`,
 //! `small_tasks` and `space_agreement`.
 #![tactic(auto)]
 
-mod chosen;
 mod listing;
 mod plans;
 mod telling;
 #[cfg(test)]
 mod tests;
 
-pub use chosen::Chosen;
-pub use listing::{all_cuts, first_cuts};
+pub use listing::{all_cuts, cuts_up_to, first_cuts};
 pub use plans::{PlanCut, plan_cuts_of};
-pub use telling::{Costs, Settled, cuts_once_settled, list_costs};
+pub use telling::{
+    Costs, Cutting, Settled, cuts_once_settled, list_answers, list_costs, list_cuts,
+};

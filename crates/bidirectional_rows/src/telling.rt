@@ -4,7 +4,8 @@ ghost use Rattle.std.specs.Prelude.{◌≡◌, ◌≤◌};
 ghost use Rattle.task_system.specs.Computed.{system_of};
 ghost use Rattle.bidirectional.specs.Both.{IsBoth, GoesOn};
 
-use crate::listing::{all_cuts, first_cuts};
+use crate::listing::{all_cuts, cuts_up_to, first_cuts};
+use crate::plans::PlanCut;
 use bidirectional::{Both, Choose, Cut, Next, Within};
 use space_api::{Space, SpaceFault};
 use std::alloc::Global;
@@ -45,6 +46,35 @@ pub fn cuts_once_settled<S: Space, P: Choose + Drop>(
     let all = all_cuts(alloc, space, &both, cost)?;
     both.give_back(space);
     Ok(Settled { f, b, first, all })
+}
+
+/// The cuts of the plans of each cost up to the one that was settled.
+#[derive(Debug, Drop)]
+pub struct Cutting {
+    /// What the backward layers are known below.
+    pub b: u128,
+    /// The cuts, by rising cost, in the order of each.
+    pub cuts: Vec<PlanCut>,
+}
+
+/// Begins over the space of the task, settles this cost, and lists the cuts of each cost up to it.
+pub fn list_cuts<S: Space, P: Choose + Drop>(
+    alloc: Global,
+    space: &mut S,
+    task: &Task,
+    choose: P,
+    most: u64,
+) -> Result<Cutting, SpaceFault>
+    requires { (S.view space.old).system ≡ system_of task.now }
+{
+    // A task fits.
+    let _ = task.parts();
+    let mut both = Both::new(alloc, space, choose)?;
+    both.settle(alloc, space, most)?;
+    let b = both.backward_layers().known_below();
+    let cuts = cuts_up_to(alloc, space, &both, most)?;
+    both.give_back(space);
+    Ok(Cutting { b, cuts })
 }
 
 /// Costs of plans, what came after them, and whether a layer of a cost above the greatest one was made.
@@ -114,4 +144,46 @@ pub fn list_costs<S: Space, P: Choose + Drop>(
         above,
         next,
     })
+}
+
+/// What comes after each cost of a plan, the first included, at most so many answers.
+fn answers_of<S: Space, P: Choose>(
+    alloc: Global,
+    space: &mut S,
+    both: &mut Both<S::Set, P>,
+    count: u32,
+) -> Result<Vec<Next>, SpaceFault>
+    requires { IsBoth (S.view space.old) both.old }
+    ensures { GoesOn (S.view space.old) (S.view space.new) both.old both.new }
+{
+    let mut answers = Vec::new(alloc);
+    let mut above = None;
+    'answers: for _ in 0..count {
+        let next = both.advance(alloc, space, above)?;
+        answers.push(next)?;
+        match next {
+            Next::Plans { cost } => above = Some(cost),
+            Next::Beyond | Next::Never => return Ok(answers),
+        }
+    }
+    Ok(answers)
+}
+
+/// Begins over the space of the task, and lists what comes after each cost of a plan, the first included, at most so many
+/// answers.
+pub fn list_answers<S: Space, P: Choose + Drop>(
+    alloc: Global,
+    space: &mut S,
+    task: &Task,
+    choose: P,
+    count: u32,
+) -> Result<Vec<Next>, SpaceFault>
+    requires { (S.view space.old).system ≡ system_of task.now }
+{
+    // A task fits.
+    let _ = task.parts();
+    let mut both = Both::new(alloc, space, choose)?;
+    let answers = answers_of(alloc, space, &mut both, count)?;
+    both.give_back(space);
+    Ok(answers)
 }

@@ -1,8 +1,13 @@
 //! Worked rows, over each space and with each choice, and drawn tasks.
 
-use crate::{Chosen, Costs, PlanCut, Settled, cuts_once_settled, list_costs, plan_cuts_of};
+mod refusals;
+
+use crate::{
+    Costs, Cutting, PlanCut, Settled, cuts_once_settled, list_answers, list_costs, list_cuts,
+    plan_cuts_of,
+};
 use bdd_space::BddSpace;
-use bidirectional::{Cut, Next};
+use bidirectional::{Choice, Cut, Lighter, Next};
 use explicit_space::ExplicitSpace;
 use small_tasks::{
     near_and_far, no_plan, one_switch, past_64_bits, same_name_twice, switch_and_back,
@@ -14,12 +19,20 @@ use std::alloc::Global;
 use std::test::Fail;
 use symk_task::{Memory, Task};
 
+/// Each choice of the side that goes on.
+const CHOICES: [Choice; 4] = [
+    Choice::Forward,
+    Choice::Backward,
+    Choice::Lower,
+    Choice::Lighter(Lighter { ahead: 0, back: 0 }),
+];
+
 /// Settles and lists over the space of ordered sets, or over that of diagrams; the cost is at most the greatest one.
 fn settles(
     alloc: Global,
     diagrams: bool,
     task: &Task,
-    choose: Chosen,
+    choose: Choice,
     most: u64,
     cost: u64,
 ) -> Result<Settled, SpaceFault> {
@@ -38,7 +51,7 @@ fn costs_in(
     alloc: Global,
     diagrams: bool,
     task: &Task,
-    choose: Chosen,
+    choose: Choice,
     most: u64,
 ) -> Result<Costs, SpaceFault> {
     if diagrams {
@@ -59,7 +72,7 @@ fn costs_in(
 #[derive(Clone, Copy)]
 struct Row {
     task: u32,
-    choose: Chosen,
+    choose: Choice,
     most: u64,
     cost: u64,
     first: Option<Cut>,
@@ -80,7 +93,7 @@ fn task_of(alloc: Global, number: u32) -> Result<Task, Memory> {
     }
 }
 
-fn begun_row(task: u32, choose: Chosen, most: u64, cost: u64) -> Row {
+fn begun_row(task: u32, choose: Choice, most: u64, cost: u64) -> Row {
     Row {
         task,
         choose,
@@ -135,36 +148,36 @@ fn is_met(alloc: Global, row: Row) -> Result<bool, Memory> {
 /// Rows of the switch, once costs up to 5 are settled.
 fn switch_rows() -> [Row; 8] {
     [
-        begun_row(0, Chosen::Backward, 5, 3).whole(),
-        begun_row(0, Chosen::Backward, 5, 4),
-        begun_row(0, Chosen::Backward, 5, 5).cross(0, 0, 4),
-        begun_row(0, Chosen::Forward, 5, 4),
-        begun_row(0, Chosen::Forward, 5, 5).cross(4, 0, 0),
-        begun_row(0, Chosen::Lower, 5, 3).cross(0, 0, 2),
-        begun_row(0, Chosen::Lower, 5, 4),
-        begun_row(0, Chosen::Lower, 5, 5).cross(2, 0, 2),
+        begun_row(0, Choice::Backward, 5, 3).whole(),
+        begun_row(0, Choice::Backward, 5, 4),
+        begun_row(0, Choice::Backward, 5, 5).cross(0, 0, 4),
+        begun_row(0, Choice::Forward, 5, 4),
+        begun_row(0, Choice::Forward, 5, 5).cross(4, 0, 0),
+        begun_row(0, Choice::Lower, 5, 3).cross(0, 0, 2),
+        begun_row(0, Choice::Lower, 5, 4),
+        begun_row(0, Choice::Lower, 5, 5).cross(2, 0, 2),
     ]
 }
 
 /// Rows of tasks where several operators cross, where one does, and where a plan is dear.
 fn crossing_rows() -> [Row; 8] {
     [
-        begun_row(1, Chosen::Backward, 5, 2).whole(),
-        begun_row(1, Chosen::Backward, 2, 2)
+        begun_row(1, Choice::Backward, 5, 2).whole(),
+        begun_row(1, Choice::Backward, 2, 2)
             .cross(0, 0, 1)
             .cross(0, 1, 1),
-        begun_row(1, Chosen::Forward, 5, 2)
+        begun_row(1, Choice::Forward, 5, 2)
             .cross(1, 0, 0)
             .cross(1, 1, 0),
-        begun_row(1, Chosen::Lower, 2, 2)
+        begun_row(1, Choice::Lower, 2, 2)
             .cross(1, 0, 0)
             .cross(1, 1, 0),
-        begun_row(2, Chosen::Forward, 1, 1)
+        begun_row(2, Choice::Forward, 1, 1)
             .cross(0, 0, 0)
             .cross(0, 1, 0),
-        begun_row(3, Chosen::Forward, 1, 1).cross(0, 0, 0),
-        begun_row(4, Chosen::Forward, 1, 1).cross(0, 0, 0),
-        begun_row(5, Chosen::Forward, FAR + 1, FAR + 1).cross(1, 1, 0),
+        begun_row(3, Choice::Forward, 1, 1).cross(0, 0, 0),
+        begun_row(4, Choice::Forward, 1, 1).cross(0, 0, 0),
+        begun_row(5, Choice::Forward, FAR + 1, FAR + 1).cross(1, 1, 0),
     ]
 }
 
@@ -182,17 +195,72 @@ fn cuts_are_those_of_the_rows(rt: HostRuntime) -> Result<(), Fail> {
 }
 
 /// What both sides know of the switch once costs up to 5 are settled.
-fn known(alloc: Global, choose: Chosen) -> Result<(u128, u128), Memory> {
+fn known(alloc: Global, diagrams: bool, choose: Choice) -> Result<(u128, u128), Memory> {
     let task = switch_and_back(alloc)?;
-    let found = settles(alloc, false, &task, choose, 5, 5)?;
+    let found = settles(alloc, diagrams, &task, choose, 5, 5)?;
     Ok((found.f, found.b))
 }
 
 #[test]
 fn the_chosen_side_goes_on(rt: HostRuntime) -> Result<(), Fail> {
-    assert_eq!(rt; known(rt.alloc(), Chosen::Backward)?, (1, 5));
-    assert_eq!(rt; known(rt.alloc(), Chosen::Forward)?, (5, 1));
-    assert_eq!(rt; known(rt.alloc(), Chosen::Lower)?, (3, 3));
+    for diagrams in [false, true] {
+        for (choose, want) in [
+            (Choice::Backward, (1, 5)),
+            (Choice::Forward, (5, 1)),
+            (Choice::Lower, (3, 3)),
+        ] {
+            assert_eq!(rt; known(rt.alloc(), diagrams, choose)?, want, "{choose:?}");
+        }
+    }
+    Ok(())
+}
+
+/// What comes after each cost of a plan over either space, at most so many answers.
+fn answers_in(
+    alloc: Global,
+    diagrams: bool,
+    task: &Task,
+    choose: Choice,
+    count: u32,
+) -> Result<Vec<Next>, SpaceFault> {
+    if diagrams {
+        let mut space = BddSpace::of(alloc, task)?;
+        list_answers(alloc, &mut space, task, choose, count)
+    } else {
+        let mut space = ExplicitSpace::of(alloc, task)?;
+        list_answers(alloc, &mut space, task, choose, count)
+    }
+}
+
+/// Whether these are the first three answers, or all, over each space with each choice.
+fn answers_are(alloc: Global, task: Task, want: &[Next]) -> Result<bool, Memory> {
+    for choose in CHOICES {
+        for diagrams in [false, true] {
+            let found = answers_in(alloc, diagrams, &task, choose, 3)?;
+            if found.as_slice() != want {
+                return Ok(false);
+            }
+        }
+    }
+    Ok(true)
+}
+
+#[test]
+fn each_cost_of_a_plan_follows_the_one_before(rt: HostRuntime) -> Result<(), Fail> {
+    let alloc = rt.alloc();
+    let far = [
+        Next::Plans { cost: FAR },
+        Next::Plans { cost: FAR + 1 },
+        Next::Never,
+    ];
+    assert!(rt; answers_are(alloc, near_and_far(alloc)?, &far)?);
+    assert!(rt; answers_are(alloc, past_64_bits(alloc)?, &[Next::Beyond])?);
+    let odd = [
+        Next::Plans { cost: 1 },
+        Next::Plans { cost: 3 },
+        Next::Plans { cost: 5 },
+    ];
+    assert!(rt; answers_are(alloc, switch_and_back(alloc)?, &odd)?);
     Ok(())
 }
 
@@ -211,7 +279,7 @@ struct CostRow {
 fn costs_are_met(
     alloc: Global,
     diagrams: bool,
-    choose: Chosen,
+    choose: Choice,
     row: CostRow,
 ) -> Result<bool, Memory> {
     let task = task_of(alloc, row.task)?;
@@ -227,8 +295,7 @@ fn costs_are_met(
 
 /// Whether the row is met over each space with each choice.
 fn costs_are_met_by_all(alloc: Global, row: CostRow) -> Result<bool, Memory> {
-    for number in 0..4 {
-        let choose = Chosen::of(number);
+    for choose in CHOICES {
         let sets = costs_are_met(alloc, false, choose, row)?;
         let diagrams = costs_are_met(alloc, true, choose, row)?;
         if !sets || !diagrams {
@@ -276,9 +343,13 @@ fn the_costs_of_plans_come_rising_and_their_end_is_told(rt: HostRuntime) -> Resu
     Ok(())
 }
 
-/// Whether the first cut stands before the second: whole plans first, then by the cost that is left, then by the operator.
-fn stands_before(first: Cut, second: Cut) -> bool {
-    match (first, second) {
+/// Whether the first cut stands before the second: by cost; then whole plans first, then by the cost that is left, then by
+/// the operator.
+fn stands_before(first: PlanCut, second: PlanCut) -> bool {
+    if first.cost != second.cost {
+        return first.cost < second.cost;
+    }
+    match (first.cut, second.cut) {
         (_, Cut::Whole) => false,
         (Cut::Whole, _) => true,
         (Cut::Cross { x: _, op, y }, Cut::Cross { x: _, op: k, y: z }) => {
@@ -287,11 +358,11 @@ fn stands_before(first: Cut, second: Cut) -> bool {
     }
 }
 
-/// Whether the cuts are those of the listed plans of this cost, in order.
-fn are_those(listed: &[PlanCut], cost: u64, cuts: &[Cut]) -> bool {
+/// Whether the cuts are those of the listed plans, in order.
+fn are_those(listed: &[PlanCut], cuts: &[PlanCut]) -> bool {
     let mut after = None;
     for cut in cuts {
-        if !listed.contains(&PlanCut { cost, cut: *cut }) {
+        if !listed.contains(cut) {
             return false;
         }
         if let Some(before) = after {
@@ -301,7 +372,24 @@ fn are_those(listed: &[PlanCut], cost: u64, cuts: &[Cut]) -> bool {
         }
         after = Some(*cut);
     }
-    listed.iter().filter(|plan| plan.cost == cost).count() == cuts.len()
+    listed.len() == cuts.len()
+}
+
+/// Settles a cost and lists the cuts of each up to it, over either space.
+fn cuts_in(
+    alloc: Global,
+    diagrams: bool,
+    task: &Task,
+    choose: Choice,
+    most: u64,
+) -> Result<Cutting, SpaceFault> {
+    if diagrams {
+        let mut space = BddSpace::of(alloc, task)?;
+        list_cuts(alloc, &mut space, task, choose, most)
+    } else {
+        let mut space = ExplicitSpace::of(alloc, task)?;
+        list_cuts(alloc, &mut space, task, choose, most)
+    }
 }
 
 /// Whether cuts agree with listed plans, and how many were compared.
@@ -316,19 +404,14 @@ fn compare(
     alloc: Global,
     diagrams: bool,
     task: &Task,
-    choose: Chosen,
+    choose: Choice,
 ) -> Result<Option<Compared>, Memory> {
-    let b = settles(alloc, diagrams, task, choose, 4, 4)?.b;
-    let Some(listed) = plan_cuts_of(alloc, task, b, 4)? else {
+    let found = cuts_in(alloc, diagrams, task, choose, 4)?;
+    let Some(listed) = plan_cuts_of(alloc, task, found.b, 4)? else {
         return Ok(None);
     };
-    let mut agree = true;
-    for cost in 0..5 {
-        let found = settles(alloc, diagrams, task, choose, 4, cost)?;
-        agree = agree && found.first == found.all && are_those(&listed, cost, &found.all);
-    }
     Ok(Some(Compared {
-        agree,
+        agree: are_those(&listed, &found.cuts),
         cuts: listed.len(),
     }))
 }
@@ -344,7 +427,12 @@ fn the_cuts_of_drawn_tasks_are_those_of_their_plans(rt: HostRuntime) -> Result<(
         }
         if let Some(task) = random_task(alloc, seed)? {
             let diagrams = seed % 2 == 0;
-            if let Some(found) = compare(alloc, diagrams, &task, Chosen::of(seed / 2))? {
+            if let Some(found) = compare(
+                alloc,
+                diagrams,
+                &task,
+                CHOICES[(seed / 2 % 4) as usize],
+            )? {
                 assert!(rt; found.agree, "seed {seed}");
                 tried = tried.saturating_add(1);
                 cuts = cuts.saturating_add(found.cuts);

@@ -1,0 +1,10 @@
+use Rattle.forward_search.proofs.Standing.{layers_kept}
+use Rattle.cost_search.specs.Search.{layers_of}
+use Rattle.bidirectional.specs.Sides.{rear}
+use Rattle.bidirectional.proofs.Known.{rear_held}
+use Rattle.bidirectional_rows.proofs.tests.refusals.layers_stand.Goals as goal
+
+pub alternate-requires-2 : goal.alternate-requires-2
+alternate-requires-2 g c =
+    let view = g.S.Space.view in
+    rw c.backward_layers.ensures.value (layers_kept (view c.args.space.now) (view c.alternate.new.space) (layers_of (rear c.args.both.now.sides)) c.alternate.ensures.kept (rear_held (view c.args.space.now) c.args.both.now.sides c.requires.sides))

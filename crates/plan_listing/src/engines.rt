@@ -4,10 +4,10 @@ ghost use Rattle.std.specs.Prelude.{◌≡◌, None, Some, IfOk};
 ghost use Rattle.reconstruct.specs.Engine.{ListsUseful, IsReadyFor, IsEngine};
 ghost use Rattle.loopless.specs.Engine.{IsEngine as IsLoopless};
 
-use crate::choice::Choice;
 use crate::costs::costs_of;
 use crate::listing::{Ending, Listing, first_plans};
 use bdd_space::BddSpace;
+use bidirectional::Choice;
 use explicit_space::{ExplicitSpace, FuseSpace};
 use lazy_plans::LazyPlans;
 use loopless::LooplessPlans;

@@ -2,8 +2,8 @@
 //!
 //! `listed` makes the engine that is asked for over a space of the task and takes its first plans, each with a count of turns of
 //! its own; where the list ends, it asks twice more. `costs_of` tells what plans cost, where `plan_out` calls their list good,
-//! and `lists` compares both with what they should be; `stops_well` refuses one call of the space after the other. `Choice` holds any choice of the side that goes on. It stands on the
-//! engines (`reconstruct`, `loopless`, `selectors`), on both spaces, and on `plan_out` for the check.
+//! and `lists` compares both with what they should be; `stops_well` refuses one call of the space after the other. It stands on
+//! the engines (`reconstruct`, `loopless`, `selectors`), on both spaces, and on `plan_out` for the check.
 #![tactic(auto)]
 
 mod choice;
@@ -12,7 +12,8 @@ mod engines;
 mod listing;
 mod stops;
 
-pub use choice::{BACKWARD, CHOICES, Choice, FORWARD, LIGHTER, LOWER};
+pub use bidirectional::Choice;
+pub use choice::{BACKWARD, CHOICES, FORWARD, LIGHTER, LOWER};
 pub use costs::costs_of;
 pub use engines::{Engine, Request, Sets, listed, lists};
 pub use listing::{Ending, Listing, first_plans};

@@ -13,34 +13,56 @@ use Rattle.line_grammar.specs.declared.Stopped.TheVariants as stopped
 use Rattle.line_grammar.specs.Reading.{Fails}
 use Rattle.line_grammar.proofs.Exact as grammar
 use Rattle.plan_out.specs.declared.blocks.ReadBlock.{ReadBlock}
-use Rattle.plan_out.specs.Plans.{Row, plan, IsSpelled, block_rows, rows_from, IsBlock, IsEndLine, IsEnding, IsPlansOf}
-use Rattle.plan_out.specs.Reading.{is_numbered, is_end, begins_with_end, block_at, IsAfterEnd, Refuses}
+use Rattle.plan_out.specs.Plans.{Row, plan, IsSpelled, block_rows, rows_from, IsBlock, IsNumbered, IsEndLine, IsEnding, IsPlansOf}
+use Rattle.plan_out.specs.Reading.{is_numbered, says_enough, says_all, is_end, begins_with_end, block_at, IsAfterEnd, Refuses}
 use Rattle.plan_out.proofs.BlockRows.{shape_of, numbered_is, numbered_again}
 use Rattle.plan_out.proofs.OneBlock.{exact_block}
 
 -- End lines.
 
+-- one of two tests is met
+one_of : (t u : Bool) → (t || u) ≡ true → (t ≡ true) ⊎ (u ≡ true)
+one_of true u e = inl refl
+one_of false u e = inr e
+
+by_second : (t u : Bool) → u ≡ true → (t || u) ≡ true
+by_second true u e = refl
+by_second false u e = e
+
+enough_is : (n : ℕ) (line : List ℕ) → (is_numbered (codes "; reached ") n line ≡ true) ⊎ (is_numbered (codes "; more ") n line ≡ true) → IsEndLine n line
+enough_is n line (inl e) = inl (numbered_is (codes "; reached ") n line e)
+enough_is n line (inr e) = inr (inr (inl (numbered_is (codes "; more ") n line e)))
+
+all_is : (n : ℕ) (line : List ℕ) → (is_numbered (codes "; exhausted ") n line ≡ true) ⊎ (is_numbered (codes "; bounded ") n line ≡ true) → IsEndLine n line
+all_is n line (inl e) = inr (inl (numbered_is (codes "; exhausted ") n line e))
+all_is n line (inr e) = inr (inr (inr (inl (numbered_is (codes "; bounded ") n line e))))
+
+counted_is : (n : ℕ) (line : List ℕ) → (says_enough n line ≡ true) ⊎ (says_all n line ≡ true) → IsEndLine n line
+counted_is n line (inl e) = enough_is n line (one_of (is_numbered (codes "; reached ") n line) (is_numbered (codes "; more ") n line) e)
+counted_is n line (inr e) = all_is n line (one_of (is_numbered (codes "; exhausted ") n line) (is_numbered (codes "; bounded ") n line) e)
+
+any_is : (n : ℕ) (line : List ℕ) → ((says_enough n line || says_all n line) ≡ true) ⊎ (bytes_eq line (codes "; cost range") ≡ true) → IsEndLine n line
+any_is n line (inl e) = counted_is n line (one_of (says_enough n line) (says_all n line) e)
+any_is n line (inr e) = inr (inr (inr (inr ((bytes_eq-Decides line (codes "; cost range")).0 e))))
+
 pub end_is : (n : ℕ) (line : List ℕ) → is_end n line ≡ true → IsEndLine n line
-end_is n line e = by_tests (is_numbered (codes "; reached ") n line) (is_numbered (codes "; exhausted ") n line) refl refl e
-  where
-    by_tests : (t u : Bool) → is_numbered (codes "; reached ") n line ≡ t → is_numbered (codes "; exhausted ") n line ≡ u → (t || u || bytes_eq line (codes "; cost range")) ≡ true → IsEndLine n line
-    by_tests true u t1 t2 e = inl (numbered_is (codes "; reached ") n line t1)
-    by_tests false true t1 t2 e = inr (inl (numbered_is (codes "; exhausted ") n line t2))
-    by_tests false false t1 t2 e = inr (inr ((bytes_eq-Decides line (codes "; cost range")).0 e))
+end_is n line e = any_is n line (one_of (says_enough n line || says_all n line) (bytes_eq line (codes "; cost range")) e)
+
+by_first : (t u : Bool) → t ≡ true → (t || u) ≡ true
+by_first t u e = rw e refl
+
+enough_again : (n : ℕ) (line : List ℕ) → says_enough n line ≡ true → is_end n line ≡ true
+enough_again n line e = by_first (says_enough n line || says_all n line) _ (by_first (says_enough n line) _ e)
+
+all_again : (n : ℕ) (line : List ℕ) → says_all n line ≡ true → is_end n line ≡ true
+all_again n line e = by_first (says_enough n line || says_all n line) _ (by_second (says_enough n line) _ e)
 
 pub is_end_again : (n : ℕ) (line : List ℕ) → IsEndLine n line → is_end n line ≡ true
-is_end_again n line (inl h) = (let t = numbered_again (codes "; reached ") n line h in rw t refl)
-is_end_again n line (inr (inl h)) = (let t = numbered_again (codes "; exhausted ") n line h in by_first (is_numbered (codes "; reached ") n line) t)
-  where
-    by_first : (t : Bool) → is_numbered (codes "; exhausted ") n line ≡ true → (t || is_numbered (codes "; exhausted ") n line || bytes_eq line (codes "; cost range")) ≡ true
-    by_first true u = refl
-    by_first false u = rw u refl
-is_end_again n line (inr (inr h)) = by_both (is_numbered (codes "; reached ") n line) (is_numbered (codes "; exhausted ") n line) ((bytes_eq-Decides line (codes "; cost range")).1 h)
-  where
-    by_both : (t u : Bool) → bytes_eq line (codes "; cost range") ≡ true → (t || u || bytes_eq line (codes "; cost range")) ≡ true
-    by_both true u e = refl
-    by_both false true e = refl
-    by_both false false e = e
+is_end_again n line (inl h) = enough_again n line (by_first (is_numbered (codes "; reached ") n line) _ (numbered_again (codes "; reached ") n line h))
+is_end_again n line (inr (inl h)) = all_again n line (by_first (is_numbered (codes "; exhausted ") n line) _ (numbered_again (codes "; exhausted ") n line h))
+is_end_again n line (inr (inr (inl h))) = enough_again n line (by_second (is_numbered (codes "; reached ") n line) _ (numbered_again (codes "; more ") n line h))
+is_end_again n line (inr (inr (inr (inl h)))) = all_again n line (by_second (is_numbered (codes "; exhausted ") n line) _ (numbered_again (codes "; bounded ") n line h))
+is_end_again n line (inr (inr (inr (inr h)))) = by_second (says_enough n line || says_all n line) _ ((bytes_eq-Decides line (codes "; cost range")).1 h)
 
 -- the third bytes of two lines
 third_apart : (a b : ℕ) → a ≡ b → a ≢ b → ⊥
@@ -50,7 +72,9 @@ third_apart a b e ne = ne e
 no_block_there : (n i : ℕ) (line : List ℕ) → IsEndLine n line → IsSpelled (plan i) line → ⊥
 no_block_there n i line (inl h) k = third_apart 114 112 (ap (λ (z : List ℕ). get_or z 2 0) (sym h.2 ∙ k.2)) (omega arith)
 no_block_there n i line (inr (inl h)) k = third_apart 101 112 (ap (λ (z : List ℕ). get_or z 2 0) (sym h.2 ∙ k.2)) (omega arith)
-no_block_there n i line (inr (inr h)) k = third_apart 99 112 (ap (λ (z : List ℕ). get_or z 2 0) (sym h ∙ k.2)) (omega arith)
+no_block_there n i line (inr (inr (inl h))) k = third_apart 109 112 (ap (λ (z : List ℕ). get_or z 2 0) (sym h.2 ∙ k.2)) (omega arith)
+no_block_there n i line (inr (inr (inr (inl h)))) k = third_apart 98 112 (ap (λ (z : List ℕ). get_or z 2 0) (sym h.2 ∙ k.2)) (omega arith)
+no_block_there n i line (inr (inr (inr (inr h)))) k = third_apart 99 112 (ap (λ (z : List ℕ). get_or z 2 0) (sym h ∙ k.2)) (omega arith)
 
 -- The blocks of a text, one after the other.
 

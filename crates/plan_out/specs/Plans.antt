@@ -56,7 +56,7 @@ pub record IsBlock (b : ReadBlock) : Type 0 where
 
 -- the line ends a list of n blocks
 abbrev pub IsEndLine : ℕ → List ℕ → Type 0
-IsEndLine n line = IsNumbered (codes "; reached ") n line ⊎ (IsNumbered (codes "; exhausted ") n line ⊎ (line ≡ codes "; cost range"))
+IsEndLine n line = IsNumbered (codes "; reached ") n line ⊎ (IsNumbered (codes "; exhausted ") n line ⊎ (IsNumbered (codes "; more ") n line ⊎ (IsNumbered (codes "; bounded ") n line ⊎ (line ≡ codes "; cost range"))))
 
 -- after n blocks there is nothing more, or one end line alone
 abbrev pub IsEnding : ℕ → Lines → Type 0

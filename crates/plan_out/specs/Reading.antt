@@ -69,9 +69,17 @@ with_word x = if bytes_eq x.1 (codes " (unit cost)") then Some (x.0, true) else 
 abbrev pub cost_in : List ℕ → Option (ℕ × Bool)
 cost_in line = option_and_then with_word (number_then (codes "; cost = ") line)
 
+-- the line says that n blocks are as many as were asked for
+abbrev pub says_enough : ℕ → List ℕ → Bool
+says_enough n line = is_numbered (codes "; reached ") n line || is_numbered (codes "; more ") n line
+
+-- the line says that n blocks are all
+abbrev pub says_all : ℕ → List ℕ → Bool
+says_all n line = is_numbered (codes "; exhausted ") n line || is_numbered (codes "; bounded ") n line
+
 -- the line ends a list of n blocks
 abbrev pub is_end : ℕ → List ℕ → Bool
-is_end n line = is_numbered (codes "; reached ") n line || is_numbered (codes "; exhausted ") n line || bytes_eq line (codes "; cost range")
+is_end n line = says_enough n line || says_all n line || bytes_eq line (codes "; cost range")
 
 -- the first of the lines is there, and ends a list of n blocks
 abbrev pub begins_with_end : ℕ → Lines → Bool

@@ -5,7 +5,7 @@ use Rattle.std.specs.List.{list_all}
 use Rattle.symk_task.specs.declared.parts.TaskParts.{TaskParts}
 use Rattle.symk_task.specs.Plans.{cost_of}
 use Rattle.plan_out.specs.declared.end.End.{End}
-use Rattle.plan_out.specs.declared.end.End.TheVariants.{Reached, Exhausted, CostRange}
+use Rattle.plan_out.specs.declared.end.End.TheVariants.{Reached, Exhausted, More, Bounded, CostRange}
 
 -- a line of these bytes and a number
 unfoldable pub numbered : List ℕ → ℕ → List ℕ
@@ -39,4 +39,6 @@ block task i p = numbered (codes "; plan ") i ++ ops_line p ++ flat_map (step_li
 unfoldable pub end_line : End → List ℕ
 end_line (Reached n) = numbered (codes "; reached ") n
 end_line (Exhausted n) = numbered (codes "; exhausted ") n
+end_line (More n) = numbered (codes "; more ") n
+end_line (Bounded n) = numbered (codes "; bounded ") n
 end_line CostRange = codes "; cost range" ++ 10 ∷ []

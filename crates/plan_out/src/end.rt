@@ -15,6 +15,10 @@ pub enum End {
     Reached { n: u64 },
     /// There are no more.
     Exhausted { n: u64 },
+    /// As many as were asked for are listed, and there is another.
+    More { n: u64 },
+    /// All up to the greatest cost that is wanted are listed.
+    Bounded { n: u64 },
     /// There are more, and each costs more than 64 bits hold.
     CostRange,
 }
@@ -28,6 +32,8 @@ pub fn end_line(alloc: Global, end: End) -> Result<Vec<u8>, Memory>
     match end {
         End::Reached { n } => push_numbered(&mut text, b"; reached ", n)?,
         End::Exhausted { n } => push_numbered(&mut text, b"; exhausted ", n)?,
+        End::More { n } => push_numbered(&mut text, b"; more ", n)?,
+        End::Bounded { n } => push_numbered(&mut text, b"; bounded ", n)?,
         End::CostRange => push_bytes(&mut text, b"; cost range\n")?,
     }
     Ok(text.into_vec())

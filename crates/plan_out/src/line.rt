@@ -2,7 +2,7 @@
 
 ghost use Rattle.std.specs.Prelude.{◌≡◌, ◌<◌, IfSome, IfOk, length};
 ghost use Rattle.std.specs.Option.{option_copied, option_map};
-ghost use Rattle.plan_out.specs.Reading.{after, first_number, number_then, number_after, is_numbered, operator_then, spaced_in, ops_in, step_in, cost_in, is_end};
+ghost use Rattle.plan_out.specs.Reading.{after, first_number, number_then, number_after, is_numbered, operator_then, spaced_in, ops_in, step_in, cost_in, says_enough, says_all, is_end};
 
 use std::alloc::Global;
 use symk_task::{Memory, Plan};
@@ -55,13 +55,25 @@ pub fn is_numbered(line: &[u8], word: &[u8], number: u64) -> bool
     }
 }
 
+/// Whether the line says that so many blocks are as many as were asked for.
+fn says_enough(line: &[u8], blocks: u64) -> bool
+    ensures { result ≡ says_enough blocks line.now }
+{
+    is_numbered(line, b"; reached ", blocks) || is_numbered(line, b"; more ", blocks)
+}
+
+/// Whether the line says that so many blocks are all.
+fn says_all(line: &[u8], blocks: u64) -> bool
+    ensures { result ≡ says_all blocks line.now }
+{
+    is_numbered(line, b"; exhausted ", blocks) || is_numbered(line, b"; bounded ", blocks)
+}
+
 /// Whether the line ends a list of so many blocks.
 pub fn is_end(line: &[u8], blocks: u64) -> bool
     ensures { result ≡ is_end blocks line.now }
 {
-    is_numbered(line, b"; reached ", blocks)
-        || is_numbered(line, b"; exhausted ", blocks)
-        || line == b"; cost range".as_slice()
+    says_enough(line, blocks) || says_all(line, blocks) || line == b"; cost range".as_slice()
 }
 
 /// The operator that follows one space, and what follows it.

@@ -103,6 +103,8 @@ fn prints_a_block_and_each_end(rt: HostRuntime) -> Result<(), Fail> {
     for (end, want) in [
         (End::Reached { n: 20 }, "; reached 20\n"),
         (End::Exhausted { n: 1 }, "; exhausted 1\n"),
+        (End::More { n: 3 }, "; more 3\n"),
+        (End::Bounded { n: 0 }, "; bounded 0\n"),
         (End::CostRange, "; cost range\n"),
     ] {
         assert_eq!(rt; end_line(alloc, end)?.as_slice(), want.as_bytes());
@@ -167,6 +169,9 @@ fn names_the_first_line_at_which_no_plan_text_goes_on_so(rt: HostRuntime) -> Res
         ("; plan 2\n", Err(1)),
         ("; plan 1 \n", Err(1)),
         ("; reached 1\n", Err(1)),
+        ("; more 0", Ok(0)),
+        ("; more 1\n", Err(1)),
+        ("; bounded 00\n", Ok(0)),
         ("; exhausted 0\n\n", Err(2)),
         ("; plan 1\n; ops  0\n", Err(2)),
         ("; plan 1\n; ops 4294967296\n", Err(2)),

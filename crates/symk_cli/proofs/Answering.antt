@@ -9,14 +9,16 @@ use Rattle.plan_out.specs.declared.end.End.TheVariants as end
 use Rattle.plan_out.specs.declared.check.Checked.{Checked}
 use Rattle.plan_out.specs.declared.check.Checked.TheVariants as checked
 use Rattle.symk_cli.specs.declared.top.TheConstants.{USAGE}
-use Rattle.symk_cli.specs.declared.request.Direction.{Direction}
+use Rattle.symk_cli.specs.declared.request.Reach.{Reach}
+use Rattle.symk_cli.specs.declared.request.Reach.TheVariants.{All, UpTo, Percent}
 use Rattle.symk_cli.specs.declared.status.Status.{Status}
 use Rattle.symk_cli.specs.declared.status.Status.TheVariants as status
 use Rattle.symk_cli.specs.Sent.{Sent, nothing}
 use Rattle.symk_cli.specs.Ends.{Ends, FrontOf, AsOne, OrFront, Puts}
-use Rattle.symk_cli.specs.Wishes.{Wish, lists, checks, shows}
+use Rattle.symk_cli.specs.Wishes.{Ask, Wish, lists, checks, shows}
 use Rattle.symk_cli.specs.Refusals.{IsTaskText, FileRefused}
-use Rattle.symk_cli.specs.Lists.{Listing, PartListing, OrPart, end_status}
+use Rattle.symk_cli.specs.Lists.{Aim, aim, Listing, end_status}
+use Rattle.symk_cli.specs.Reaches.{NoListing, IfPercent, MayList, MayPart, OrReached}
 use Rattle.symk_cli.specs.Verdicts.{Verdict, verdict_status}
 use Rattle.symk_cli.specs.Plans.{IsPlansText, PlansRefused}
 use Rattle.symk_cli.specs.Named.{HasText, HasRead}
@@ -31,10 +33,12 @@ front_answers wish F P May whole status.WriteFault out (inr f) = inr (inl (f.0, 
 front_answers wish F P May whole status.Memory out (inl none) = inl none
 front_answers wish F P May whole status.Memory out (inr f) = inr (inl (f.0, f.1, whole f.0 f.1 f.2, f.3))
 front_answers wish F P May whole status.Reached out m = (whole status.Reached out.pieces m.0, m.1)
+front_answers wish F P May whole status.MoreLeft out m = (whole status.MoreLeft out.pieces m.0, m.1)
 front_answers wish F P May whole status.Good out m = (whole status.Good out.pieces m.0, m.1)
 front_answers wish F P May whole status.Shown out m = (whole status.Shown out.pieces m.0, m.1)
 front_answers wish F P May whole status.Exhausted out m = (whole status.Exhausted out.pieces m.0, m.1)
 front_answers wish F P May whole status.BadList out m = (whole status.BadList out.pieces m.0, m.1)
+front_answers wish F P May whole status.Bounded out m = (whole status.Bounded out.pieces m.0, m.1)
 front_answers wish F P May whole status.Offending out m = (whole status.Offending out.pieces m.0, m.1)
 front_answers wish F P May whole status.Usage out m = (whole status.Usage out.pieces m.0, m.1)
 front_answers wish F P May whole status.TooLong out m = (whole status.TooLong out.pieces m.0, m.1)
@@ -47,7 +51,7 @@ front_answered wish told F P May old new result whole texts p = record { F = F; 
 -- nothing was read
 nothing_read : (told : Option Told) (wish : Option Wish) → AreTexts told wish None None
 nothing_read told None = tt
-nothing_read told (Some (lists file most mode direction)) = tt
+nothing_read told (Some (lists ask)) = tt
 nothing_read told (Some (checks file plans mode)) = (tt, tt)
 nothing_read told (Some (shows number)) = tt
 
@@ -69,15 +73,15 @@ usage_answered wish told text old new result none e ends =
     front_answered wish told None None (IsUsage wish) old new result (usage_whole wish) (nothing_read told wish) (end_puts (IsUsage wish) status.Usage text old new result (none, e) ends)
 
 -- FILE is refused
-refused_lists : (file : Bytes) (most : ℕ) (mode : Mode) (direction : Direction) (F P : Option Bytes) (result : Status) (pieces : List Bytes) → AsOne (FileRefused F) result pieces → Whole (Some (lists file most mode direction)) F P result pieces
-refused_lists file most mode direction F P status.Unreadable pieces m = m
-refused_lists file most mode direction F P status.TooLong pieces m = m
-refused_lists file most mode direction F P status.Offending pieces m = m
-refused_lists file most mode direction F P result pieces m = absurd m.2
+refused_lists : (ask : Ask) (F P : Option Bytes) (result : Status) (pieces : List Bytes) → AsOne (FileRefused F) result pieces → Whole (Some (lists ask)) F P result pieces
+refused_lists ask F P status.Unreadable pieces m = m
+refused_lists ask F P status.TooLong pieces m = m
+refused_lists ask F P status.Offending pieces m = m
+refused_lists ask F P result pieces m = absurd m.2
 
-pub lists_refused : (told : Option Told) (file : Bytes) (most : ℕ) (mode : Mode) (direction : Direction) (old new : SinkView) (result : Status) → HasRead told file (λ F. Puts (OrFront (FileRefused F)) old new result) → Answered (Some (lists file most mode direction)) told old new result
-lists_refused told file most mode direction old new result h =
-    front_answered (Some (lists file most mode direction)) told h.0 None (FileRefused h.0) old new result (refused_lists file most mode direction h.0 None) h.1 h.2
+pub lists_refused : (told : Option Told) (ask : Ask) (old new : SinkView) (result : Status) → HasRead told ask.file (λ F. Puts (OrFront (FileRefused F)) old new result) → Answered (Some (lists ask)) told old new result
+lists_refused told ask old new result h =
+    front_answered (Some (lists ask)) told h.0 None (FileRefused h.0) old new result (refused_lists ask h.0 None) h.1 h.2
 
 refused_checks : (file plans : Bytes) (mode : Mode) (F P : Option Bytes) (result : Status) (pieces : List Bytes) → AsOne (FileRefused F) result pieces → Whole (Some (checks file plans mode)) F P result pieces
 refused_checks file plans mode F P status.Unreadable pieces m = (m.0, m.1, inl m.2)
@@ -103,40 +107,60 @@ plans_refused told file plans mode task old new result f p =
 -- plans are listed
 abbrev IsListing : Status → Type 0
 IsListing status.Reached = Unit {0}
+IsListing status.MoreLeft = Unit {0}
+IsListing status.Bounded = Unit {0}
 IsListing status.Exhausted = Unit {0}
 IsListing status.CostRange = Unit {0}
 IsListing result = ⊥
 
 is_listing : (why : End) → IsListing (end_status why)
 is_listing (end.Reached n) = tt
+is_listing (end.More n) = tt
+is_listing (end.Bounded n) = tt
 is_listing (end.Exhausted n) = tt
 is_listing end.CostRange = tt
 
-listing_status : (task : TaskParts) (most : ℕ) (mode : Mode) (result : Status) (pieces : List Bytes) → Listing task most mode result pieces → IsListing result
-listing_status task most mode result pieces l = subst IsListing (sym l.says) (is_listing l.ended)
+listing_status : (a : Aim) (result : Status) (pieces : List Bytes) → Listing a result pieces → IsListing result
+listing_status a result pieces l = subst IsListing (sym l.says) (is_listing l.ended)
 
-listing_whole : (file : Bytes) (most : ℕ) (mode : Mode) (direction : Direction) (F : Bytes) (P : Option Bytes) (task : TaskParts) → IsTaskText F task → (result : Status) (pieces : List Bytes) → Listing task most mode result pieces → Whole (Some (lists file most mode direction)) (Some F) P result pieces
-listing_whole file most mode direction F P task t status.Reached out l = (task, t, l)
-listing_whole file most mode direction F P task t status.Exhausted out l = (task, t, l)
-listing_whole file most mode direction F P task t status.CostRange out l = (task, t, l)
-listing_whole file most mode direction F P task t result out l = absurd (listing_status task most mode result out l)
+none_status : (task : TaskParts) (result : Status) (pieces : List Bytes) → NoListing task result pieces → IsListing result
+none_status task result pieces l = subst IsListing (sym l.says) (is_listing l.ended)
 
-part_answers : (file : Bytes) (most : ℕ) (mode : Mode) (direction : Direction) (F : Bytes) (P : Option Bytes) (task : TaskParts) → IsTaskText F task → (out : Sent) → FrontOf (Listing task most mode) out ⊎ PartListing task most mode out → Part (Some (lists file most mode direction)) (Some F) P out
-part_answers file most mode direction F P task t out (inl (inl none)) = inl none
-part_answers file most mode direction F P task t out (inl (inr f)) = inr (inl (f.0, f.1, listing_whole file most mode direction F P task t f.0 f.1 f.2, f.3))
-part_answers file most mode direction F P task t out (inr p) = inr (inr (task, t, p))
+percent_status : (task : TaskParts) (reach : Reach) (result : Status) (pieces : List Bytes) → IfPercent reach (NoListing task result pieces) → IsListing result
+percent_status task All result pieces h = absurd h
+percent_status task (UpTo most) result pieces h = absurd h
+percent_status task (Percent percent) result pieces h = none_status task result pieces h
 
-list_answers : (file : Bytes) (most : ℕ) (mode : Mode) (direction : Direction) (F : Bytes) (P : Option Bytes) (task : TaskParts) → IsTaskText F task → (result : Status) (out : Sent) → OrPart task most mode result out → Answer (Some (lists file most mode direction)) (Some F) P result out
-list_answers file most mode direction F P task t status.WriteFault out l = part_answers file most mode direction F P task t out l
-list_answers file most mode direction F P task t status.Memory out l = part_answers file most mode direction F P task t out l
-list_answers file most mode direction F P task t status.Reached out l = ((task, t, l.0), l.1)
-list_answers file most mode direction F P task t status.Exhausted out l = ((task, t, l.0), l.1)
-list_answers file most mode direction F P task t status.CostRange out l = ((task, t, l.0), l.1)
-list_answers file most mode direction F P task t result out l = absurd (listing_status task most mode result out.pieces l.0)
+may_status : (task : TaskParts) (ask : Ask) (result : Status) (pieces : List Bytes) → MayList task ask.mode ask.wanted ask.reach result pieces → IsListing result
+may_status task ask result pieces (inl l) = listing_status (aim task ask.mode ask.wanted l.0) result pieces l.2
+may_status task ask result pieces (inr h) = percent_status task ask.reach result pieces h
 
-pub lists_answered : (told : Option Told) (file : Bytes) (most : ℕ) (mode : Mode) (direction : Direction) (task : TaskParts) (old new : SinkView) (result : Status) → HasText told file (λ F. IsTaskText F task) → Puts (OrPart task most mode) old new result → Answered (Some (lists file most mode direction)) told old new result
-lists_answered told file most mode direction task old new result h p =
-    record { F = Some h.0; P = None; texts = h.1; out = p.0; taken = p.1; answer = list_answers file most mode direction h.0 None task h.2 result p.0 p.2 }
+listing_whole : (ask : Ask) (F : Bytes) (P : Option Bytes) (task : TaskParts) → IsTaskText F task → (result : Status) (pieces : List Bytes) → MayList task ask.mode ask.wanted ask.reach result pieces → Whole (Some (lists ask)) (Some F) P result pieces
+listing_whole ask F P task t status.Reached out l = (task, t, l)
+listing_whole ask F P task t status.MoreLeft out l = (task, t, l)
+listing_whole ask F P task t status.Bounded out l = (task, t, l)
+listing_whole ask F P task t status.Exhausted out l = (task, t, l)
+listing_whole ask F P task t status.CostRange out l = (task, t, l)
+listing_whole ask F P task t result out l = absurd (may_status task ask result out l)
+
+part_answers : (ask : Ask) (F : Bytes) (P : Option Bytes) (task : TaskParts) → IsTaskText F task → (out : Sent) → FrontOf (MayList task ask.mode ask.wanted ask.reach) out ⊎ MayPart task ask.mode ask.wanted ask.reach out → Part (Some (lists ask)) (Some F) P out
+part_answers ask F P task t out (inl (inl none)) = inl none
+part_answers ask F P task t out (inl (inr f)) = inr (inl (f.0, f.1, listing_whole ask F P task t f.0 f.1 f.2, f.3))
+part_answers ask F P task t out (inr p) = inr (inr (task, t, p))
+
+list_answers : (ask : Ask) (F : Bytes) (P : Option Bytes) (task : TaskParts) → IsTaskText F task → (result : Status) (out : Sent) → OrReached task ask.mode ask.wanted ask.reach result out → Answer (Some (lists ask)) (Some F) P result out
+list_answers ask F P task t status.WriteFault out l = part_answers ask F P task t out l
+list_answers ask F P task t status.Memory out l = part_answers ask F P task t out l
+list_answers ask F P task t status.Reached out l = ((task, t, l.0), l.1)
+list_answers ask F P task t status.MoreLeft out l = ((task, t, l.0), l.1)
+list_answers ask F P task t status.Bounded out l = ((task, t, l.0), l.1)
+list_answers ask F P task t status.Exhausted out l = ((task, t, l.0), l.1)
+list_answers ask F P task t status.CostRange out l = ((task, t, l.0), l.1)
+list_answers ask F P task t result out l = absurd (may_status task ask result out.pieces l.0)
+
+pub lists_answered : (told : Option Told) (ask : Ask) (task : TaskParts) (old new : SinkView) (result : Status) → HasText told ask.file (λ F. IsTaskText F task) → Puts (OrReached task ask.mode ask.wanted ask.reach) old new result → Answered (Some (lists ask)) told old new result
+lists_answered told ask task old new result h p =
+    record { F = Some h.0; P = None; texts = h.1; out = p.0; taken = p.1; answer = list_answers ask h.0 None task h.2 result p.0 p.2 }
 
 -- a list is judged
 abbrev IsVerdict : Status → Type 0

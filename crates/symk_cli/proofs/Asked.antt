@@ -7,9 +7,10 @@ use Rattle.std.proofs.lemmas.Bool.Decides.{nat_tests}
 use Rattle.symk_text.specs.Numbers.{value_of, number_at}
 use Rattle.symk_io.specs.View.{Bytes}
 use Rattle.symk_task.specs.declared.parts.Mode.{Mode}
-use Rattle.symk_words.specs.Texts.{Texts, texts_asked, plan, check, demo}
+use Rattle.symk_words.specs.Texts.{Texts, PlanTexts, texts_asked, plan, check, demo}
 use Rattle.symk_cli.specs.declared.request.Direction.{Direction}
-use Rattle.symk_cli.specs.Wishes.{Wish, lists, checks, shows, number_within, mode_of, direction_of, serves, lists_if_served, spelled, wish_of}
+use Rattle.symk_cli.specs.declared.request.Reach.{Reach}
+use Rattle.symk_cli.specs.Wishes.{Wish, lists, checks, shows, number_within, mode_of, direction_of, reach_of, serves, lists_if_served, ask_of, spelled, wish_of}
 
 and_step : (b : Bool) (x : ℕ) (xs rest : List ℕ) (all : Bool) → (b && all) ≡ true → (all ≡ true → rest ≡ xs) → cond b (x ∷ rest) [] ≡ x ∷ xs
 and_step true x xs rest all h r = ap (λ z. x ∷ z) (r h)
@@ -85,31 +86,47 @@ pub number_read : (least most : ℕ) (word : Bytes) → most < 2 ^ 64 → number
 unfolding number_within
 number_read least most word small = by_digits least most word (list_all is_ascii_digit word) refl small
 
--- what the texts of a `plan` spell
-pub plan_no_number : (file k : Bytes) (mode search : Option Bytes) → number_within 1 1000000000 k ≡ None → spelled (plan file k mode search) ≡ None
+-- what the texts of a `plan` spell, part after part
+abbrev pub reach_part : PlanTexts → ℕ → Mode → Direction → Option Reach → Option Wish
+reach_part t count m d o = option_and_then (λ r. lists_if_served (ask_of t count m d r)) o
+
+abbrev pub direction_part : PlanTexts → ℕ → Mode → Option Direction → Option Wish
+direction_part t count m o = option_and_then (λ d. reach_part t count m d (reach_of t.bound t.quality)) o
+
+abbrev pub mode_part : PlanTexts → ℕ → Option Mode → Option Wish
+mode_part t count o = option_and_then (λ m. direction_part t count m (direction_of t.search)) o
+
+abbrev number_part : PlanTexts → Option ℕ → Option Wish
+number_part t o = option_and_then (λ count. mode_part t count (mode_of t.mode)) o
+
+plan_parts : (t : PlanTexts) (o : Option ℕ) → number_within 1 1000000000 t.k ≡ o → spelled (plan t) ≡ number_part t o
 unfolding spelled
-plan_no_number file k mode search e =
-    ap (λ o. option_and_then (λ most. option_and_then (λ m. option_and_then (λ d. lists_if_served file most m d) (direction_of search)) (mode_of mode)) o) e
+plan_parts t o e = ap (number_part t) e
 
-plan_number : (file k : Bytes) (most : ℕ) (mode search : Option Bytes) → number_within 1 1000000000 k ≡ Some most → spelled (plan file k mode search) ≡ option_and_then (λ m. option_and_then (λ d. lists_if_served file most m d) (direction_of search)) (mode_of mode)
-unfolding spelled
-plan_number file k most mode search e =
-    ap (λ o. option_and_then (λ n. option_and_then (λ m. option_and_then (λ d. lists_if_served file n m d) (direction_of search)) (mode_of mode)) o) e
+pub plan_no_number : (t : PlanTexts) → number_within 1 1000000000 t.k ≡ None → spelled (plan t) ≡ None
+plan_no_number t e = plan_parts t None e
 
-pub plan_no_mode : (file k : Bytes) (most : ℕ) (mode search : Option Bytes) → number_within 1 1000000000 k ≡ Some most → mode_of mode ≡ None → spelled (plan file k mode search) ≡ None
-plan_no_mode file k most mode search e m =
-    plan_number file k most mode search e ∙ ap (λ o. option_and_then (λ m. option_and_then (λ d. lists_if_served file most m d) (direction_of search)) o) m
+pub plan_no_mode : (t : PlanTexts) (count : ℕ) → number_within 1 1000000000 t.k ≡ Some count → mode_of t.mode ≡ None → spelled (plan t) ≡ None
+plan_no_mode t count e m = plan_parts t (Some count) e ∙ ap (mode_part t count) m
 
-pub plan_direction : (file k : Bytes) (most : ℕ) (m : Mode) (mode search : Option Bytes) → number_within 1 1000000000 k ≡ Some most → mode_of mode ≡ Some m → spelled (plan file k mode search) ≡ option_and_then (λ d. lists_if_served file most m d) (direction_of search)
-plan_direction file k most m mode search e is =
-    plan_number file k most mode search e ∙ ap (λ o. option_and_then (λ m. option_and_then (λ d. lists_if_served file most m d) (direction_of search)) o) is
+plan_direction : (t : PlanTexts) (count : ℕ) (m : Mode) (o : Option Direction) → number_within 1 1000000000 t.k ≡ Some count → mode_of t.mode ≡ Some m → direction_of t.search ≡ o → spelled (plan t) ≡ direction_part t count m o
+plan_direction t count m o e is d = plan_parts t (Some count) e ∙ ap (mode_part t count) is ∙ ap (direction_part t count m) d
 
-pub plan_no_direction : (file k : Bytes) (most : ℕ) (m : Mode) (mode search : Option Bytes) → number_within 1 1000000000 k ≡ Some most → mode_of mode ≡ Some m → direction_of search ≡ None → spelled (plan file k mode search) ≡ None
-plan_no_direction file k most m mode search e is d = plan_direction file k most m mode search e is ∙ ap (λ o. option_and_then (λ d. lists_if_served file most m d) o) d
+pub plan_no_direction : (t : PlanTexts) (count : ℕ) (m : Mode) → number_within 1 1000000000 t.k ≡ Some count → mode_of t.mode ≡ Some m → direction_of t.search ≡ None → spelled (plan t) ≡ None
+plan_no_direction t count m e is d = plan_direction t count m None e is d
 
-pub plan_spelled : (file k : Bytes) (most : ℕ) (m : Mode) (d : Direction) (mode search : Option Bytes) (served : Bool) → number_within 1 1000000000 k ≡ Some most → mode_of mode ≡ Some m → direction_of search ≡ Some d → serves m d ≡ served → spelled (plan file k mode search) ≡ cond served (Some (lists file most m d)) None
-plan_spelled file k most m d mode search served e is dir s =
-    plan_direction file k most m mode search e is ∙ ap (λ o. option_and_then (λ d. lists_if_served file most m d) o) dir ∙ ap (λ b. cond b (Some (lists file most m d)) None) s
+plan_reach : (t : PlanTexts) (count : ℕ) (m : Mode) (d : Direction) (o : Option Reach) → number_within 1 1000000000 t.k ≡ Some count → mode_of t.mode ≡ Some m → direction_of t.search ≡ Some d → reach_of t.bound t.quality ≡ o
+    → spelled (plan t) ≡ reach_part t count m d o
+plan_reach t count m d o e is dir r = plan_direction t count m (Some d) e is dir ∙ ap (reach_part t count m d) r
+
+pub plan_no_reach : (t : PlanTexts) (count : ℕ) (m : Mode) (d : Direction) → number_within 1 1000000000 t.k ≡ Some count → mode_of t.mode ≡ Some m → direction_of t.search ≡ Some d → reach_of t.bound t.quality ≡ None
+    → spelled (plan t) ≡ None
+plan_no_reach t count m d e is dir r = plan_reach t count m d None e is dir r
+
+pub plan_spelled : (t : PlanTexts) (count : ℕ) (m : Mode) (d : Direction) (r : Reach) (served : Bool) → number_within 1 1000000000 t.k ≡ Some count → mode_of t.mode ≡ Some m → direction_of t.search ≡ Some d → reach_of t.bound t.quality ≡ Some r → serves m d ≡ served
+    → spelled (plan t) ≡ cond served (Some (lists (ask_of t count m d r))) None
+plan_spelled t count m d r served e is dir re s =
+    plan_reach t count m d (Some r) e is dir re ∙ ap (λ b. cond b (Some (lists (ask_of t count m d r))) None) s
 
 -- those of a `check`, and of a `demo`
 pub check_spelled : (file plans : Bytes) (mode : Option Bytes) (o : Option Mode) → mode_of mode ≡ o → spelled (check file plans mode) ≡ option_map (λ m. checks file plans m) o

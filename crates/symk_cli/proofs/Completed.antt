@@ -10,11 +10,10 @@ use Rattle.plan_out.specs.declared.blocks.ReadBlock.{ReadBlock}
 use Rattle.plan_out.specs.Plans.{IsPlansOf}
 use Rattle.symk_text.specs.Lines.{lines}
 use Rattle.symk_cli.specs.declared.TheConstants.{LIMIT}
-use Rattle.symk_cli.specs.declared.request.Direction.{Direction}
 use Rattle.symk_cli.specs.declared.status.Status.{Status}
 use Rattle.symk_cli.specs.declared.status.Status.TheVariants as status
 use Rattle.symk_cli.specs.Ends.{HasCauses}
-use Rattle.symk_cli.specs.Wishes.{Wish, lists, checks, shows, wish_of}
+use Rattle.symk_cli.specs.Wishes.{Ask, Wish, lists, checks, shows, wish_of}
 use Rattle.symk_cli.specs.LawfulWords.{AreLawful}
 use Rattle.symk_cli.specs.Named.{IsToldText}
 use Rattle.symk_cli.specs.Refusals.{IsTaskText, FileOffence}
@@ -83,22 +82,24 @@ some_none : (wish : Wish) → Some wish ≡ None → ⊥
 some_none wish e = cc
 
 -- what is asked for over a text that is a task file
-lists_finish : (told : Option Told) (file : Bytes) (most : ℕ) (mode : Mode) (direction : Direction) (old new : SinkView) (result : Status) → TellsTexts told (lists file most mode direction)
-    → (result ≡ status.Unreadable → ⊥) → (result ≡ status.WriteFault → ⊥) → Answered (Some (lists file most mode direction)) told old new result → Finishes (lists file most mode direction) result ⊎ (result ≡ status.Memory)
-lists_finish told file most mode direction old new status.Reached t u w a = inl (inl refl)
-lists_finish told file most mode direction old new status.Exhausted t u w a = inl (inr (inl refl))
-lists_finish told file most mode direction old new status.CostRange t u w a = inl (inr (inr refl))
-lists_finish told file most mode direction old new status.Memory t u w a = inr refl
-lists_finish told file most mode direction old new status.Unreadable t u w a = absurd (u refl)
-lists_finish told file most mode direction old new status.WriteFault t u w a = absurd (w refl)
-lists_finish told file most mode direction old new status.Usage t u w a = absurd (some_none (lists file most mode direction) a.answer.0.2.0)
-lists_finish told file most mode direction old new status.TooLong t u w a =
-    absurd (task_short t.1 a.F (read_task told file t.0 t.1 a.F t.2 t.3 a.texts) a.answer.0.2.0)
-lists_finish told file most mode direction old new status.Offending t u w a =
-    absurd (task_lawful t.1 a.answer.0.0 a.F (read_task told file t.0 t.1 a.F t.2 t.3 a.texts) a.answer.0.2)
-lists_finish told file most mode direction old new status.Good t u w a = absurd a.answer.0.2
-lists_finish told file most mode direction old new status.BadList t u w a = absurd a.answer.0.2
-lists_finish told file most mode direction old new status.Shown t u w a = absurd a.answer.0.2
+lists_finish : (told : Option Told) (ask : Ask) (old new : SinkView) (result : Status) → TellsTexts told (lists ask)
+    → (result ≡ status.Unreadable → ⊥) → (result ≡ status.WriteFault → ⊥) → Answered (Some (lists ask)) told old new result → Finishes (lists ask) result ⊎ (result ≡ status.Memory)
+lists_finish told ask old new status.Reached t u w a = inl (inl refl)
+lists_finish told ask old new status.MoreLeft t u w a = inl (inr (inl refl))
+lists_finish told ask old new status.Bounded t u w a = inl (inr (inr (inl refl)))
+lists_finish told ask old new status.Exhausted t u w a = inl (inr (inr (inr (inl refl))))
+lists_finish told ask old new status.CostRange t u w a = inl (inr (inr (inr (inr refl))))
+lists_finish told ask old new status.Memory t u w a = inr refl
+lists_finish told ask old new status.Unreadable t u w a = absurd (u refl)
+lists_finish told ask old new status.WriteFault t u w a = absurd (w refl)
+lists_finish told ask old new status.Usage t u w a = absurd (some_none (lists ask) a.answer.0.2.0)
+lists_finish told ask old new status.TooLong t u w a =
+    absurd (task_short t.1 a.F (read_task told ask.file t.0 t.1 a.F t.2 t.3 a.texts) a.answer.0.2.0)
+lists_finish told ask old new status.Offending t u w a =
+    absurd (task_lawful t.1 a.answer.0.0 a.F (read_task told ask.file t.0 t.1 a.F t.2 t.3 a.texts) a.answer.0.2)
+lists_finish told ask old new status.Good t u w a = absurd a.answer.0.2
+lists_finish told ask old new status.BadList t u w a = absurd a.answer.0.2
+lists_finish told ask old new status.Shown t u w a = absurd a.answer.0.2
 
 -- one of the two texts is too long, or offends
 either : (A B C : Type 0) → (A → ⊥) → (C → ⊥) → A ⊎ (B × C) → ⊥
@@ -119,6 +120,8 @@ checks_finish told file plans mode old new status.TooLong t u w a =
 checks_finish told file plans mode old new status.Offending t u w a =
     absurd (either _ _ _ (λ h. task_lawful t.0.1 a.answer.0.0 a.F (read_task told file t.0.0 t.0.1 a.F t.0.2 t.0.3 a.texts.0) h) (λ h. plans_lawful t.1.1 a.answer.0.0 a.P (read_plans told plans t.1.0 t.1.1 a.P t.1.2 t.1.3 a.texts.1) h) a.answer.0.2)
 checks_finish told file plans mode old new status.Reached t u w a = absurd a.answer.0
+checks_finish told file plans mode old new status.MoreLeft t u w a = absurd a.answer.0
+checks_finish told file plans mode old new status.Bounded t u w a = absurd a.answer.0
 checks_finish told file plans mode old new status.Exhausted t u w a = absurd a.answer.0
 checks_finish told file plans mode old new status.CostRange t u w a = absurd a.answer.0
 checks_finish told file plans mode old new status.Shown t u w a = absurd a.answer.0.2
@@ -129,12 +132,14 @@ shows_finish told number old new status.Memory w a = inr refl
 shows_finish told number old new status.WriteFault w a = absurd (w refl)
 shows_finish told number old new status.Usage w a = absurd (some_none (shows number) a.answer.0.2.0)
 shows_finish told number old new status.Reached w a = absurd a.answer.0
+shows_finish told number old new status.MoreLeft w a = absurd a.answer.0
+shows_finish told number old new status.Bounded w a = absurd a.answer.0
 shows_finish told number old new status.Exhausted w a = absurd a.answer.0
 shows_finish told number old new status.CostRange w a = absurd a.answer.0
 shows_finish told number old new result w a = absurd a.answer.0.2
 
 finish : (told : Option Told) (wish : Wish) (old new : SinkView) (result : Status) → TellsTexts told wish → (result ≡ status.Unreadable → ⊥) → (result ≡ status.WriteFault → ⊥) → Answered (Some wish) told old new result → Finishes wish result ⊎ (result ≡ status.Memory)
-finish told (lists file most mode direction) old new result t u w a = lists_finish told file most mode direction old new result t u w a
+finish told (lists ask) old new result t u w a = lists_finish told ask old new result t u w a
 finish told (checks file plans mode) old new result t u w a = checks_finish told file plans mode old new result t u w a
 finish told (shows number) old new result t u w a = shows_finish told number old new result w a
 

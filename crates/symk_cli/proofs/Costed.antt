@@ -23,7 +23,7 @@ IsGreatestOr numbers greatest = ((numbers ≡ []) × (greatest ≡ 0)) ⊎ IsGre
 -- So many plans that an engine gave cost this, and what pends is the rest.
 pub record Costed (task : TaskParts) (pends : List ℕ → Type 0) (cheapest dearest total count : ℕ) : Type 0 where
   pub plans : List (List ℕ)
-  pub given : IsGiven task TopK pends plans
+  pub given : IsGiven task TopK None pends plans
   pub number : length plans ≡ count
   pub least : IsLeastOr (map (cost_of task) plans) cheapest
   pub greatest : IsGreatestOr (map (cost_of task) plans) dearest
@@ -83,7 +83,7 @@ sum_push : (xs : List ℕ) (x : ℕ) → sum (xs ++ x ∷ []) ≡ sum xs + x
 sum_push xs x = fold-append (λ a y. a + y) 0 xs (x ∷ [])
 
 -- no plan yet
-pub costed_none : (task : TaskParts) (pends : List ℕ → Type 0) → IsGiven task TopK pends [] → Costed task pends (2 ^ 64 - 1) 0 0 0
+pub costed_none : (task : TaskParts) (pends : List ℕ → Type 0) → IsGiven task TopK None pends [] → Costed task pends (2 ^ 64 - 1) 0 0 0
 costed_none task pends given = record { plans = []; given = given; number = refl; least = inl (refl, refl); greatest = inl (refl, refl); all = refl; bound = omega arith }
 
 -- one plan more
@@ -94,11 +94,11 @@ costed_more task pends after cheapest dearest total count plan fits c gave =
     let cost = cost_of task plan in
     let costs = map (cost_of task) c.plans in
     let more = sym (costs_push task c.plans plan) in
-    let lt = (gave_listable task TopK pends after c.plans plan c.given gave).cost in
+    let lt = (gave_listable task TopK None pends after c.plans plan (omega arith) c.given gave).cost in
     let bound = c.bound in
     record {
       plans = c.plans ++ plan ∷ [];
-      given = given_more task TopK pends after c.plans plan fits c.given gave;
+      given = given_more task TopK None pends after c.plans plan fits (omega arith) c.given gave;
       number = length_push c.plans plan ∙ ap (λ n. n + 1) c.number;
       least = subst (λ xs. IsLeastOr xs (min cheapest cost)) more (least_push costs cost cheapest lt c.least);
       greatest = subst (λ xs. IsGreatestOr xs (max dearest cost)) more (greatest_push costs cost dearest c.greatest);
@@ -124,11 +124,11 @@ pub costed_not_all : (task : TaskParts) (pends : List ℕ → Type 0) (cheapest 
     → HasMore task 20 → NoneLeft (system_of task) None pends → ⊥
 costed_not_all task pends cheapest dearest total count fits c lt more none =
     let number = c.number in
-    more c.plans (omega (arith, number, lt)) (λ p plan within. (list_exhausted task TopK pends c.plans 0 fits c.given none).end p plan)
+    more c.plans (omega (arith, number, lt)) (λ p plan within. (list_exhausted task TopK None pends c.plans 0 fits c.given none).end.1 p plan)
 
 -- nor all whose cost 64 bits hold
 pub costed_not_in_range : (task : TaskParts) (pends : List ℕ → Type 0) (cheapest dearest total count : ℕ) → Fits task → Costed task pends cheapest dearest total count → count < 20
     → HasMore task 20 → Stops (system_of task) None pends CostRange → ⊥
 costed_not_in_range task pends cheapest dearest total count fits c lt more stops =
     let number = c.number in
-    more c.plans (omega (arith, number, lt)) (list_in_range task TopK pends c.plans fits c.given stops).end.0
+    more c.plans (omega (arith, number, lt)) (list_in_range task TopK None pends c.plans fits c.given stops).end.1

@@ -10,7 +10,10 @@ use Rattle.symk_words.specs.Texts.{Texts, texts_asked, plan, check, demo}
 use Rattle.symk_words.specs.Lawful.{Plain, PlainIfSome}
 use Rattle.symk_words.proofs.LawfulWords.{plan_law, check_law, demo_law}
 use Rattle.symk_cli.specs.declared.request.Direction.{Direction}
-use Rattle.symk_cli.specs.Wishes.{number_within, mode_named, mode_of, direction_named, direction_of, lists_if_served, spelled, wish_of}
+use Rattle.symk_cli.specs.Wishes.{number_within, mode_named, mode_of, direction_named, direction_of, reach_of, lists_if_served, ask_of, spelled, wish_of}
+use Rattle.symk_cli.specs.declared.request.Reach.{Reach}
+use Rattle.symk_cli.specs.declared.request.Reach.TheVariants.{UpTo, Percent}
+use Rattle.symk_cli.proofs.Asked.{mode_part, direction_part, reach_part}
 use Rattle.symk_cli.specs.LawfulWords.{AreWordsOf, AreLawful}
 
 no_some : (A : Type 0) → IsSome {T = A} None → ⊥
@@ -79,9 +82,25 @@ then_third : {A B C D : Type 0} (o : Option A) (q : Option B) (r : Option C) (f 
 then_third {D = D} None q r f h = absurd (no_some D h)
 then_third (Some a) q r f h = then_second q r (f a) h
 
+then_fourth : {A B C D E : Type 0} (o : Option A) (q : Option B) (r : Option C) (u : Option D) (f : A → B → C → D → Option E)
+    → IsSome (option_and_then (λ a. option_and_then (λ b. option_and_then (λ c. option_and_then (f a b c) u) r) q) o) → IsSome u
+then_fourth {E = E} None q r u f h = absurd (no_some E h)
+then_fourth (Some a) q r u f h = then_third q r u (f a) h
+
 map_first : {A B : Type 0} (f : A → B) (o : Option A) → IsSome (option_map f o) → IsSome o
 map_first {B = B} f None h = absurd (no_some B h)
 map_first f (Some a) h = refl
+
+-- so are the words of the greatest cost
+pub plain_bound : (bound quality : Option Bytes) → IsSome (reach_of bound quality) → PlainIfSome bound
+plain_bound None quality h = tt
+plain_bound (Some bound) None h = plain_number 0 18446744073709551615 bound (map_first (λ most. UpTo most) (number_within 0 18446744073709551615 bound) h)
+plain_bound (Some bound) (Some quality) h = absurd (no_some Reach h)
+
+pub plain_quality : (bound quality : Option Bytes) → IsSome (reach_of bound quality) → PlainIfSome quality
+plain_quality bound None h = tt
+plain_quality None (Some quality) h = plain_number 100 10000 quality (map_first (λ percent. Percent percent) (number_within 100 10000 quality) h)
+plain_quality (Some bound) (Some quality) h = absurd (no_some Reach h)
 
 asked : (words : List Bytes) (texts : Texts) → texts_asked words ≡ Some texts → IsSome (spelled texts) → IsSome (wish_of words)
 unfolding wish_of
@@ -89,11 +108,19 @@ asked words texts e h = subst (λ (o : Option Texts). IsSome (option_and_then sp
 
 by_texts : (texts : Texts) (words : List Bytes) → AreWordsOf texts words → IsSome (spelled texts) → texts_asked words ≡ Some texts
 unfolding spelled
-by_texts (plan file k mode search) words form h =
-    let number = then_first (number_within 1 1000000000 k) (λ most. option_and_then (λ m. option_and_then (λ d. lists_if_served file most m d) (direction_of search)) (mode_of mode)) h in
-    let m = then_second (number_within 1 1000000000 k) (mode_of mode) (λ most m. option_and_then (λ d. lists_if_served file most m d) (direction_of search)) h in
-    let d = then_third (number_within 1 1000000000 k) (mode_of mode) (direction_of search) (λ most m d. lists_if_served file most m d) h in
-    ap texts_asked form.1 ∙ plan_law form.0 file k mode search form.2 (plain_number 1 1000000000 k number) (plain_mode mode m) (plain_direction search d)
+by_texts (plan t) words form h =
+    let number = then_first (number_within 1 1000000000 t.k) (λ count. mode_part t count (mode_of t.mode)) h in
+    let m = then_second (number_within 1 1000000000 t.k) (mode_of t.mode) (λ count m. direction_part t count m (direction_of t.search)) h in
+    let d = then_third (number_within 1 1000000000 t.k) (mode_of t.mode) (direction_of t.search) (λ count m d. reach_part t count m d (reach_of t.bound t.quality)) h in
+    let r = then_fourth (number_within 1 1000000000 t.k) (mode_of t.mode) (direction_of t.search) (reach_of t.bound t.quality) (λ count m d r. lists_if_served (ask_of t count m d r)) h in
+    ap texts_asked form.1 ∙ plan_law form.0 t (record {
+      file = form.2;
+      k = plain_number 1 1000000000 t.k number;
+      mode = plain_mode t.mode m;
+      search = plain_direction t.search d;
+      bound = plain_bound t.bound t.quality r;
+      quality = plain_quality t.bound t.quality r;
+    })
 by_texts (check file plans mode) words form h =
     ap texts_asked form.1 ∙ check_law form.0 file plans mode form.2 form.3 (plain_mode mode (map_first _ (mode_of mode) h))
 by_texts (demo n) words form h =

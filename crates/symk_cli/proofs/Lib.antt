@@ -6,6 +6,7 @@ pub mod Serving
 pub mod Spaces
 pub mod Listed
 pub mod Ended
+pub mod Reached
 pub mod Asked
 pub mod LawfulWishes
 pub mod Costed

@@ -9,7 +9,7 @@ use Rattle.plan_out.specs.declared.end.End.TheVariants as end
 use Rattle.plan_out.specs.Texts.{block, end_line}
 use Rattle.symk_cli.specs.Sent.{Sent, nothing, Took, TookPiece, TookFront, IsFront}
 use Rattle.symk_cli.specs.Ends.{Ends, FrontOf, Puts}
-use Rattle.symk_cli.specs.Lists.{blocks_from, list_pieces, IsListOf, IsEndOf, end_status, Listing, PartListing, OrPart}
+use Rattle.symk_cli.specs.Lists.{Aim, blocks_from, list_pieces, IsListOf, IsEndOf, end_status, Listing, PartListing, OrPart}
 use Rattle.symk_cli.specs.declared.status.Status.{Status}
 use Rattle.symk_cli.specs.declared.status.Status.TheVariants as status
 use Rattle.symk_cli.proofs.Took.{all_of, took_nothing, took_piece, took_front, took_after, front_of_all, front_of_last}
@@ -22,8 +22,8 @@ pub record Listed (task : TaskParts) (Holds : List (List ℕ) → Type 0) (old n
   pub took : Took (all_of (list_pieces task plans)) old new
 
 -- where this holds of a list, it promises what a list of the mode does, while it goes on and with the end
-abbrev pub Promises : TaskParts → Mode → (List (List ℕ) → Type 0) → Option End → Type 0
-Promises task mode Holds ended = (plans : List (List ℕ)) → Holds plans → IsListOf task mode plans ended
+abbrev pub Promises : Aim → (List (List ℕ) → Type 0) → Option End → Type 0
+Promises a Holds ended = (plans : List (List ℕ)) → Holds plans → IsListOf a.task a.mode a.limit plans ended
 
 -- the blocks of one more plan
 blocks_push : (task : TaskParts) (i : ℕ) (plans : List (List ℕ)) (plan : List ℕ) → blocks_from task i (plans ++ (plan ∷ [])) ≡ blocks_from task i plans ++ (block task (i + length plans) plan ∷ [])
@@ -50,74 +50,76 @@ listed_more task Holds After old then new count plan more l put = record {
   took = subst (λ (pieces : List Bytes). Took (all_of pieces) old new) (sym (pieces_push task l.plans plan count l.number)) (took_after (list_pieces task l.plans) _ old then new l.took (took_piece _ then new put));
 }
 
-stopped_is_part : (task : TaskParts) (most : ℕ) (mode : Mode) (result : Status) (out : Sent) → (result ≡ status.WriteFault) ⊎ (result ≡ status.Memory) → FrontOf (Listing task most mode) out ⊎ PartListing task most mode out → OrPart task most mode result out
-stopped_is_part task most mode result out (inl e) p = subst (λ s. OrPart task most mode s out) (sym e) p
-stopped_is_part task most mode result out (inr e) p = subst (λ s. OrPart task most mode s out) (sym e) p
+stopped_is_part : (a : Aim) (result : Status) (out : Sent) → (result ≡ status.WriteFault) ⊎ (result ≡ status.Memory) → FrontOf (Listing a) out ⊎ PartListing a out → OrPart a result out
+stopped_is_part a result out (inl e) p = subst (λ s. OrPart a s out) (sym e) p
+stopped_is_part a result out (inr e) p = subst (λ s. OrPart a s out) (sym e) p
 
 -- nothing goes out, where memory was wanting
-pub memory_lists : (task : TaskParts) (most : ℕ) (mode : Mode) (old : SinkView) → Puts (OrPart task most mode) old old status.Memory
-memory_lists task most mode old = (nothing, took_nothing old, inl (inl refl))
+pub memory_lists : (a : Aim) (old : SinkView) → Puts (OrPart a) old old status.Memory
+memory_lists a old = (nothing, took_nothing old, inl (inl refl))
 
 -- the list stops after so many plans
-pub listed_stops : (task : TaskParts) (most : ℕ) (mode : Mode) (Holds : List (List ℕ) → Type 0) (old new : SinkView) (count : ℕ) (result : Status) → Promises task mode Holds None
-    → (result ≡ status.WriteFault) ⊎ (result ≡ status.Memory) → Listed task Holds old new count → count ≤ most → Puts (OrPart task most mode) old new result
-listed_stops task most mode Holds old new count result promises why l le =
-    let n : length l.plans ≤ most = omega (arith, l.number, le) in
-    let part : PartListing task most mode (all_of (list_pieces task l.plans)) = record { plans = l.plans; promise = promises l.plans l.holds; number = n; front = front_of_all (list_pieces task l.plans) } in
-    (all_of (list_pieces task l.plans), l.took, stopped_is_part task most mode result _ why (inr part))
+pub listed_stops : (a : Aim) (Holds : List (List ℕ) → Type 0) (old new : SinkView) (count : ℕ) (result : Status) → Promises a Holds None
+    → (result ≡ status.WriteFault) ⊎ (result ≡ status.Memory) → Listed a.task Holds old new count → count ≤ a.wanted.count → Puts (OrPart a) old new result
+listed_stops a Holds old new count result promises why l le =
+    let n : length l.plans ≤ a.wanted.count = omega (arith, l.number, le) in
+    let part : PartListing a (all_of (list_pieces a.task l.plans)) = record { plans = l.plans; promise = promises l.plans l.holds; number = n; front = front_of_all (list_pieces a.task l.plans) } in
+    (all_of (list_pieces a.task l.plans), l.took, stopped_is_part a result _ why (inr part))
 
 -- a part of one more block went out
-pub block_stops : (task : TaskParts) (most : ℕ) (mode : Mode) (Holds After : List (List ℕ) → Type 0) (old then new : SinkView) (count : ℕ) (plan : List ℕ) (result : Status) → Promises task mode After None
-    → (result ≡ status.WriteFault) ⊎ (result ≡ status.Memory) → ((plans : List (List ℕ)) → Holds plans → After (plans ++ plan ∷ [])) → Listed task Holds old then count → count < most
-    → TookFront (block task (count + 1) plan) then new → Puts (OrPart task most mode) old new result
-block_stops task most mode Holds After old then new count plan result promises why more l lt put =
-    let text = block task (count + 1) plan in
+pub block_stops : (a : Aim) (Holds After : List (List ℕ) → Type 0) (old then new : SinkView) (count : ℕ) (plan : List ℕ) (result : Status) → Promises a After None
+    → (result ≡ status.WriteFault) ⊎ (result ≡ status.Memory) → ((plans : List (List ℕ)) → Holds plans → After (plans ++ plan ∷ [])) → Listed a.task Holds old then count → count < a.wanted.count
+    → TookFront (block a.task (count + 1) plan) then new → Puts (OrPart a) old new result
+block_stops a Holds After old then new count plan result promises why more l lt put =
+    let text = block a.task (count + 1) plan in
     let p = took_front text then new put in
     let plans = l.plans ++ (plan ∷ []) in
-    let n : length plans ≤ most = omega (arith, length_push l.plans plan, l.number, lt) in
-    let out : Sent = record { pieces = list_pieces task l.plans ++ []; rest = take p.0 text } in
-    let front : IsFront out (list_pieces task plans) = front_of_last (list_pieces task l.plans) text p.0 _ (pieces_push task l.plans plan count l.number) in
-    let part : PartListing task most mode out = record { plans = plans; promise = promises plans (more l.plans l.holds); number = n; front = front } in
-    (out, took_after (list_pieces task l.plans) _ old then new l.took p.1, stopped_is_part task most mode result out why (inr part))
+    let n : length plans ≤ a.wanted.count = omega (arith, length_push l.plans plan, l.number, lt) in
+    let out : Sent = record { pieces = list_pieces a.task l.plans ++ []; rest = take p.0 text } in
+    let front : IsFront out (list_pieces a.task plans) = front_of_last (list_pieces a.task l.plans) text p.0 _ (pieces_push a.task l.plans plan count l.number) in
+    let part : PartListing a out = record { plans = plans; promise = promises plans (more l.plans l.holds); number = n; front = front } in
+    (out, took_after (list_pieces a.task l.plans) _ old then new l.took p.1, stopped_is_part a result out why (inr part))
 
 -- the list that ends so
-listing_of : (task : TaskParts) (most : ℕ) (mode : Mode) (Holds : List (List ℕ) → Type 0) (count : ℕ) (why : End) (old mid : SinkView) (l : Listed task Holds old mid count)
-    → Promises task mode Holds (Some why) → IsEndOf most count why → Listing task most mode (end_status why) (list_pieces task l.plans ++ (end_line why ∷ []))
-listing_of task most mode Holds count why old mid l promises fits = record {
+listing_of : (a : Aim) (Holds : List (List ℕ) → Type 0) (count : ℕ) (why : End) (old mid : SinkView) (l : Listed a.task Holds old mid count)
+    → Promises a Holds (Some why) → IsEndOf a.wanted count why → Listing a (end_status why) (list_pieces a.task l.plans ++ (end_line why ∷ []))
+listing_of a Holds count why old mid l promises fits = record {
   plans = l.plans;
   ended = why;
   promise = promises l.plans l.holds;
-  fits = subst (λ n. IsEndOf most n why) (sym l.number) fits;
+  fits = subst (λ n. IsEndOf a.wanted n why) (sym l.number) fits;
   says = refl;
   pieces = refl;
 }
 
 -- a whole list
-whole_lists : (task : TaskParts) (most : ℕ) (mode : Mode) (why : End) (pieces : List Bytes) → Listing task most mode (end_status why) pieces → OrPart task most mode (end_status why) (all_of pieces)
-whole_lists task most mode (end.Reached n) pieces l = (l, refl)
-whole_lists task most mode (end.Exhausted n) pieces l = (l, refl)
-whole_lists task most mode end.CostRange pieces l = (l, refl)
+whole_lists : (a : Aim) (why : End) (pieces : List Bytes) → Listing a (end_status why) pieces → OrPart a (end_status why) (all_of pieces)
+whole_lists a (end.Reached n) pieces l = (l, refl)
+whole_lists a (end.More n) pieces l = (l, refl)
+whole_lists a (end.Bounded n) pieces l = (l, refl)
+whole_lists a (end.Exhausted n) pieces l = (l, refl)
+whole_lists a end.CostRange pieces l = (l, refl)
 
-ending_stops : (task : TaskParts) (most : ℕ) (mode : Mode) (Holds : List (List ℕ) → Type 0) (count : ℕ) (why : End) (old mid new : SinkView) (result : Status)
-    → (result ≡ status.WriteFault) ⊎ (result ≡ status.Memory) → Listed task Holds old mid count → Promises task mode Holds (Some why) → IsEndOf most count why
-    → TookFront (end_line why) mid new → Puts (OrPart task most mode) old new result
-ending_stops task most mode Holds count why old mid new result stop l promises fits took =
-    let whole = list_pieces task l.plans ++ (end_line why ∷ []) in
+ending_stops : (a : Aim) (Holds : List (List ℕ) → Type 0) (count : ℕ) (why : End) (old mid new : SinkView) (result : Status)
+    → (result ≡ status.WriteFault) ⊎ (result ≡ status.Memory) → Listed a.task Holds old mid count → Promises a Holds (Some why) → IsEndOf a.wanted count why
+    → TookFront (end_line why) mid new → Puts (OrPart a) old new result
+ending_stops a Holds count why old mid new result stop l promises fits took =
+    let whole = list_pieces a.task l.plans ++ (end_line why ∷ []) in
     let p = took_front (end_line why) mid new took in
-    let out : Sent = record { pieces = list_pieces task l.plans ++ []; rest = take p.0 (end_line why) } in
-    let front : IsFront out whole = front_of_last (list_pieces task l.plans) (end_line why) p.0 whole refl in
-    let listing = listing_of task most mode Holds count why old mid l promises fits in
-    (out, took_after (list_pieces task l.plans) _ old mid new l.took p.1, stopped_is_part task most mode result out stop (inl (inr (end_status why, whole, listing, front))))
+    let out : Sent = record { pieces = list_pieces a.task l.plans ++ []; rest = take p.0 (end_line why) } in
+    let front : IsFront out whole = front_of_last (list_pieces a.task l.plans) (end_line why) p.0 whole refl in
+    let listing = listing_of a Holds count why old mid l promises fits in
+    (out, took_after (list_pieces a.task l.plans) _ old mid new l.took p.1, stopped_is_part a result out stop (inl (inr (end_status why, whole, listing, front))))
 
 -- the line that ends the list
-pub list_ends : (task : TaskParts) (most : ℕ) (mode : Mode) (Holds : List (List ℕ) → Type 0) (count : ℕ) (why : End) (old mid new : SinkView) (result : Status)
-    → Listed task Holds old mid count → Promises task mode Holds (Some why) → IsEndOf most count why → Ends (end_status why) (end_line why) mid new result
-    → Puts (OrPart task most mode) old new result
-list_ends task most mode Holds count why old mid new result l promises fits (inl h) = (
-  all_of (list_pieces task l.plans ++ (end_line why ∷ [])),
-  took_after (list_pieces task l.plans) _ old mid new l.took (took_piece (end_line why) mid new h.1),
-  subst (λ s. OrPart task most mode s (all_of (list_pieces task l.plans ++ (end_line why ∷ [])))) (sym h.0)
-      (whole_lists task most mode why _ (listing_of task most mode Holds count why old mid l promises fits)),
+pub list_ends : (a : Aim) (Holds : List (List ℕ) → Type 0) (count : ℕ) (why : End) (old mid new : SinkView) (result : Status)
+    → Listed a.task Holds old mid count → Promises a Holds (Some why) → IsEndOf a.wanted count why → Ends (end_status why) (end_line why) mid new result
+    → Puts (OrPart a) old new result
+list_ends a Holds count why old mid new result l promises fits (inl h) = (
+  all_of (list_pieces a.task l.plans ++ (end_line why ∷ [])),
+  took_after (list_pieces a.task l.plans) _ old mid new l.took (took_piece (end_line why) mid new h.1),
+  subst (λ s. OrPart a s (all_of (list_pieces a.task l.plans ++ (end_line why ∷ [])))) (sym h.0)
+      (whole_lists a why _ (listing_of a Holds count why old mid l promises fits)),
 )
-list_ends task most mode Holds count why old mid new result l promises fits (inr (inl h)) = ending_stops task most mode Holds count why old mid new result (inl h.0) l promises fits h.1
-list_ends task most mode Holds count why old mid new result l promises fits (inr (inr h)) = ending_stops task most mode Holds count why old mid new result (inr h.0) l promises fits h.1
+list_ends a Holds count why old mid new result l promises fits (inr (inl h)) = ending_stops a Holds count why old mid new result (inl h.0) l promises fits h.1
+list_ends a Holds count why old mid new result l promises fits (inr (inr h)) = ending_stops a Holds count why old mid new result (inr h.0) l promises fits h.1

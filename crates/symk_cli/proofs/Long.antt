@@ -4,15 +4,14 @@ use Rattle.symk_io.specs.View.{Bytes, SinkView, Told}
 use Rattle.symk_task.specs.declared.parts.Mode.{Mode}
 use Rattle.symk_task.specs.declared.parts.TaskParts.{TaskParts}
 use Rattle.plan_out.specs.declared.blocks.ReadBlock.{ReadBlock}
-use Rattle.symk_cli.specs.declared.request.Direction.{Direction}
 use Rattle.symk_cli.specs.declared.status.Status.{Status}
 use Rattle.symk_cli.specs.declared.status.Status.TheVariants as status
-use Rattle.symk_cli.specs.Wishes.{Wish, lists, checks, shows}
+use Rattle.symk_cli.specs.Wishes.{Ask, Wish, lists, checks, shows}
 use Rattle.symk_cli.specs.Named.{IsToldText, HasText}
 use Rattle.symk_cli.specs.Refusals.{IsTaskText, IsTask, FileOffence}
 use Rattle.symk_cli.specs.Plans.{IsPlansText, PlansOffence}
 use Rattle.symk_cli.specs.Verdicts.{Verdict}
-use Rattle.symk_cli.specs.Lists.{Listing}
+use Rattle.symk_cli.specs.Reaches.{MayList}
 use Rattle.symk_cli.specs.Answer.{Answer, Answered}
 use Rattle.symk_cli.specs.Lengths.{IsShort, IsLong, IsOffending, PlanLengths, CheckLengths, Lengths}
 use Rattle.symk_cli.specs.declared.TheConstants.{LIMIT}
@@ -46,19 +45,21 @@ short_judged told file plans mode result out None P f p so = absurd so
 short_judged told file plans mode result out (Some text) P f p so =
     ((text, f, so.1.short), short_plans told plans (λ blocks. Verdict so.0 mode blocks result out) P p so.2)
 
-plan_lengths : (told : Option Told) (file : Bytes) (most : ℕ) (mode : Mode) (direction : Direction) (old new : SinkView) (result : Status) → Answered (Some (lists file most mode direction)) told old new result → PlanLengths told file result
-plan_lengths told file most mode direction old new status.TooLong a = long_text told file a.F a.texts a.answer.0.2.0
-plan_lengths told file most mode direction old new status.Offending a = offending_text told file a.answer.0.0 a.F a.texts a.answer.0.2
-plan_lengths told file most mode direction old new status.Reached a = short_listed told file (λ task. Listing task most mode status.Reached a.out.pieces) a.F a.texts a.answer.0
-plan_lengths told file most mode direction old new status.Exhausted a = short_listed told file (λ task. Listing task most mode status.Exhausted a.out.pieces) a.F a.texts a.answer.0
-plan_lengths told file most mode direction old new status.CostRange a = short_listed told file (λ task. Listing task most mode status.CostRange a.out.pieces) a.F a.texts a.answer.0
-plan_lengths told file most mode direction old new status.Usage a = tt
-plan_lengths told file most mode direction old new status.Unreadable a = tt
-plan_lengths told file most mode direction old new status.WriteFault a = tt
-plan_lengths told file most mode direction old new status.Memory a = tt
-plan_lengths told file most mode direction old new status.Good a = absurd a.answer.0.2
-plan_lengths told file most mode direction old new status.BadList a = absurd a.answer.0.2
-plan_lengths told file most mode direction old new status.Shown a = absurd a.answer.0.2
+plan_lengths : (told : Option Told) (ask : Ask) (old new : SinkView) (result : Status) → Answered (Some (lists ask)) told old new result → PlanLengths told ask.file result
+plan_lengths told ask old new status.TooLong a = long_text told ask.file a.F a.texts a.answer.0.2.0
+plan_lengths told ask old new status.Offending a = offending_text told ask.file a.answer.0.0 a.F a.texts a.answer.0.2
+plan_lengths told ask old new status.Reached a = short_listed told ask.file (λ task. MayList task ask.mode ask.wanted ask.reach status.Reached a.out.pieces) a.F a.texts a.answer.0
+plan_lengths told ask old new status.MoreLeft a = short_listed told ask.file (λ task. MayList task ask.mode ask.wanted ask.reach status.MoreLeft a.out.pieces) a.F a.texts a.answer.0
+plan_lengths told ask old new status.Bounded a = short_listed told ask.file (λ task. MayList task ask.mode ask.wanted ask.reach status.Bounded a.out.pieces) a.F a.texts a.answer.0
+plan_lengths told ask old new status.Exhausted a = short_listed told ask.file (λ task. MayList task ask.mode ask.wanted ask.reach status.Exhausted a.out.pieces) a.F a.texts a.answer.0
+plan_lengths told ask old new status.CostRange a = short_listed told ask.file (λ task. MayList task ask.mode ask.wanted ask.reach status.CostRange a.out.pieces) a.F a.texts a.answer.0
+plan_lengths told ask old new status.Usage a = tt
+plan_lengths told ask old new status.Unreadable a = tt
+plan_lengths told ask old new status.WriteFault a = tt
+plan_lengths told ask old new status.Memory a = tt
+plan_lengths told ask old new status.Good a = absurd a.answer.0.2
+plan_lengths told ask old new status.BadList a = absurd a.answer.0.2
+plan_lengths told ask old new status.Shown a = absurd a.answer.0.2
 
 long_of_two : (told : Option Told) (file plans : Bytes) (A B : Type 0) (F P : Option Bytes) → IfSome F (IsToldText told file) → IfSome P (IsToldText told plans)
     → (IsSomeAnd F (λ text. LIMIT < length text) × A) ⊎ (IsTask F × (IsSomeAnd P (λ text. LIMIT < length text) × B)) → IsLong told file ⊎ (IsShort told file × IsLong told plans)
@@ -80,6 +81,8 @@ check_lengths told file plans mode old new status.Unreadable a = tt
 check_lengths told file plans mode old new status.WriteFault a = tt
 check_lengths told file plans mode old new status.Memory a = tt
 check_lengths told file plans mode old new status.Reached a = absurd a.answer.0
+check_lengths told file plans mode old new status.MoreLeft a = absurd a.answer.0
+check_lengths told file plans mode old new status.Bounded a = absurd a.answer.0
 check_lengths told file plans mode old new status.Exhausted a = absurd a.answer.0
 check_lengths told file plans mode old new status.CostRange a = absurd a.answer.0
 check_lengths told file plans mode old new status.Shown a = absurd a.answer.0.2
@@ -87,6 +90,6 @@ check_lengths told file plans mode old new status.Shown a = absurd a.answer.0.2
 -- what the answer says of lengths
 pub lengths_of : (asked : Option Wish) (told : Option Told) (old new : SinkView) (result : Status) → Answered asked told old new result → Lengths asked told result
 lengths_of None told old new result a = λ e. (subst (λ s. Answer None a.F a.P s a.out) e a.answer).0.2
-lengths_of (Some (lists file most mode direction)) told old new result a = plan_lengths told file most mode direction old new result a
+lengths_of (Some (lists ask)) told old new result a = plan_lengths told ask old new result a
 lengths_of (Some (checks file plans mode)) told old new result a = check_lengths told file plans mode old new result a
 lengths_of (Some (shows number)) told old new result a = λ e. (subst (λ s. Answer (Some (shows number)) a.F a.P s a.out) e a.answer).0.2

@@ -4,16 +4,18 @@ use Rattle.symk_io.specs.View.{Bytes, SinkView}
 use Rattle.symk_cli.specs.Sent.{Sent, nothing, TookFront}
 use Rattle.symk_cli.specs.Ends.{Ends, FrontOf, AsOne, OrFront, Puts}
 use Rattle.symk_cli.specs.declared.status.Status.{Status}
-use Rattle.symk_cli.specs.declared.status.Status.TheVariants.{Reached, Good, Shown, Exhausted, BadList, Offending, Usage, TooLong, Unreadable, WriteFault, CostRange, Memory}
+use Rattle.symk_cli.specs.declared.status.Status.TheVariants.{Reached, MoreLeft, Good, Shown, Exhausted, BadList, Bounded, Offending, Usage, TooLong, Unreadable, WriteFault, CostRange, Memory}
 use Rattle.symk_cli.proofs.Took.{all_of, took_nothing, took_piece, took_front, front_of_all, front_of_last}
 
 -- a text that may come with a status
 pub or_front : (May : Status → Bytes → Type 0) (status : Status) (text : Bytes) → May status text → OrFront May status (all_of (text ∷ []))
 or_front May Reached text m = ((text, refl, m), refl)
+or_front May MoreLeft text m = ((text, refl, m), refl)
 or_front May Good text m = ((text, refl, m), refl)
 or_front May Shown text m = ((text, refl, m), refl)
 or_front May Exhausted text m = ((text, refl, m), refl)
 or_front May BadList text m = ((text, refl, m), refl)
+or_front May Bounded text m = ((text, refl, m), refl)
 or_front May Offending text m = ((text, refl, m), refl)
 or_front May Usage text m = ((text, refl, m), refl)
 or_front May TooLong text m = ((text, refl, m), refl)
@@ -31,10 +33,12 @@ pub or_fronts : (May Other : Status → Bytes → Type 0) → ((status : Status)
 or_fronts May Other also WriteFault out f = front_ofs May Other also out f
 or_fronts May Other also Memory out f = front_ofs May Other also out f
 or_fronts May Other also Reached out m = (also Reached out.pieces m.0, m.1)
+or_fronts May Other also MoreLeft out m = (also MoreLeft out.pieces m.0, m.1)
 or_fronts May Other also Good out m = (also Good out.pieces m.0, m.1)
 or_fronts May Other also Shown out m = (also Shown out.pieces m.0, m.1)
 or_fronts May Other also Exhausted out m = (also Exhausted out.pieces m.0, m.1)
 or_fronts May Other also BadList out m = (also BadList out.pieces m.0, m.1)
+or_fronts May Other also Bounded out m = (also Bounded out.pieces m.0, m.1)
 or_fronts May Other also Offending out m = (also Offending out.pieces m.0, m.1)
 or_fronts May Other also Usage out m = (also Usage out.pieces m.0, m.1)
 or_fronts May Other also TooLong out m = (also TooLong out.pieces m.0, m.1)

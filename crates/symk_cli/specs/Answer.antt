@@ -7,7 +7,7 @@ use Rattle.symk_cli.specs.Named.{IsToldText}
 use Rattle.symk_cli.specs.Refusals.{IsTaskText, IsTask, FileRefused}
 use Rattle.symk_cli.specs.Plans.{PlansRefused, Judged}
 use Rattle.symk_cli.specs.Sent.{Sent, nothing, Took, IsWhole, IsOne, IsFront}
-use Rattle.symk_cli.specs.Lists.{Listing, PartListing}
+use Rattle.symk_cli.specs.Reaches.{MayList, MayPart}
 use Rattle.symk_cli.specs.Shown.{IsSummary}
 use Rattle.symk_cli.specs.declared.status.Status.{Status}
 use Rattle.symk_cli.specs.declared.status.Status.TheVariants as status
@@ -15,25 +15,25 @@ use Rattle.symk_cli.specs.declared.status.Status.TheVariants as status
 -- what the program may be asked for
 unfoldable pub usage_text : Bytes
 usage_text =
-    codes "usage: symk plan FILE --k K [--mode topk|loopless|unordered] [--search auto|forward|backward|bidirectional]\n"
+    codes "usage: symk plan FILE --k K [--mode topk|loopless|unordered] [--search auto|forward|backward|bidirectional] [--more] [--bound Q | --quality P]\n"
     ++ codes "       symk check FILE PLANS [--mode topk|loopless|unordered]\n"
     ++ codes "       symk demo N\n"
 
 -- a file that is asked for is refused: FILE, or PLANS after a FILE that is a task file
 abbrev pub Refused : Option Wish → Option Bytes → Option Bytes → Status → Bytes → Type 0
-Refused (Some (lists file most mode direction)) F P result out = FileRefused F result out
+Refused (Some (lists ask)) F P result out = FileRefused F result out
 Refused (Some (checks file plans mode)) F P result out = FileRefused F result out ⊎ (IsTask F × PlansRefused P result out)
 Refused (Some (shows number)) F P result out = ⊥
 Refused None F P result out = ⊥
 
 -- plans of the task that FILE states are listed
 abbrev pub Lists : Option Wish → Option Bytes → Status → List Bytes → Type 0
-Lists (Some (lists file most mode direction)) F result pieces = IsSomeAnd F (λ text. (task : TaskParts) × IsTaskText text task × Listing task most mode result pieces)
+Lists (Some (lists ask)) F result pieces = IsSomeAnd F (λ text. (task : TaskParts) × IsTaskText text task × MayList task ask.mode ask.wanted ask.reach result pieces)
 Lists wish F result pieces = ⊥
 
 -- a front of a list goes out
 abbrev pub PartLists : Option Wish → Option Bytes → Sent → Type 0
-PartLists (Some (lists file most mode direction)) F out = IsSomeAnd F (λ text. (task : TaskParts) × IsTaskText text task × PartListing task most mode out)
+PartLists (Some (lists ask)) F out = IsSomeAnd F (λ text. (task : TaskParts) × IsTaskText text task × MayPart task ask.mode ask.wanted ask.reach out)
 PartLists wish F out = ⊥
 
 -- the blocks that PLANS states are judged by the task that FILE states
@@ -53,6 +53,8 @@ Whole wish F P status.Unreadable pieces = IsOne (Refused wish F P status.Unreada
 Whole wish F P status.TooLong pieces = IsOne (Refused wish F P status.TooLong) pieces
 Whole wish F P status.Offending pieces = IsOne (Refused wish F P status.Offending) pieces
 Whole wish F P status.Reached pieces = Lists wish F status.Reached pieces
+Whole wish F P status.MoreLeft pieces = Lists wish F status.MoreLeft pieces
+Whole wish F P status.Bounded pieces = Lists wish F status.Bounded pieces
 Whole wish F P status.Exhausted pieces = Lists wish F status.Exhausted pieces
 Whole wish F P status.CostRange pieces = Lists wish F status.CostRange pieces
 Whole wish F P status.Good pieces = IsOne (Judges wish F P status.Good) pieces
@@ -75,7 +77,7 @@ Answer wish F P result out = IsWhole (Whole wish F P result) out
 -- what was read of the files that are asked for are their texts, those told where texts are told
 abbrev pub AreTexts : Option Told → Option Wish → Option Bytes → Option Bytes → Type 0
 AreTexts told None F P = ⊤
-AreTexts told (Some (lists file most mode direction)) F P = IfSome F (IsToldText told file)
+AreTexts told (Some (lists ask)) F P = IfSome F (IsToldText told ask.file)
 AreTexts told (Some (checks file plans mode)) F P = IfSome F (IsToldText told file) × IfSome P (IsToldText told plans)
 AreTexts told (Some (shows number)) F P = ⊤
 

@@ -1,14 +1,16 @@
 -- The exit status of the program.
 use Rattle.std.specs.Prelude.{ℤ, pos}
 use Rattle.symk_cli.specs.declared.status.Status.{Status}
-use Rattle.symk_cli.specs.declared.status.Status.TheVariants.{Reached, Good, Shown, Exhausted, BadList, Offending, Usage, TooLong, Unreadable, WriteFault, CostRange, Memory}
+use Rattle.symk_cli.specs.declared.status.Status.TheVariants.{Reached, MoreLeft, Good, Shown, Exhausted, BadList, Bounded, Offending, Usage, TooLong, Unreadable, WriteFault, CostRange, Memory}
 
 abbrev pub code_of : Status → ℤ
 code_of Reached = pos 0
+code_of MoreLeft = pos 0
 code_of Good = pos 0
 code_of Shown = pos 0
 code_of Exhausted = pos 10
 code_of BadList = pos 11
+code_of Bounded = pos 13
 code_of Offending = pos 20
 code_of Usage = pos 21
 code_of TooLong = pos 22

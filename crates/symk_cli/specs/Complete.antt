@@ -7,7 +7,7 @@ use Rattle.symk_cli.specs.Wishes.{Wish, lists, checks, shows}
 use Rattle.symk_cli.specs.Refusals.{IsTaskText}
 use Rattle.symk_cli.specs.Plans.{IsPlansText}
 use Rattle.symk_cli.specs.declared.status.Status.{Status}
-use Rattle.symk_cli.specs.declared.status.Status.TheVariants.{Reached, Exhausted, CostRange, Good, BadList, Shown, Memory}
+use Rattle.symk_cli.specs.declared.status.Status.TheVariants.{Reached, MoreLeft, Bounded, Exhausted, CostRange, Good, BadList, Shown, Memory}
 
 -- the text of the name is told, and is this one
 abbrev pub TellsText : Option Told → Bytes → Bytes → Type 0
@@ -16,13 +16,13 @@ TellsText (Some told) name text = told.text name ≡ Some text
 
 -- the texts of the files that are asked for are told: that of FILE is a task file, that of PLANS a plan text, and neither is too long
 abbrev pub TellsTexts : Option Told → Wish → Type 0
-TellsTexts told (lists file most mode direction) = (F : Bytes) × (task : TaskParts) × TellsText told file F × IsTaskText F task
+TellsTexts told (lists ask) = (F : Bytes) × (task : TaskParts) × TellsText told ask.file F × IsTaskText F task
 TellsTexts told (checks file plans mode) = ((F : Bytes) × (task : TaskParts) × TellsText told file F × IsTaskText F task) × ((P : Bytes) × (blocks : List ReadBlock) × TellsText told plans P × IsPlansText P blocks)
 TellsTexts told (shows number) = ⊤
 
 -- the statuses of an answer that was not stopped
 abbrev pub Finishes : Wish → Status → Type 0
-Finishes (lists file most mode direction) result = (result ≡ Reached) ⊎ (result ≡ Exhausted) ⊎ (result ≡ CostRange)
+Finishes (lists ask) result = (result ≡ Reached) ⊎ (result ≡ MoreLeft) ⊎ (result ≡ Bounded) ⊎ (result ≡ Exhausted) ⊎ (result ≡ CostRange)
 Finishes (checks file plans mode) result = (result ≡ Good) ⊎ (result ≡ BadList)
 Finishes (shows number) result = result ≡ Shown
 

@@ -8,7 +8,7 @@ use Rattle.symk_cli.specs.Wishes.{spelled}
 -- the program's name, the subcommand, its texts in their places, and its options in the order of the usage text; no name is
 -- empty or begins with `-`
 abbrev pub AreWordsOf : Texts → List Bytes → Type 0
-AreWordsOf (plan file k mode search) words = (prog : Bytes) × (words ≡ plan_words prog file k mode search) × Plain file
+AreWordsOf (plan t) words = (prog : Bytes) × (words ≡ plan_words prog t) × Plain t.file
 AreWordsOf (check file plans mode) words = (prog : Bytes) × (words ≡ check_words prog file plans mode) × Plain file × Plain plans
 AreWordsOf (demo n) words = (prog : Bytes) × (words ≡ demo_words prog n)
 

@@ -44,6 +44,6 @@ CheckLengths told file plans result = IsShort told file × IsShort told plans
 -- What a status says of the lengths of the texts of the files that are asked for.
 abbrev pub Lengths : Option Wish → Option Told → Status → Type 0
 Lengths None told result = (result ≡ status.TooLong) → ⊥
-Lengths (Some (lists file most mode direction)) told result = PlanLengths told file result
+Lengths (Some (lists ask)) told result = PlanLengths told ask.file result
 Lengths (Some (checks file plans mode)) told result = CheckLengths told file plans result
 Lengths (Some (shows number)) told result = (result ≡ status.TooLong) → ⊥

@@ -8,6 +8,7 @@ pub mod Requests
 pub mod LawfulWords
 pub mod Refusals
 pub mod Lists
+pub mod Reaches
 pub mod Engines
 pub mod Verdicts
 pub mod Shown

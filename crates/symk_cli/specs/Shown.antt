@@ -1,5 +1,5 @@
 -- The summary of a demonstration.
-use Rattle.std.specs.Prelude.{◌≡◌, ℕ, ◌<◌, ◌≤◌, ◌++◌, List, length, map, sum, All, Contains, Some, codes, decimal}
+use Rattle.std.specs.Prelude.{◌≡◌, ℕ, ◌<◌, ◌≤◌, ◌++◌, List, length, map, sum, All, Contains, Some, None, codes, decimal}
 use Rattle.symk_io.specs.View.{Bytes}
 use Rattle.symk_task.specs.declared.parts.Mode.TheVariants.{TopK}
 use Rattle.symk_task.specs.declared.parts.TaskParts.{TaskParts}
@@ -49,7 +49,7 @@ HasMore task n = (plans : List (List ℕ)) → length plans < n → ¬ AllInRang
 pub record HasPlans (task : TaskParts) (cheapest dearest total : ℕ) : Type 0 where
   pub plans : List (List ℕ)
   pub many : length plans ≡ 20
-  pub promise : IsListOf task TopK plans (Some (Reached 20))
+  pub promise : IsListOf task TopK None plans (Some (Reached 20))
   pub costs : HaveCosts task plans cheapest dearest total
 
 -- The text is the summary of 20 plans of the task of so many switches.

@@ -7,13 +7,24 @@ use Rattle.symk_text.specs.Numbers.{value_of}
 use Rattle.symk_io.specs.View.{Bytes}
 use Rattle.symk_task.specs.declared.parts.Mode.{Mode}
 use Rattle.symk_task.specs.declared.parts.Mode.TheVariants.{TopK, Loopless, Unordered}
-use Rattle.symk_words.specs.Texts.{Texts, texts_asked, plan, check, demo}
+use Rattle.symk_words.specs.Texts.{Texts, PlanTexts, texts_asked, plan, check, demo}
+use Rattle.symk_cli.specs.declared.request.Wanted.{Wanted}
+use Rattle.symk_cli.specs.declared.request.Reach.{Reach}
+use Rattle.symk_cli.specs.declared.request.Reach.TheVariants.{All, UpTo, Percent}
 use Rattle.symk_cli.specs.declared.request.Direction.{Direction}
 use Rattle.symk_cli.specs.declared.request.Direction.TheVariants.{Auto, Forward, Backward, Bidirectional}
 
--- so many plans of FILE in a mode, found in a direction; a verdict on the plans in PLANS; so many switches shown
+-- what a list is asked to be: so many plans of FILE in a mode, found in a direction, up to a cost
+pub record Ask : Type 0 where
+  pub file : Bytes
+  pub wanted : Wanted
+  pub mode : Mode
+  pub direction : Direction
+  pub reach : Reach
+
+-- a list of plans; a verdict on the plans in PLANS; so many switches shown
 pub data Wish : Type 0 where
-  lists : Bytes → ℕ → Mode → Direction → Wish
+  lists : Ask → Wish
   checks : Bytes → Bytes → Mode → Wish
   shows : ℕ → Wish
 
@@ -46,19 +57,31 @@ abbrev pub direction_of : Option Bytes → Option Direction
 direction_of None = Some Auto
 direction_of (Some word) = direction_named word
 
+-- the greatest cost that is wanted, if there is one: by itself, or as 100 to 10,000 percent of the least cost, but not both
+abbrev pub reach_of : Option Bytes → Option Bytes → Option Reach
+reach_of None None = Some All
+reach_of (Some bound) None = option_map (λ most. UpTo most) (number_within 0 18446744073709551615 bound)
+reach_of None (Some quality) = option_map (λ percent. Percent percent) (number_within 100 10000 quality)
+reach_of (Some bound) (Some quality) = None
+
 -- loopless plans are not found forward, nor from both sides
 abbrev pub serves : Mode → Direction → Bool
 serves Loopless Forward = false
 serves Loopless Bidirectional = false
 serves mode direction = true
 
-abbrev pub lists_if_served : Bytes → ℕ → Mode → Direction → Option Wish
-lists_if_served file most mode direction = if serves mode direction then Some (lists file most mode direction) else None
+abbrev pub lists_if_served : Ask → Option Wish
+lists_if_served ask = if serves ask.mode ask.direction then Some (lists ask) else None
+
+-- the list that the texts ask for, once its number, its mode, its direction and its reach are known
+abbrev pub ask_of : PlanTexts → ℕ → Mode → Direction → Reach → Ask
+ask_of t count mode direction reach = record { file = t.file; wanted = record { count = count; more = t.more }; mode = mode; direction = direction; reach = reach }
 
 -- what the texts spell, None where one of them isn't as the usage text says
 unfoldable pub spelled : Texts → Option Wish
-spelled (plan file k mode search) =
-    option_and_then (λ most. option_and_then (λ m. option_and_then (λ direction. lists_if_served file most m direction) (direction_of search)) (mode_of mode)) (number_within 1 1000000000 k)
+spelled (plan t) =
+    option_and_then (λ count. option_and_then (λ mode. option_and_then (λ direction. option_and_then (λ reach. lists_if_served (ask_of t count mode direction reach))
+    (reach_of t.bound t.quality)) (direction_of t.search)) (mode_of t.mode)) (number_within 1 1000000000 t.k)
 spelled (check file plans mode) = option_map (λ m. checks file plans m) (mode_of mode)
 spelled (demo n) = option_map (λ number. shows number) (number_within 1 64 n)
 
@@ -69,6 +92,6 @@ wish_of words = option_and_then spelled (texts_asked words)
 -- the names of the files that are asked for, in the order in which they are read
 abbrev pub names_of : Option Wish → List Bytes
 names_of None = []
-names_of (Some (lists file most mode direction)) = file ∷ []
+names_of (Some (lists ask)) = ask.file ∷ []
 names_of (Some (checks file plans mode)) = file ∷ plans ∷ []
 names_of (Some (shows number)) = []

@@ -13,6 +13,7 @@ mod ending;
 mod engines;
 mod pieces;
 mod planning;
+mod reaching;
 mod reading;
 mod request;
 mod showing;

@@ -1,15 +1,16 @@
 //! Plans, listed one by one.
 
-ghost use Rattle.std.specs.Prelude.{◌≡◌, ◌⊎◌, ◌↔◌, IfErr, IsTrue, OnOk, OnErr};
+ghost use Rattle.std.specs.Prelude.{◌≡◌, ◌≤◌, ◌<◌, ◌^◌, ◌⊎◌, ◌↔◌, IfSome, IfErr, IsTrue, OnOk, OnErr};
 ghost use Rattle.symk_task.specs.Plans.{IsUnit};
 ghost use Rattle.plan_out.specs.Texts.{block as block_text, end_line as end_text};
 ghost use Rattle.symk_cli.specs.Ends.{Ends, HasCauses, Puts};
 ghost use Rattle.symk_cli.specs.Engines.{OwesAll};
 ghost use Rattle.symk_cli.specs.Sent.{TookPiece, TookFront};
 ghost use Rattle.symk_cli.specs.Listable.{IsListable};
-ghost use Rattle.symk_cli.specs.Lists.{OrPart, end_status};
+ghost use Rattle.symk_cli.specs.Lists.{OrPart, aim, all_end, end_status};
 
 use crate::ending::{end, status_of};
+use crate::request::Wanted;
 use crate::status::Status;
 use plan_out::{End, block_with_cost, end_line};
 use selectors::{LazyPlans, Limited, Stop};
@@ -17,24 +18,29 @@ use std::alloc::Global;
 use symk_io::{Sink, put};
 use symk_task::{Plan, Task};
 
-/// Lists at most that many plans of an engine that owes all plans of the task in its mode: each block is put before the next
-/// plan is asked for, and then the line that says why the list ends. After the last plan that is wanted nothing is asked for.
+/// Lists as many plans as are wanted of an engine that owes all plans of the task in its mode, up to a greatest cost where
+/// there is one: each block is put before the next
+/// plan is asked for, and then the line that says why the list ends. After the last plan that is wanted nothing is asked for but
+/// the one that is looked for where that is wanted too; it is not put.
 pub fn list_plans<I: LazyPlans + Drop, K: Sink>(
     alloc: Global,
     task: &Task,
-    most: u64,
+    wanted: Wanted,
+    limit: Option<u64>,
     engine: I,
     sink: &mut K,
 ) -> Status
-    requires { OwesAll I.system I.mode I.most I.pends I.lawful task.now (I.mode engine) engine }
-    ensures lists { Puts (OrPart task.now most (I.mode engine)) (K.view sink.old) (K.view sink.new) result }
+    requires owes { OwesAll I.system I.mode I.most I.pends I.lawful task.now (I.mode engine) limit engine }
+    requires count { wanted.count ≤ 1000000000 }
+    requires limit { IfSome limit (λ most. most < 2 ^ 64) }
+    ensures lists { Puts (OrPart (aim task.now (I.mode engine) wanted limit)) (K.view sink.old) (K.view sink.new) result }
     ensures causes { HasCauses result 0 0 (K.view sink.old).faults (K.view sink.new).faults }
 {
     // A task fits.
     let _ = task.parts();
     let unit = task.unit();
-    let mut plans = Limited::new(alloc, engine, most);
-    'plans: for number in 0..most {
+    let mut plans = Limited::new(alloc, engine, wanted.asked());
+    'plans: for number in 0..wanted.count {
         match plans.next() {
             Some(Ok(plan)) => match put_block(alloc, task, number + 1, &plan, unit, sink) {
                 Ok(()) => {}
@@ -42,10 +48,29 @@ pub fn list_plans<I: LazyPlans + Drop, K: Sink>(
             },
             Some(Err(Stop::CostRange)) => return end_list(alloc, sink, End::CostRange),
             Some(Err(Stop::Memory)) => return Status::Memory,
-            None => return end_list(alloc, sink, End::Exhausted { n: number }),
+            None => return end_list(alloc, sink, all_listed(limit, number)),
         }
     }
-    end_list(alloc, sink, End::Reached { n: most })
+    let n = wanted.count;
+    if !wanted.more {
+        return end_list(alloc, sink, End::Reached { n });
+    }
+    match plans.next() {
+        Some(Ok(_)) => end_list(alloc, sink, End::More { n }),
+        Some(Err(Stop::CostRange)) => end_list(alloc, sink, End::CostRange),
+        Some(Err(Stop::Memory)) => Status::Memory,
+        None => end_list(alloc, sink, all_listed(limit, n)),
+    }
+}
+
+// How a list ends that has all plans that are wanted.
+fn all_listed(limit: Option<u64>, n: u64) -> End
+    ensures { result ≡ all_end limit n }
+{
+    match limit {
+        None => End::Exhausted { n },
+        Some(_) => End::Bounded { n },
+    }
 }
 
 /// Puts the block of a plan, which is the one of this number in its list, as one piece, or ends the run. What is known already
@@ -92,6 +117,8 @@ fn status_of_end(why: End) -> Status
 {
     match why {
         End::Reached { .. } => Status::Reached,
+        End::More { .. } => Status::MoreLeft,
+        End::Bounded { .. } => Status::Bounded,
         End::Exhausted { .. } => Status::Exhausted,
         End::CostRange => Status::CostRange,
     }

@@ -2,8 +2,9 @@
 
 ghost use Rattle.std.specs.Prelude.{◌≡◌, ◌≤◌, IfSome, option_map};
 ghost use Rattle.symk_words.specs.Texts.{view_of};
-ghost use Rattle.symk_cli.specs.Wishes.{number_within, mode_named, mode_of, direction_named, direction_of, serves, spelled};
-ghost use Rattle.symk_cli.specs.Requests.{wished, HasSwitches};
+ghost use Rattle.symk_cli.specs.Wishes.{number_within, mode_named, mode_of, direction_named, direction_of, reach_of, serves, spelled};
+ghost use Rattle.symk_cli.specs.Lists.{asked};
+ghost use Rattle.symk_cli.specs.Requests.{wished, IsNear, IsWithin};
 
 use symk_task::Mode;
 use symk_text::number;
@@ -18,14 +19,47 @@ pub enum Direction {
     Bidirectional,
 }
 
+/// How many plans are wanted, and whether one more is looked for after them.
+#[derive(Clone, Copy, Debug, PartialEq, Eq)]
+pub struct Wanted {
+    pub count: u64,
+    pub more: bool,
+}
+
+impl Wanted {
+    /// How many plans are asked for.
+    pub fn asked(self) -> u64
+        requires { self.count ≤ 1000000000 }
+        ensures { result ≡ asked self }
+    {
+        if self.more {
+            self.count + 1
+        } else {
+            self.count
+        }
+    }
+}
+
+/// Up to which cost plans are wanted.
+#[derive(Clone, Copy, Debug, PartialEq, Eq)]
+pub enum Reach {
+    /// Up to any.
+    All,
+    /// Up to this one.
+    UpTo(u64),
+    /// Up to so many percent of the least cost of a plan.
+    Percent(u64),
+}
+
 /// A lawful request.
 #[derive(Clone, Copy, Debug, PartialEq, Eq)]
 pub enum Request<'a> {
     Plan {
         file: &'a str,
-        most: u64,
+        wanted: Wanted,
         mode: Mode,
         direction: Direction,
+        reach: Reach,
     },
     Check {
         file: &'a str,
@@ -40,7 +74,7 @@ pub enum Request<'a> {
 /// The request that the texts spell, None where one of them isn't as the usage text says.
 pub fn request_of<'a>(asked: &Asked<'a>) -> Option<Request<'a>>
     ensures wish { option_map wished result ≡ spelled (view_of asked.now) }
-    ensures switches { IfSome result HasSwitches }
+    ensures within { IfSome result IsWithin }
 {
     match *asked {
         Asked::Plan {
@@ -48,16 +82,21 @@ pub fn request_of<'a>(asked: &Asked<'a>) -> Option<Request<'a>>
             k,
             mode,
             search,
+            more,
+            bound,
+            quality,
         } => {
-            let most = number_within(k, 1, 1_000_000_000)?;
+            let count = number_within(k, 1, 1_000_000_000)?;
             let mode = mode_of(mode)?;
             let direction = direction_of(search)?;
+            let reach = reach_of(bound, quality)?;
             if is_served(mode, direction) {
                 Some(Request::Plan {
                     file,
-                    most,
+                    wanted: Wanted { count, more },
                     mode,
                     direction,
+                    reach,
                 })
             } else {
                 None
@@ -71,6 +110,19 @@ pub fn request_of<'a>(asked: &Asked<'a>) -> Option<Request<'a>>
         Asked::Demo { n } => Some(Request::Demo {
             switches: number_within(n, 1, 64)? as u32,
         }),
+    }
+}
+
+// The greatest cost that is wanted, named by itself or in percent of the least one, but not by both.
+fn reach_of(bound: Option<&str>, quality: Option<&str>) -> Option<Reach>
+    ensures reach { result ≡ reach_of (option_map (λ s. s.now) bound.entry) (option_map (λ s. s.now) quality.entry) }
+    ensures within { IfSome result IsNear }
+{
+    match (bound, quality) {
+        (None, None) => Some(Reach::All),
+        (Some(bound), None) => Some(Reach::UpTo(number_within(bound, 0, u64::MAX)?)),
+        (None, Some(quality)) => Some(Reach::Percent(number_within(quality, 100, 10_000)?)),
+        (Some(_), Some(_)) => None,
     }
 }
 

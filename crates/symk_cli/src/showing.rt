@@ -1,6 +1,6 @@
 //! The demonstration: the cheapest plans of a task that is made from a number.
 
-ghost use Rattle.std.specs.Prelude.{◌≡◌, ◌+◌, ◌*◌, ◌^◌, ◌<◌, ◌≤◌, ◌++◌, IfOk, OnOk, min, max};
+ghost use Rattle.std.specs.Prelude.{◌≡◌, ◌+◌, ◌*◌, ◌^◌, ◌<◌, ◌≤◌, ◌++◌, IfOk, OnOk, None, min, max};
 ghost use Rattle.task_gen.specs.Switches.{switches as switches_task};
 ghost use Rattle.symk_task.specs.declared.parts.Mode.TheVariants.{TopK};
 ghost use Rattle.symk_cli.specs.Ends.{HasCauses, OrFront, Puts};
@@ -9,11 +9,11 @@ ghost use Rattle.symk_cli.specs.Shown.{HasMore, HasPlans, IsSummary, Summary, co
 
 use crate::choice::Choice;
 use crate::ending::end_with;
+use crate::engines::top_plans;
 use crate::pieces::{push_cost_after, push_number_after};
 use crate::request::Direction;
 use crate::status::Status;
 use bdd_space::BddSpace;
-use reconstruct::TopPlans;
 use sas_reader::{ReadFault, read_task};
 use sas_writer::write_task;
 use selectors::{LazyPlans, Limited, Stop};
@@ -76,7 +76,7 @@ impl Costs {
 
 // What 20 plans cost of an engine that owes all plans of the task.
 fn costs_of<I: LazyPlans + Drop>(alloc: Global, task: &Task, engine: I) -> Result<Costs, Memory>
-    requires owes { OwesAll I.system I.mode I.most I.pends I.lawful task.now TopK engine }
+    requires owes { OwesAll I.system I.mode I.most I.pends I.lawful task.now TopK None engine }
     requires many { HasMore task.now 20 }
     ensures { IfOk result (λ costs. HasPlans task.now costs.cheapest costs.dearest costs.total) }
 {
@@ -107,11 +107,8 @@ fn costs_found(alloc: Global, task: &Task) -> Result<Costs, Memory>
     // A task fits, and so its system lists each useful state.
     let _ = task.parts();
     let space = BddSpace::of(alloc, task)?;
-    costs_of(
-        alloc,
-        task,
-        TopPlans::new(alloc, space, Choice::of(Direction::Auto))?,
-    )
+    let plans = top_plans(alloc, task, space, Choice::of(Direction::Auto), None)?;
+    costs_of(alloc, task, plans)
 }
 
 fn summary(alloc: Global, number: u32) -> Result<Text, Memory>

@@ -8,14 +8,19 @@ ghost use Rattle.symk_cli.specs.Codes.{code_of};
 pub enum Status {
     /// As many plans were listed as were asked for.
     Reached,
+    /// As many plans were listed as were asked for, and there is another.
+    MoreLeft,
     /// Each block of the list is good.
     Good,
     /// The summary of a demonstration was written.
     Shown,
-    /// Fewer plans were listed than were asked for, and there are no more.
+    /// All plans were listed: fewer than were asked for or, where one more was looked for, no more.
     Exhausted,
     /// A block of the list fails.
     BadList,
+    /// All plans up to the greatest cost that is wanted were listed: fewer than were asked for or, where one more was looked
+    /// for, no more.
+    Bounded,
     /// A line of a text offends.
     Offending,
     /// The words aren't those of the usage text.
@@ -26,7 +31,8 @@ pub enum Status {
     Unreadable,
     /// The sink refused bytes.
     WriteFault,
-    /// All plans of at most 64-bit cost were listed, fewer than were asked for, and there is a dearer one.
+    /// All plans of at most 64-bit cost were listed, fewer than were asked for or, where one more was looked for, no more, and
+    /// there is a dearer one.
     CostRange,
     /// Memory is wanting.
     Memory,
@@ -38,9 +44,10 @@ impl Status {
         ensures { result ≡ code_of self }
     {
         match self {
-            Status::Reached | Status::Good | Status::Shown => 0,
+            Status::Reached | Status::MoreLeft | Status::Good | Status::Shown => 0,
             Status::Exhausted => 10,
             Status::BadList => 11,
+            Status::Bounded => 13,
             Status::Offending => 20,
             Status::Usage => 21,
             Status::TooLong => 22,

@@ -3,6 +3,7 @@
 mod checks;
 mod faults;
 mod files;
+mod further;
 mod memory;
 mod plans;
 mod refusals;

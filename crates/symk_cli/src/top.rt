@@ -1,9 +1,9 @@
 //! The top call.
 
-ghost use Rattle.std.specs.Prelude.{◌≡◌, ◌≢◌, [], ◌∷◌, Some, None, IfOk, IsErrOf, map, string_bytes};
+ghost use Rattle.std.specs.Prelude.{◌≡◌, ◌≢◌, ◌≤◌, [], ◌∷◌, Some, None, IfOk, IsErrOf, map, string_bytes};
 ghost use Rattle.symk_cli.specs.Ends.{HasCauses};
 ghost use Rattle.symk_cli.specs.Wishes.{wish_of, names_of, lists, checks};
-ghost use Rattle.symk_cli.specs.Requests.{wished, HasSwitches};
+ghost use Rattle.symk_cli.specs.Requests.{wished, IsNear, IsWithin};
 ghost use Rattle.symk_cli.specs.LawfulWords.{AreLawful};
 ghost use Rattle.symk_cli.specs.Answer.{Answered, usage_text};
 ghost use Rattle.symk_cli.specs.Opens.{Opens};
@@ -12,9 +12,9 @@ ghost use Rattle.symk_cli.specs.Lengths.{Lengths};
 
 use crate::checking::judge;
 use crate::ending::end;
-use crate::engines::list_found;
+use crate::reaching::list_reached;
 use crate::reading::{plans_of, task_of};
-use crate::request::{Direction, Request, request_of};
+use crate::request::{Direction, Reach, Request, Wanted, request_of};
 use crate::showing::show;
 use crate::status::Status;
 use std::alloc::Global;
@@ -24,7 +24,7 @@ use symk_words::{WordsFault, read_words};
 
 /// What the program may be asked for.
 pub const USAGE: &[u8] =
-    b"usage: symk plan FILE --k K [--mode topk|loopless|unordered] [--search auto|forward|backward|bidirectional]\n       symk check FILE PLANS [--mode topk|loopless|unordered]\n       symk demo N\n";
+    b"usage: symk plan FILE --k K [--mode topk|loopless|unordered] [--search auto|forward|backward|bidirectional] [--more] [--bound Q | --quality P]\n       symk check FILE PLANS [--mode topk|loopless|unordered]\n       symk demo N\n";
 
 /// Answers the words: lists the plans of a task, checks a list of plans, or shows a task that is made from a number.
 ///
@@ -81,7 +81,7 @@ fn answer<F: Files, K: Sink>(alloc: Global, words: &[String], files: &mut F, sin
 // What the words ask for.
 fn request_in<'a>(alloc: Global, words: &'a [String]) -> Result<Request<'a>, WordsFault>
     ensures ok { IfOk result (λ request. wish_of (map (λ w. string_bytes w) words.now) ≡ Some (wished request)) }
-    ensures switches { IfOk result HasSwitches }
+    ensures within { IfOk result IsWithin }
     ensures usage { IsErrOf result WordsFault.Usage → wish_of (map (λ w. string_bytes w) words.now) ≡ None }
 {
     match read_words(alloc, words) {
@@ -100,7 +100,7 @@ fn serve<F: Files, K: Sink>(
     files: &mut F,
     sink: &mut K,
 ) -> Status
-    requires { HasSwitches request }
+    requires { IsWithin request }
     ensures answer { Answered (Some (wished request.entry)) (F.view files.old).told (K.view sink.old) (K.view sink.new) result }
     ensures causes { HasCauses result (F.view files.old).faults (F.view files.new).faults (K.view sink.old).faults (K.view sink.new).faults }
     ensures opened { Opens (names_of (Some (wished request.entry))) (F.view files.old).told (F.view files.new).told (K.view sink.old).taken (K.view sink.new).taken result }
@@ -108,10 +108,11 @@ fn serve<F: Files, K: Sink>(
     match request {
         Request::Plan {
             file,
-            most,
+            wanted,
             mode,
             direction,
-        } => plan(alloc, files, sink, file, mode, direction, most),
+            reach,
+        } => plan(alloc, files, sink, file, mode, direction, wanted, reach),
         Request::Check { file, plans, mode } => check(alloc, files, sink, file, plans, mode),
         Request::Demo { switches } => show(alloc, switches, sink),
     }
@@ -125,14 +126,17 @@ fn plan<F: Files, K: Sink>(
     file: &str,
     mode: Mode,
     direction: Direction,
-    most: u64,
+    wanted: Wanted,
+    reach: Reach,
 ) -> Status
-    ensures answer { Answered (Some (lists file.now most mode direction)) (F.view files.old).told (K.view sink.old) (K.view sink.new) result }
+    requires count { wanted.count ≤ 1000000000 }
+    requires near { IsNear reach }
+    ensures answer { Answered (Some (lists (record { file = file.now; wanted = wanted; mode = mode; direction = direction; reach = reach }))) (F.view files.old).told (K.view sink.old) (K.view sink.new) result }
     ensures causes { HasCauses result (F.view files.old).faults (F.view files.new).faults (K.view sink.old).faults (K.view sink.new).faults }
     ensures opened { Opens (file.now ∷ []) (F.view files.old).told (F.view files.new).told (K.view sink.old).taken (K.view sink.new).taken result }
 {
     match task_of(alloc, files, sink, file) {
-        Ok(task) => list_found(alloc, &task, mode, direction, most, sink),
+        Ok(task) => list_reached(alloc, &task, mode, direction, wanted, reach, sink),
         Err(status) => status,
     }
 }

@@ -8,19 +8,19 @@
 #![tactic(auto)]
 
 ghost use Rattle.std.specs.Prelude.{◌≡◌, IfOk, IsErrOf, Some, None, false, map, option_map, string_bytes};
-ghost use Rattle.clap.specs.Walk.{rule_of, rows_of};
+ghost use Rattle.clap.specs.Walk.{first_of, rule_of, rows_of};
 ghost use Rattle.clap.specs.Matches.{found_of};
 ghost use Rattle.clap.specs.Simple.{subcommand_rows_of};
-ghost use Rattle.symk_words.specs.Texts.{plan_texts, check_texts, demo_texts, texts_of, texts_asked, view_of, plan, check, demo};
-ghost use Rattle.symk_words.specs.Lawful.{Plain, PlainIfSome, plan_words, check_words, demo_words};
+ghost use Rattle.symk_words.specs.Texts.{PlanTexts, plan_texts, is_set, check_texts, demo_texts, texts_of, texts_asked, view_of, plan, check, demo};
+ghost use Rattle.symk_words.specs.Lawful.{Plain, PlainIfSome, ArePlain, plan_words, check_words, demo_words};
 ghost use Rattle.clap.specs.Walk.{Text};
 ghost use Rattle.std.specs.declared.option.Option.{Option};
 ghost use Rattle.clap.specs.Simple.{app_of};
 ghost use Rattle.clap.specs.declared.builder.command.Command.TheViews.{out-Command};
-ghost use Rattle.symk_words.specs.App.{symk_app, plan_app, check_app, demo_app, place as place_rule, wanted as wanted_rule, wished as wished_rule};
+ghost use Rattle.symk_words.specs.App.{symk_app, found_app, plan_app, check_app, demo_app, place as place_rule, wanted as wanted_rule, wished as wished_rule, flag as flag_rule};
 
 use clap::error::ErrorKind;
-use clap::{Arg, ArgMatches, Command};
+use clap::{Arg, ArgAction, ArgMatches, Command};
 use std::alloc::{AllocError, Global};
 
 // A text in its place, which has to be there.
@@ -47,8 +47,17 @@ fn wished<'a>(alloc: Global, name: &'a str) -> Arg<'a>
     Arg::new(alloc, name).long(name)
 }
 
-fn plan_command<'a>(alloc: Global) -> Result<Command<'a>, AllocError>
-    ensures app { IfOk result (λ c. app_of c ≡ plan_app) }
+// An option without a value.
+fn flag<'a>(alloc: Global, name: &'a str) -> Arg<'a>
+    ensures rule { rule_of result ≡ flag_rule name.now }
+    ensures local { result.global ≡ false }
+{
+    Arg::new(alloc, name).long(name).action(ArgAction::SetTrue)
+}
+
+// `plan` with what says which plans are listed, and how they are found.
+fn found_command<'a>(alloc: Global) -> Result<Command<'a>, AllocError>
+    ensures app { IfOk result (λ c. app_of c ≡ found_app) }
     ensures local { IfOk result (λ c. (out-Command c).has_globals ≡ false) }
 {
     let command = Command::new(alloc, "plan");
@@ -56,6 +65,17 @@ fn plan_command<'a>(alloc: Global) -> Result<Command<'a>, AllocError>
     let command = command.arg(wanted(alloc, "k"))?;
     let command = command.arg(wished(alloc, "mode"))?;
     command.arg(wished(alloc, "search"))
+}
+
+// And with what says how far the list goes.
+fn plan_command<'a>(alloc: Global) -> Result<Command<'a>, AllocError>
+    ensures app { IfOk result (λ c. app_of c ≡ plan_app) }
+    ensures local { IfOk result (λ c. (out-Command c).has_globals ≡ false) }
+{
+    let command = found_command(alloc)?;
+    let command = command.arg(flag(alloc, "more"))?;
+    let command = command.arg(wished(alloc, "bound"))?;
+    command.arg(wished(alloc, "quality"))
 }
 
 fn check_command<'a>(alloc: Global) -> Result<Command<'a>, AllocError>
@@ -91,7 +111,7 @@ fn symk_command<'a>(alloc: Global) -> Result<Command<'a>, AllocError>
 /// What the words ask for. Each text is a part of a word, as it stands there: it may be empty, and no number or name.
 #[derive(Clone, Copy, Debug, PartialEq, Eq)]
 pub enum Asked<'a> {
-    /// `plan FILE --k K [--mode M] [--search S]`.
+    /// `plan FILE --k K [--mode M] [--search S] [--more] [--bound Q] [--quality P]`.
     Plan {
         /// The name of the task file.
         file: &'a str,
@@ -101,6 +121,12 @@ pub enum Asked<'a> {
         mode: Option<&'a str>,
         /// The direction of the search, if one is named.
         search: Option<&'a str>,
+        /// Whether one plan more is to be looked for.
+        more: bool,
+        /// The greatest cost that is wanted, if one is named.
+        bound: Option<&'a str>,
+        /// The greatest cost that is wanted, in percent of the least one, if it is named.
+        quality: Option<&'a str>,
     },
     /// `check FILE PLANS [--mode M]`.
     Check {
@@ -127,6 +153,17 @@ pub enum WordsFault {
     Memory,
 }
 
+// Whether an option without a value is given. It has the text `true` there, and else the text `false`.
+#[tactic(auto, using(crate::proofs::Getters::read_first))]
+fn is_given(matches: &ArgMatches<'_>, name: &str) -> bool
+    ensures { result ≡ is_set (first_of name.now (rows_of (found_of matches.now))) }
+{
+    match matches.get_str(name) {
+        Some(text) => text == "true",
+        None => false,
+    }
+}
+
 // The texts of a `plan`.
 #[tactic(auto, using(crate::proofs::Getters::read_first))]
 fn plan_of<'a>(matches: &ArgMatches<'a>) -> Option<Asked<'a>>
@@ -139,6 +176,9 @@ fn plan_of<'a>(matches: &ArgMatches<'a>) -> Option<Asked<'a>>
         k,
         mode: matches.get_str("mode"),
         search: matches.get_str("search"),
+        more: is_given(matches, "more"),
+        bound: matches.get_str("bound"),
+        quality: matches.get_str("quality"),
     })
 }
 
@@ -179,7 +219,7 @@ fn asked_of<'a>(matches: &ArgMatches<'a>) -> Option<Asked<'a>>
 }
 
 /// Reads the words, of which the first is the program's name: one subcommand with its texts in their places and its options,
-/// each with one value and at most once, in any order and also as `--k=3`.
+/// each at most once, in any order, with one value, also as `--k=3`, or with none.
 ///
 /// It is `Usage` only where `clap`'s definitions give no texts for the words.
 pub fn read_words<'a>(alloc: Global, words: &'a [String]) -> Result<Asked<'a>, WordsFault>
@@ -209,7 +249,7 @@ pub fn read_words<'a>(alloc: Global, words: &'a [String]) -> Result<Asked<'a>, W
 /// They have the program's name, the subcommand, the texts in their places, and the options in the order of the usage text.
 /// No text of theirs is empty or begins with `-`.
 pub fn lawful_words()
-    ensures plan { (prog F K : Text) (mode search : Option Text) → Plain F → Plain K → PlainIfSome mode → PlainIfSome search → texts_asked (plan_words prog F K mode search) ≡ Some (plan F K mode search) }
+    ensures plan { (prog : Text) (t : PlanTexts) → ArePlain t → texts_asked (plan_words prog t) ≡ Some (plan t) }
     ensures check { (prog F P : Text) (mode : Option Text) → Plain F → Plain P → PlainIfSome mode → texts_asked (check_words prog F P mode) ≡ Some (check F P mode) }
     ensures demo { (prog N : Text) → Plain N → texts_asked (demo_words prog N) ≡ Some (demo N) }
 {}

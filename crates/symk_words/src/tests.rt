@@ -19,6 +19,18 @@ fn takes_each_form(rt: HostRuntime) {
         k: "3",
         mode,
         search,
+        more: false,
+        bound: None,
+        quality: None,
+    };
+    let further = Asked::Plan {
+        file: "A",
+        k: "3",
+        mode: None,
+        search: Some("auto"),
+        more: true,
+        bound: Some("7"),
+        quality: Some(""),
     };
     for (line, want) in [
         ("plan A --k 3", plan(None, None)),
@@ -26,6 +38,14 @@ fn takes_each_form(rt: HostRuntime) {
         ("plan --k 3 A", plan(None, None)),
         ("plan A --k 3 --mode loopless", plan(Some("loopless"), None)),
         ("plan A --k 3 --search no", plan(None, Some("no"))),
+        (
+            "plan A --k 3 --search auto --more --bound 7 --quality=",
+            further,
+        ),
+        (
+            "plan --quality= --more --k 3 A --bound 7 --search auto",
+            further,
+        ),
         (
             "plan --search auto --mode m --k 3 A",
             plan(Some("m"), Some("auto")),
@@ -60,12 +80,18 @@ fn refuses_all_else(rt: HostRuntime) {
         "plan A --k 3 --k 3",
         "plan A A --k 3",
         "plan A --k 3 --mode",
+        "plan A --k 3 --bound",
+        "plan A --k 3 --bound 7 --bound 7",
+        "plan A --k 3 --more 1",
+        "plan A --k 3 --more=true",
+        "plan A --k 3 --more --more",
         "plan A --k 3 --depth 2",
         "check",
         "check A",
         "check A A A",
         "check A A --k 3",
         "check A A --search auto",
+        "check A A --more",
         "demo",
         "demo 1 2",
         "demo 1 --k 3",

@@ -71,3 +71,7 @@ pub const NEAR_AND_FAR: &[u8] =
 /// Two operators of one name.
 pub const SAME_NAME: &[u8] =
     b"begin_version\n3\nend_version\nbegin_metric\n0\nend_metric\n1\nbegin_variable\nx\n-1\n2\nx0\nx1\nend_variable\n0\nbegin_state\n0\nend_state\nbegin_goal\n1\n0 1\nend_goal\n2\nbegin_operator\ngo\n0\n1\n0 0 0 1\n1\nend_operator\nbegin_operator\ngo\n0\n1\n0 0 0 1\n1\nend_operator\n0\n";
+
+/// A plan of the greatest cost, and dearer ones.
+pub const GREATEST_COST: &[u8] =
+    b"begin_version\n3\nend_version\nbegin_metric\n1\nend_metric\n1\nbegin_variable\nx\n-1\n2\nx0\nx1\nend_variable\n0\nbegin_state\n0\nend_state\nbegin_goal\n1\n0 1\nend_goal\n2\nbegin_operator\ngo\n0\n1\n0 0 0 1\n18446744073709551615\nend_operator\nbegin_operator\nagain\n0\n1\n0 0 1 1\n1\nend_operator\n0\n";

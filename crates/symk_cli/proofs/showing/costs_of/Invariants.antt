@@ -1,3 +1,4 @@
+use Rattle.std.proofs.Common.{None}
 use Rattle.symk_task.specs.declared.parts.Mode.TheVariants.{TopK}
 use Rattle.symk_cli.proofs.Costed.{Costed}
 use Rattle.symk_cli.proofs.Serving.{Stands}
@@ -8,6 +9,6 @@ abbrev pub invariant-plans : goal.invariant-plans
 invariant-plans g l =
     let engine = g.I.LazyPlans in
     record {
-      stands : Stands engine.system engine.mode engine.most engine.pends engine.lawful engine.last l.task TopK 20 l._number l.plans;
+      stands : Stands engine.system engine.mode engine.most engine.pends engine.lawful engine.last l.task TopK None 20 l._number l.plans;
       costed : Costed l.task (engine.pends l.plans.inner) l.costs.cheapest l.costs.dearest l.costs.total l._number;
     }

@@ -1,5 +1,5 @@
 -- From the bytes that went out to the answer.
-use Rattle.std.proofs.Common.{◌≡◌, sym, refl, subst, inl, inr, ℕ, ◌⊎◌, List, Option, Some, None}
+use Rattle.std.proofs.Common.{◌≡◌, sym, refl, subst, inl, inr, ◌⊎◌, List, Option, Some, None}
 use Rattle.symk_io.specs.View.{Bytes, SinkView, Told}
 use Rattle.symk_task.specs.declared.parts.Mode.{Mode}
 use Rattle.symk_task.specs.declared.parts.TaskParts.{TaskParts}

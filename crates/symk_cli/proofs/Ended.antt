@@ -15,7 +15,7 @@ use Rattle.symk_cli.specs.declared.request.Wanted.{Wanted}
 use Rattle.symk_cli.specs.declared.status.Status.{Status}
 use Rattle.symk_cli.specs.declared.status.Status.TheVariants as status
 use Rattle.symk_cli.proofs.Given.{IsGiven, IsHeld, given_more, list_reached, list_goes_on, list_exhausted, list_in_range}
-use Rattle.symk_cli.proofs.Listed.{Listed, listed_none, listed_more, listed_stops, block_stops, list_ends}
+use Rattle.symk_cli.proofs.Listed.{Listed, listed_more, listed_stops, block_stops, list_ends}
 
 pub off_by_not : (b : Bool) → not b ≡ true → b ≡ false
 off_by_not true e = absurd (cc)

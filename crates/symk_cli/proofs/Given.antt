@@ -1,5 +1,5 @@
 -- What the law of lazy plans gives of a list of plans of a task.
-use Rattle.std.proofs.Common.{◌≡◌, ℕ, zero, suc, ◌-◌, ◌<◌, ◌≤◌, ◌^◌, List, [], ◌∷◌, ◌++◌, length, All, Option, Some, None, IfSome, subst, sym, refl, arith}
+use Rattle.std.proofs.Common.{ℕ, zero, suc, ◌<◌, ◌≤◌, ◌^◌, List, [], ◌∷◌, ◌++◌, All, Option, Some, None, IfSome, refl, arith}
 use Rattle.std.proofs.lemmas.List.Elements.{All-nil, All-push}
 use Rattle.symk_task.specs.declared.parts.Mode.{Mode}
 use Rattle.symk_task.specs.declared.parts.Mode.TheVariants.{TopK, Loopless, Unordered}

@@ -1,5 +1,5 @@
 -- Which texts are too long, from the answer.
-use Rattle.std.proofs.Common.{subst, inl, inr, ℕ, ◌<◌, ◌≤◌, ◌⊎◌, List, length, Option, Some, None, IfSome, IsSomeAnd}
+use Rattle.std.proofs.Common.{subst, inl, inr, ◌<◌, ◌≤◌, ◌⊎◌, List, length, Option, Some, None, IfSome, IsSomeAnd}
 use Rattle.symk_io.specs.View.{Bytes, SinkView, Told}
 use Rattle.symk_task.specs.declared.parts.Mode.{Mode}
 use Rattle.symk_task.specs.declared.parts.TaskParts.{TaskParts}

@@ -1,12 +1,11 @@
 -- Lists up to a cost that is named in one way or another.
-use Rattle.std.proofs.Common.{◌≡◌, ◌∙◌, ap, sym, refl, subst, inl, inr, ℕ, ◌+◌, ◌<◌, ◌≤◌, ◌^◌, ◌⊎◌, List, [], ◌∷◌, ◌++◌, Option, Some, None, arith}
+use Rattle.std.proofs.Common.{◌≡◌, sym, refl, subst, inl, inr, ℕ, ◌<◌, ◌^◌, ◌⊎◌, List, [], ◌∷◌, Option, None, arith}
 use Rattle.symk_io.specs.View.{Bytes, SinkView}
 use Rattle.symk_task.specs.declared.parts.Mode.{Mode}
 use Rattle.symk_task.specs.declared.parts.Mode.TheVariants.{TopK}
 use Rattle.symk_task.specs.declared.parts.TaskParts.{TaskParts}
 use Rattle.symk_task.specs.Plans.{IsPlan, Same, cost_of}
 use Rattle.symk_task.specs.Fits.{Fits}
-use Rattle.task_system.specs.System.{System}
 use Rattle.task_system.specs.Computed.{system_of}
 use Rattle.task_system.proofs.RunsLaw.{cost_law}
 use Rattle.task_system.proofs.TraceLaw.{mode_law}
@@ -18,13 +17,13 @@ use Rattle.plan_out.specs.declared.end.End.TheVariants as end
 use Rattle.plan_out.specs.Texts.{end_line}
 use Rattle.symk_cli.specs.declared.request.Wanted.{Wanted}
 use Rattle.symk_cli.specs.declared.request.Reach.{Reach}
-use Rattle.symk_cli.specs.declared.request.Reach.TheVariants.{All, UpTo, Percent}
+use Rattle.symk_cli.specs.declared.request.Reach.TheVariants.{Percent}
 use Rattle.symk_cli.specs.declared.status.Status.{Status}
 use Rattle.symk_cli.specs.declared.status.Status.TheVariants as status
 use Rattle.symk_cli.specs.Sent.{Sent, nothing, TookFront}
 use Rattle.symk_cli.specs.Ends.{Ends, FrontOf, Puts}
 use Rattle.symk_cli.specs.Lists.{aim, end_status, Listing, PartListing, WholeOrPart, OrPart}
-use Rattle.symk_cli.specs.Reaches.{IsLeastCost, AllDear, NoPlan, IsLimit, IsEndOfNone, NoListing, MayList, MayPart, OrReached}
+use Rattle.symk_cli.specs.Reaches.{IsLeastCost, AllDear, NoPlan, IsLimit, IsEndOfNone, MayList, MayPart, OrReached}
 use Rattle.symk_cli.proofs.Given.{IsGiven}
 use Rattle.symk_cli.proofs.Took.{all_of, took_nothing, took_piece, took_front, front_of_last}
 

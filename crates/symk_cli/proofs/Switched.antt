@@ -1,12 +1,12 @@
 -- The task of the switches has a plan of each length that is the number of switches and an even number of flips of the first.
-use Rattle.std.proofs.Common.{◌≡◌, ◌≢◌, ℕ, zero, suc, ◌+◌, ◌-◌, ◌*◌, ◌^◌, ◌<◌, ◌≤◌, ◌⊎◌, ◌↔◌, inl, inr, List, [], ◌∷◌, ◌++◌, length, get_or, set, replicate, map, min, take, Option, Some, None, refl, sym, ap, ◌∙◌, subst, arith, add-one}
-use Rattle.std.specs.Prelude.{All, Contains, sum, sum_by, slice_get, slice_index, IsSomeAnd, IfSome, cond, Bool, true, false}
+use Rattle.std.proofs.Common.{◌≡◌, ◌≢◌, ℕ, zero, suc, ◌+◌, ◌-◌, ◌*◌, ◌<◌, ◌≤◌, ◌⊎◌, inl, inr, List, [], ◌∷◌, ◌++◌, length, get_or, set, replicate, map, min, take, Option, Some, None, refl, sym, ap, ◌∙◌, subst, arith, add-one}
+use Rattle.std.specs.Prelude.{All, slice_get, slice_index, IsSomeAnd, IfSome}
 use Rattle.std.specs.Option.{option_map_or}
 use Rattle.std.specs.List.{AllByRecursion, range_with_len, count_by, Any}
 use Rattle.std.proofs.Math.Seq.{take-length}
 use Rattle.std.proofs.lemmas.Bool.{cases_lt}
 use Rattle.std.proofs.lemmas.Option.{slice_get-get_or, slice_get_past}
-use Rattle.std.proofs.lemmas.List.{get_or_append_left, get_or_push, length_push, get_or_default, length-append, length-set, length-replicate, get_or-replicate, get_or-set_same, get_or-set_other}
+use Rattle.std.proofs.lemmas.List.{get_or_append_left, get_or_push, length_push, get_or_default, length-append, length-set, length-replicate, get_or-set_same, get_or-set_other}
 use Rattle.std.proofs.lemmas.List.FromFn.{length-range_with_len}
 use Rattle.std.proofs.lemmas.List.Elements.{All-nil, All-cons, All-head, All-tail, All-push, recursion_from_All}
 use Rattle.std.proofs.lemmas.List.Sums.{sum_by-cons, count_by_more_yes, count_by_more_no}
@@ -14,10 +14,9 @@ use Rattle.indexmap.proofs.IndexTableLemmas.Probe.{pigeonhole}
 use Rattle.symk_task.specs.declared.parts.Mode.TheVariants.{TopK}
 use Rattle.symk_task.specs.declared.parts.Variable.{Variable}
 use Rattle.symk_task.specs.declared.parts.Operator.{Operator}
-use Rattle.symk_task.specs.declared.parts.Rule.{Rule}
-use Rattle.symk_task.specs.Variables.{IsBase, HasLayer, IsState, is_base, range, place, other_value}
-use Rattle.symk_task.specs.Steps.{Holds, Fires, Allows, Applies, NoneOn, LastOn, ValueAfter, After, Step, cost_at}
-use Rattle.symk_task.specs.Derived.{Counts, Met, base, Derives, RaisedBelow, Raised}
+use Rattle.symk_task.specs.Variables.{IsBase, HasLayer, is_base, range, place, other_value}
+use Rattle.symk_task.specs.Steps.{Holds, Fires, Allows, Applies, ValueAfter, After, Step, cost_at}
+use Rattle.symk_task.specs.Derived.{Met, base, RaisedBelow, Raised}
 use Rattle.symk_task.specs.Plans.{Runs, IsInitial, IsPlan, cost_of, AllInRange}
 use Rattle.task_gen.specs.Switches.{up_to, fact, is_on, switch, all_on, variables, effect, flip, rule, switches}
 use Rattle.task_gen.proofs.Counting.{length_up_to, get_up_to, All_up_to}

@@ -1,5 +1,5 @@
 -- Lists of plans, and how they end.
-use Rattle.std.specs.Prelude.{◌≡◌, ℕ, ◌+◌, ◌<◌, ◌≤◌, List, [], ◌∷◌, ◌++◌, length, ◌⊎◌, ⊤, All, Bool, true, false, if◌then◌else◌, Option, Some, None, IsSome, IfSome}
+use Rattle.std.specs.Prelude.{◌≡◌, ℕ, ◌+◌, ◌<◌, ◌≤◌, List, [], ◌∷◌, ◌++◌, length, ◌⊎◌, ⊤, All, true, false, if◌then◌else◌, Option, Some, None, IsSome, IfSome}
 use Rattle.symk_io.specs.View.{Bytes}
 use Rattle.symk_task.specs.declared.parts.Mode.{Mode}
 use Rattle.symk_task.specs.declared.parts.TaskParts.{TaskParts}

@@ -1,4 +1,4 @@
-use Rattle.std.proofs.Common.{◌≡◌, ◌∙◌, ap, sym, refl, subst, ℕ, Some, None}
+use Rattle.std.proofs.Common.{ap, sym, refl, subst, ℕ, Some, None}
 use Rattle.plan_out.specs.declared.end.End.TheVariants.{Exhausted, CostRange}
 use Rattle.symk_cli.specs.declared.request.Reach.{Reach}
 use Rattle.symk_cli.specs.declared.request.Reach.TheVariants.{All, UpTo, Percent}

@@ -1,4 +1,4 @@
-use Rattle.std.proofs.Common.{None, ◌+◌, ◌<◌, ◌≤◌, sym, ap, ◌∙◌, min, max, arith, rules}
+use Rattle.std.proofs.Common.{None, ◌+◌, ◌<◌, ◌≤◌, sym, ap, ◌∙◌, min, max, arith}
 use Rattle.symk_task.specs.declared.parts.Mode.TheVariants.{TopK}
 use Rattle.symk_cli.proofs.Given.{gave_listable}
 use Rattle.symk_cli.proofs.Costed.{costed_none, costed_more, costed_as, costed_not_all, costed_not_in_range}

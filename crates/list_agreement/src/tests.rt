@@ -67,7 +67,7 @@ fn both(alloc: Global, task: &Task, engine: Engine, count: u32) -> Result<Option
 /// Whether a list of the engine must begin with the firsts themselves: its plans come as those of the long list do.
 fn gives_firsts(engine: Engine) -> bool {
     match engine {
-        Engine::Top(Choice::Lower(_)) | Engine::Unordered(Choice::Lower(_)) => true,
+        Engine::Top(Choice::Lower) | Engine::Unordered(Choice::Lower) => true,
         _ => false,
     }
 }

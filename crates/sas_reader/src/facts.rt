@@ -8,7 +8,8 @@ ghost use Rattle.sas_reader.specs.Reading.{kept, in_range, fact_in, fact_at, fac
 use crate::fault::Shape;
 use crate::limits::MOST_FACTS;
 use crate::numbers::two_numbers;
-use crate::rows::{Rest, count_of, first_line, offence};
+use crate::rows::count_of;
+use line_fields::{Rest, first_line, offence};
 use line_grammar::Stopped;
 use std::alloc::Global;
 use symk_task::{Fact, List, Variable};

@@ -6,7 +6,8 @@ ghost use Rattle.sas_reader.specs.declared.fault.Shape.TheVariants.{Three};
 
 use crate::fault::Shape;
 use crate::numbers::only_number;
-use crate::rows::{Rest, count_of, first_line, offence, word_of};
+use crate::rows::{count_of, word_of};
+use line_fields::{Rest, first_line, offence};
 use line_grammar::Stopped;
 
 /// The version that is read.

@@ -9,55 +9,10 @@ ghost use Rattle.sas_reader.specs.Reading.{exactly, count_to, name_at, number_th
 
 use crate::fault::Shape;
 use crate::numbers::only_number;
-use line_grammar::{Offence, Stopped};
+use line_fields::{Rest, first_line, offence};
+use line_grammar::Stopped;
 use std::alloc::Global;
-use std::marker::Model;
 use symk_task::Name;
-use symk_text::Line;
-
-/// The lines that are left to read.
-#[derive(Drop)]
-pub struct Rest<'a> {
-    lines: &'a [Line<'a>],
-}
-
-impl<'a> Model for Rest<'a> {
-    ghost Value = { List (List ℕ) };
-
-    ghost view = { λ a. a.lines.now };
-}
-
-impl<'a> Rest<'a> {
-    pub fn of(lines: &'a [Line<'a>]) -> Rest<'a>
-        ensures { result ≡ lines.now }
-    {
-        Rest { lines }
-    }
-
-    /// How many lines are left.
-    pub fn len(&self) -> usize
-        ensures { result ≡ length self.now }
-    {
-        self.lines.len()
-    }
-}
-
-/// The first line, and the lines after it.
-pub fn first_line(rest: Rest<'_>) -> Option<(&[u8], Rest<'_>)>
-    ensures { MatchOption result (rest.entry ≡ []) (λ x. (rest.entry ≡ x.0.now ∷ x.1) × IsLine x.0.now) }
-{
-    match rest.lines {
-        [line, after @ ..] => Some((line.as_slice(), Rest { lines: after })),
-        [] => None,
-    }
-}
-
-/// The first of so many lines that are left isn't what is wanted, or is missing.
-pub fn offence(wanted: Shape, left: usize) -> Stopped<Shape>
-    ensures { result ≡ stopped.Offence (record { wanted = wanted; left = left }) }
-{
-    Stopped::Offence(Offence { wanted, left })
-}
 
 /// A line of exactly these bytes, and the lines after it.
 pub fn word_of<'a>(wanted: Shape, word: &[u8], lines: Rest<'a>) -> Result<Rest<'a>, Stopped<Shape>>

@@ -8,7 +8,8 @@ ghost use Rattle.sas_reader.specs.Reading.{range_at, value_at, next_place, initi
 use crate::facts::facts_of;
 use crate::fault::Shape;
 use crate::numbers::only_number;
-use crate::rows::{Rest, first_line, offence, word_of};
+use crate::rows::word_of;
+use line_fields::{Rest, first_line, offence};
 use line_grammar::Stopped;
 use std::alloc::Global;
 use symk_task::{Fact, List, Variable};

@@ -192,15 +192,15 @@ fn a_name_keeps_all_but_one_return(rt: HostRuntime) -> Result<(), Fail> {
 fn too_many_bits_offend_at_the_range(rt: HostRuntime) -> Result<(), Fail> {
     let alloc = rt.alloc();
     let mut text = Vec::new(alloc);
-    text.extend_from_slice(b"begin_version\n3\nend_version\nbegin_metric\n0\nend_metric\n4097\n")?;
-    for _ in 0..4096 {
+    text.extend_from_slice(b"begin_version\n3\nend_version\nbegin_metric\n0\nend_metric\n65536\n")?;
+    for _ in 0..65535 {
         text.extend_from_slice(b"begin_variable\nv\n-1\n2\na\nb\nend_variable\n")?;
     }
     text.extend_from_slice(b"begin_variable\nv\n-1\n")?;
     let mut narrow = text.clone()?;
-    text.extend_from_slice(b"2\n")?;
-    narrow.extend_from_slice(b"1\n")?;
-    assert_eq!(rt; offence_of(alloc, &text)?, Some((28683, "range")));
-    assert_eq!(rt; offence_of(alloc, &narrow)?, Some((28684, "name")));
+    text.extend_from_slice(b"3\n")?;
+    narrow.extend_from_slice(b"2\n")?;
+    assert_eq!(rt; offence_of(alloc, &text)?, Some((458756, "range")));
+    assert_eq!(rt; offence_of(alloc, &narrow)?, Some((458757, "name")));
     Ok(())
 }

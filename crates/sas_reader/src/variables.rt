@@ -11,7 +11,8 @@ ghost use Rattle.sas_reader.specs.declared.fault.Shape.TheVariants.{Layer, Range
 use crate::fault::Shape;
 use crate::limits::{LAST_LAYER, MOST_VALUES, MOST_VARIABLES};
 use crate::numbers::only_number;
-use crate::rows::{Rest, count_of, first_line, name_of, offence, word_of};
+use crate::rows::{count_of, name_of, word_of};
+use line_fields::{Rest, first_line, offence};
 use line_grammar::Stopped;
 use std::alloc::Global;
 use symk_task::{List, Name, STATE_BITS, Variable};

@@ -7,7 +7,7 @@ ghost use Rattle.symk_task.specs.Fits.{bits_of};
 use crate::parts::Variable;
 
 /// The most bits that the values of a state may take together.
-pub const STATE_BITS: u32 = 4096;
+pub const STATE_BITS: u32 = 65_536;
 
 /// The least number of bits that tell so many values apart: 0 for one value, 16 for 65,536.
 pub fn width(values: u64) -> u32

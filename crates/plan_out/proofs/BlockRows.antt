@@ -1,23 +1,24 @@
 -- The rows of a block are read exactly.
-use Rattle.std.proofs.Common.{◌≡◌, ℕ, zero, suc, ◌+◌, ◌-◌, ◌*◌, ◌/◌, ◌%◌, ◌^◌, ◌<◌, ◌≤◌, Bool, true, false, cond, eqb, nat_le, ◌&&◌, List, [], ◌∷◌, ◌++◌, length, get_or, take, drop, Option, Some, None, refl, sym, ap, subst, ◌∙◌, arith, codes, decimal, length-append}
-use Rattle.std.proofs.lemmas.List.{append-nil, take_more, take_all}
+use Rattle.std.proofs.Common.{◌≡◌, ℕ, zero, suc, ◌+◌, ◌-◌, ◌^◌, ◌<◌, ◌≤◌, Bool, true, false, cond, eqb, nat_le, ◌&&◌, List, [], ◌∷◌, ◌++◌, length, get_or, take, drop, Option, Some, None, refl, sym, ap, subst, ◌∙◌, arith, codes, decimal, length-append}
+use Rattle.std.proofs.lemmas.List.{take_more, take_all}
 use Rattle.std.proofs.lemmas.Option.{cond_some}
 use Rattle.std.proofs.lemmas.Bool.{eqb-true, eq-eqb}
 use Rattle.std.proofs.lemmas.Bool.Decides.{nat_tests}
 use Rattle.std.proofs.lemmas.Slice.Eq.{bytes_eq-Decides}
-use Rattle.std.proofs.lemmas.Fmt.{decimal_by_steps, length-decimal-le, decimal_nonempty}
-use Rattle.std.proofs.lemmas.List.Elements.{All-nil, All-cons, All-head, All-tail, All-push}
+use Rattle.std.proofs.lemmas.List.Elements.{All-nil, All-cons, All-head, All-tail}
 use Rattle.std.proofs.Math.Seq.{take-append_seam, get_or-append_seam}
-use Rattle.std.specs.Option.{option_map, option_map_or, option_and_then}
+use Rattle.std.specs.Option.{option_map, option_and_then}
 use Rattle.std.specs.Str.{bytes_eq}
-use Rattle.std.specs.List.{fold, All}
-use Rattle.std.specs.Char.{IsAsciiDigit}
-use Rattle.symk_text.specs.Numbers.{value_of}
+use Rattle.std.specs.List.{All}
 use Rattle.line_grammar.proofs.Exact as grammar
 use Rattle.line_grammar.proofs.Joining.{Always}
-use Rattle.plan_out.specs.Plans.{IsNumber, IsNumbered, AreSpaced, cost_word, Row, plan, ops, step, cost, IsSpelled}
-use Rattle.plan_out.specs.Reading.{after, number_then, if_alone, is_numbered, operator_then, spaced_in, plan_in, ops_in, step_in, with_word, cost_in}
-use Rattle.plan_out.proofs.Fronts.{NoDigit, after_is, after_again, number_follows, follows_number, operator_is, operator_again}
+use Rattle.line_fields.specs.Fields.{after, number_then, is_numbered}
+use Rattle.line_fields.proofs.Fronts.{NoDigit, after_is, after_again, number_follows, follows_number}
+use Rattle.line_fields.proofs.Alone.{numbered_is, numbered_again}
+use Rattle.line_fields.proofs.Decimals.{decimal_number}
+use Rattle.plan_out.specs.Plans.{AreSpaced, cost_word, Row, plan, ops, step, cost, IsSpelled}
+use Rattle.plan_out.specs.Reading.{operator_then, spaced_in, plan_in, ops_in, step_in, with_word, cost_in}
+use Rattle.plan_out.proofs.OneOperator.{operator_is, operator_again}
 use Rattle.plan_out.proofs.Spaced.{operator_shorter}
 
 abbrev pub shape_of : Row → Unit {0}
@@ -26,57 +27,7 @@ shape_of _ = tt
 abbrev pub RowIs : {X : Type 0} → (List ℕ → Option X) → (X → Row) → (X → Type 0) → Type 0
 RowIs test row F = grammar.RowIs shape_of IsSpelled tt test row F
 
--- Each number is spelled by some digits.
-
-abbrev next : ℕ → ℕ → ℕ
-next value digit = value * 10 + (digit - 48)
-
-fold_push : (value : ℕ) (digits : List ℕ) (digit : ℕ) → fold next value (digits ++ digit ∷ []) ≡ next (fold next value digits) digit
-fold_push value [] digit = refl
-fold_push value (d ∷ digits) digit = fold_push (next value d) digits digit
-
-record Spells (n : ℕ) (digits : List ℕ) : Type 0 where
-  each : All IsAsciiDigit digits
-  value : value_of digits ≡ n
-
-digit_of : (n : ℕ) → n < 10 → IsAsciiDigit (48 + n)
-digit_of n lt = grind (arith, nat_tests)
-
-decimal_spells : (n : ℕ) → n < 2 ^ 64 → Spells n (decimal n)
-unfolding value_of
-decimal_spells = decimal_by_steps Spells
-    (λ n lt. record { each = All-cons IsAsciiDigit (48 + n) [] (digit_of n lt) (All-nil IsAsciiDigit); value = (let e : 0 * 10 + ((48 + n) - 48) ≡ n = omega arith in e) })
-    (λ n ds le s. record {
-      each = All-push IsAsciiDigit ds (48 + n % 10) s.each (digit_of (n % 10) (omega arith));
-      value = fold_push 0 ds (48 + n % 10) ∙ (let v : fold next 0 ds ≡ n / 10 = s.value in let e : fold next 0 ds * 10 + ((48 + n % 10) - 48) ≡ n = omega arith in e);
-    })
-
--- a number in decimal digits, without leading zeros
-pub decimal_number : (n : ℕ) → n < 2 ^ 64 → IsNumber (decimal n) n
-decimal_number n lt =
-    let s = decimal_spells n lt in
-    record { some = decimal_nonempty n lt; few = length-decimal-le 20 n (omega arith) (omega arith) lt; each = s.each; value = s.value; small = lt }
-
--- A line of bytes and a number.
-
-pub numbered_is : (word : List ℕ) (n : ℕ) (line : List ℕ) → is_numbered word n line ≡ true → IsNumbered word n line
-numbered_is word n line e = by_number (number_then word line) refl e
-  where
-    by_rest : (k : ℕ) (rest : List ℕ) → number_then word line ≡ Some (k, rest) → (t : Bool) → eqb (length rest) 0 ≡ t → option_map_or (λ k. eqb k n) (cond t (Some k) None) false ≡ true → IsNumbered word n line
-    by_rest k [] t true u e =
-        let f = number_follows word line k [] t in
-        (f.digits, subst (λ (z : ℕ). IsNumber f.digits z) (eqb-true k n e) f.number, f.whole ∙ append-nil (word ++ f.digits))
-    by_rest k (b ∷ rest) t true u e = absurd (let z : length (b ∷ rest) ≡ 0 = eqb-true (length (b ∷ rest)) 0 u in omega arith)
-    by_rest k rest t false u e = cc
-
-    by_number : (o : Option (ℕ × List ℕ)) → number_then word line ≡ o → option_map_or (λ k. eqb k n) (option_and_then if_alone o) false ≡ true → IsNumbered word n line
-    by_number None t e = cc
-    by_number (Some (k, rest)) t e = by_rest k rest t (eqb (length rest) 0) refl e
-
-pub numbered_again : (word : List ℕ) (n : ℕ) (line : List ℕ) → IsNumbered word n line → is_numbered word n line ≡ true
-numbered_again word n line (digits, is, whole) =
-    let e : number_then word line ≡ Some (n, []) = ap (λ (z : List ℕ). number_then word z) (whole ∙ sym (append-nil (word ++ digits))) ∙ follows_number word digits n [] is tt in
-    ap (λ (o : Option (ℕ × List ℕ)). option_map_or (λ k. eqb k n) (option_and_then if_alone o) false) e ∙ eq-eqb n n refl
+-- The line that begins a block.
 
 pub plan_is : (i : ℕ) → i < 2 ^ 64 → RowIs (plan_in i) (λ _. plan i) Always
 plan_is i small = record {

@@ -6,7 +6,7 @@ pub mod OneRun
 pub mod Reasons
 pub mod Noting
 pub mod Checking
-pub mod Fronts
+pub mod OneOperator
 pub mod Spaced
 pub mod BlockRows
 pub mod OneBlock

@@ -4,7 +4,7 @@ use Rattle.std.proofs.lemmas.List.{append-nil, nil_from_length}
 use Rattle.std.proofs.lemmas.Bool.Decides.{nat_tests}
 use Rattle.std.specs.Option.{option_map}
 use Rattle.plan_out.specs.Reading.{operator_then, spaced_in}
-use Rattle.plan_out.proofs.Fronts.{operator_is}
+use Rattle.plan_out.proofs.OneOperator.{operator_is}
 
 pub operator_shorter : (bytes : List ℕ) (n : ℕ) (rest : List ℕ) → Some (n, rest) ≡ operator_then bytes → length rest < length bytes
 operator_shorter bytes n rest e =

@@ -12,10 +12,12 @@ use Rattle.line_grammar.specs.declared.Stopped.{Stopped}
 use Rattle.line_grammar.specs.declared.Stopped.TheVariants as stopped
 use Rattle.line_grammar.specs.Reading.{Fails}
 use Rattle.line_grammar.proofs.Exact as grammar
+use Rattle.line_fields.specs.Fields.{is_numbered}
+use Rattle.line_fields.proofs.Alone.{numbered_is, numbered_again}
 use Rattle.plan_out.specs.declared.blocks.ReadBlock.{ReadBlock}
-use Rattle.plan_out.specs.Plans.{Row, plan, IsSpelled, block_rows, rows_from, IsBlock, IsNumbered, IsEndLine, IsEnding, IsPlansOf}
-use Rattle.plan_out.specs.Reading.{is_numbered, says_enough, says_all, is_end, begins_with_end, block_at, IsAfterEnd, Refuses}
-use Rattle.plan_out.proofs.BlockRows.{shape_of, numbered_is, numbered_again}
+use Rattle.plan_out.specs.Plans.{Row, plan, IsSpelled, block_rows, rows_from, IsBlock, IsEndLine, IsEnding, IsPlansOf}
+use Rattle.plan_out.specs.Reading.{says_enough, says_all, is_end, begins_with_end, block_at, IsAfterEnd, Refuses}
+use Rattle.plan_out.proofs.BlockRows.{shape_of}
 use Rattle.plan_out.proofs.OneBlock.{exact_block}
 
 -- End lines.

@@ -1,21 +1,8 @@
 -- What a plan text is.
-use Rattle.std.specs.Prelude.{◌≡◌, ℕ, ◌+◌, ◌^◌, ◌<◌, ◌≤◌, ◌⊎◌, Bool, if◌then◌else◌, List, [], ◌∷◌, ◌++◌, length, map, codes, All}
-use Rattle.std.specs.Char.{IsAsciiDigit}
-use Rattle.symk_text.specs.Numbers.{value_of}
+use Rattle.std.specs.Prelude.{◌≡◌, ℕ, ◌+◌, ◌^◌, ◌<◌, ◌⊎◌, Bool, if◌then◌else◌, List, [], ◌∷◌, ◌++◌, length, map, codes, All}
 use Rattle.line_grammar.specs.Rows.{Lines, Spells}
+use Rattle.line_fields.specs.Numbers.{IsNumber, IsNumbered}
 use Rattle.plan_out.specs.declared.blocks.ReadBlock.{ReadBlock}
-
--- These are 1 to 20 digits that spell the number, which is below 2^64; they may begin with zeros.
-pub record IsNumber (digits : List ℕ) (n : ℕ) : Type 0 where
-  pub some : 1 ≤ length digits
-  pub few : length digits ≤ 20
-  pub each : All IsAsciiDigit digits
-  pub value : value_of digits ≡ n
-  pub small : n < 2 ^ 64
-
--- the line is these bytes and then the number
-abbrev pub IsNumbered : List ℕ → ℕ → List ℕ → Type 0
-IsNumbered word n line = (digits : List ℕ) × IsNumber digits n × (line ≡ word ++ digits)
 
 -- the bytes are one space and a number for each operator
 abbrev pub AreSpaced : List ℕ → List ℕ → Type 0

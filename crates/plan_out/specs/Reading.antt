@@ -1,41 +1,16 @@
 -- Reading a block from the first line on, up to the first line that is not as it should be.
 use Rattle.std.specs.Prelude.{◌≡◌, ℕ, zero, suc, ◌+◌, ◌-◌, ◌^◌, ◌≤◌, ◌==◌, ◌&&◌, ◌||◌, nat_lt, nat_le, if◌then◌else◌, Bool, true, false, List, [], ◌∷◌, length, take, drop, slice_index, codes, Option, Some, None}
-use Rattle.std.specs.Option.{option_map, option_map_or, option_and_then}
+use Rattle.std.specs.Option.{option_map, option_and_then}
 use Rattle.std.specs.Str.{bytes_eq}
-use Rattle.symk_text.specs.Numbers.{number_at}
 use Rattle.line_grammar.specs.declared.Stopped.{Stopped}
 use Rattle.line_grammar.specs.declared.Stopped.TheVariants as stopped
 use Rattle.line_grammar.specs.Rows.{Lines, Offends}
 use Rattle.line_grammar.specs.Reading.{Reading, row_at, many_at, both_at, made_at, after_at}
+use Rattle.line_fields.specs.Fields.{after, number_then, is_numbered}
 use Rattle.plan_out.specs.declared.blocks.ReadBlock.{ReadBlock}
 use Rattle.plan_out.specs.Plans.{IsPlansOf}
 
--- What the front of a line says.
-
--- what follows these bytes at the front of a line
-unfoldable pub after : List ℕ → List ℕ → Option (List ℕ)
-after [] line = Some line
-after (w ∷ word) [] = None
-after (w ∷ word) (b ∷ line) = if b == w then after word line else None
-
--- a number at the front, and what follows it
-unfoldable pub first_number : List ℕ → Option (ℕ × List ℕ)
-first_number bytes = option_map (λ x. (x.0, drop x.1 bytes)) (number_at bytes 0)
-
--- the number that follows these bytes, and what follows the number
-abbrev pub number_then : List ℕ → List ℕ → Option (ℕ × List ℕ)
-number_then word line = option_and_then first_number (after word line)
-
-abbrev pub if_alone : ℕ × List ℕ → Option ℕ
-if_alone x = if length x.1 == 0 then Some x.0 else None
-
--- the number of a line that has these bytes before it and nothing after it
-abbrev pub number_after : List ℕ → List ℕ → Option ℕ
-number_after word line = option_and_then if_alone (number_then word line)
-
--- the line is these bytes and then this number
-abbrev pub is_numbered : List ℕ → ℕ → List ℕ → Bool
-is_numbered word n line = option_map_or (λ k. k == n) (number_after word line) false
+-- The tests of single lines.
 
 abbrev pub if_operator : ℕ × List ℕ → Option (ℕ × List ℕ)
 if_operator x = if nat_lt x.0 (2 ^ 32) then Some x else None
@@ -43,8 +18,6 @@ if_operator x = if nat_lt x.0 (2 ^ 32) then Some x else None
 -- the operator that follows one space, and what follows it
 unfoldable pub operator_then : List ℕ → Option (ℕ × List ℕ)
 operator_then bytes = option_and_then if_operator (number_then (codes " ") bytes)
-
--- The tests of single lines.
 
 abbrev pub plan_in : ℕ → List ℕ → Option (Unit {0})
 plan_in i line = if is_numbered (codes "; plan ") i line then Some tt else None

@@ -2,58 +2,11 @@
 
 ghost use Rattle.std.specs.Prelude.{◌≡◌, ◌<◌, IfSome, IfOk, length};
 ghost use Rattle.std.specs.Option.{option_copied, option_map};
-ghost use Rattle.plan_out.specs.Reading.{after, first_number, number_then, number_after, is_numbered, operator_then, spaced_in, ops_in, step_in, cost_in, says_enough, says_all, is_end};
+ghost use Rattle.plan_out.specs.Reading.{operator_then, spaced_in, ops_in, step_in, cost_in, says_enough, says_all, is_end};
 
+use line_fields::{after, is_numbered, number_then};
 use std::alloc::Global;
 use symk_task::{Memory, Plan};
-use symk_text::number;
-
-/// What follows these bytes at the front of a line.
-fn after<'a>(line: &'a [u8], word: &[u8]) -> Option<&'a [u8]>
-    ensures { option_copied result ≡ after word.now line.now }
-{
-    line.strip_prefix(word)
-}
-
-/// A number at the front of some bytes, and what follows it.
-fn first_number(bytes: &[u8]) -> Option<(u64, &[u8])>
-    ensures { option_map (λ x. (x.0, x.1.now)) result ≡ first_number bytes.now }
-{
-    match number(bytes, 0) {
-        Some((value, end)) => Some((value, &bytes[end..])),
-        None => None,
-    }
-}
-
-/// The number that follows these bytes at the front of a line, and what follows the number.
-fn number_then<'a>(line: &'a [u8], word: &[u8]) -> Option<(u64, &'a [u8])>
-    ensures { option_map (λ x. (x.0, x.1.now)) result ≡ number_then word.now line.now }
-{
-    match after(line, word) {
-        Some(digits) => first_number(digits),
-        None => None,
-    }
-}
-
-/// The number of a line that has these bytes before it and nothing after it.
-fn number_after(line: &[u8], word: &[u8]) -> Option<u64>
-    ensures { result ≡ number_after word.now line.now }
-{
-    match number_then(line, word) {
-        Some((value, rest)) => { if rest.is_empty() { Some(value) } else { None } }
-        None => None,
-    }
-}
-
-/// Whether the line is these bytes and then this number, spelled with any leading zeros.
-pub fn is_numbered(line: &[u8], word: &[u8], number: u64) -> bool
-    ensures { result ≡ is_numbered word.now number line.now }
-{
-    match number_after(line, word) {
-        Some(value) => value == number,
-        None => false,
-    }
-}
 
 /// Whether the line says that so many blocks are as many as were asked for.
 fn says_enough(line: &[u8], blocks: u64) -> bool

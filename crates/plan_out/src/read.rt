@@ -4,12 +4,13 @@ ghost use Rattle.std.specs.Prelude.{◌≡◌, ◌≤◌, All, IfOk, IfErr, Matc
 ghost use Rattle.symk_text.specs.Lines.{lines};
 ghost use Rattle.plan_out.specs.declared.read.PlansFault.TheVariants.{Memory};
 ghost use Rattle.plan_out.specs.Plans.{IsPlansOf};
-ghost use Rattle.plan_out.specs.Reading.{IsAfterEnd, Refuses};
+ghost use Rattle.plan_out.specs.Reading.{IsAfterEnd, Refuses, begins_with_end};
 ghost use Rattle.plan_out.specs.Refused.{PlansRefusedAt};
 
 use crate::blocks::{Blocks, ReadBlock};
-use crate::rest::{Rest, begins_with_end, offence};
+use crate::line::is_end;
 use crate::rows::block_of;
+use line_fields::{Rest, offence};
 use line_grammar::Stopped;
 use std::alloc::Global;
 use symk_task::{List, Memory};
@@ -54,6 +55,16 @@ pub fn read_plans(alloc: Global, bytes: &[u8]) -> Result<Blocks, PlansFault>
     }
 }
 
+/// Whether the first line ends a list of so many blocks.
+fn begins_with_end(rest: &Rest<'_>, blocks: u64) -> bool
+    ensures { result ≡ begins_with_end blocks rest.now }
+{
+    match rest.first() {
+        Some(line) => is_end(line, blocks),
+        None => false,
+    }
+}
+
 /// The blocks of a text, and its end line.
 fn blocks_of(alloc: Global, lines: Rest<'_>) -> Result<List<ReadBlock>, Stopped<()>>
     ensures plans { IfOk result (IsPlansOf lines.entry) }
@@ -82,6 +93,6 @@ fn ended(list: List<ReadBlock>, rest: Rest<'_>) -> Result<List<ReadBlock>, Stopp
     if following == 0 {
         Ok(list)
     } else {
-        Err(offence(following))
+        Err(offence((), following))
     }
 }

@@ -5,8 +5,8 @@ ghost use Rattle.line_grammar.specs.Reading.{Gives, row_at};
 ghost use Rattle.plan_out.specs.Reading.{plan_in, ops_in, step_in, cost_in, steps_at, block_at};
 
 use crate::blocks::ReadBlock;
-use crate::line::{cost_in, is_numbered, operators_in, step_in};
-use crate::rest::{Rest, first_line, offence};
+use crate::line::{cost_in, operators_in, step_in};
+use line_fields::{Rest, first_line, is_numbered, offence};
 use line_grammar::Stopped;
 use std::alloc::Global;
 use symk_task::{List, Name, Plan};
@@ -21,10 +21,10 @@ fn plan_of(number: u64, lines: Rest<'_>) -> Result<Rest<'_>, Stopped<()>>
             if is_numbered(line, b"; plan ", number) {
                 Ok(rest)
             } else {
-                Err(offence(left))
+                Err(offence((), left))
             }
         }
-        None => Err(offence(left)),
+        None => Err(offence((), left)),
     }
 }
 
@@ -36,9 +36,9 @@ fn operators_of(alloc: Global, lines: Rest<'_>) -> Result<(Plan, Rest<'_>), Stop
     match first_line(lines) {
         Some((line, rest)) => match operators_in(alloc, line)? {
             Some(operators) => Ok((operators, rest)),
-            None => Err(offence(left)),
+            None => Err(offence((), left)),
         },
-        None => Err(offence(left)),
+        None => Err(offence((), left)),
     }
 }
 
@@ -53,9 +53,9 @@ fn name_of(alloc: Global, lines: Rest<'_>) -> Result<(Name, Rest<'_>), Stopped<(
                 let name = Name::of(Vec::from_slice(alloc, name)?);
                 Ok((name, rest))
             }
-            None => Err(offence(left)),
+            None => Err(offence((), left)),
         },
-        None => Err(offence(left)),
+        None => Err(offence((), left)),
     }
 }
 
@@ -85,9 +85,9 @@ fn cost_of(lines: Rest<'_>) -> Result<((u64, bool), Rest<'_>), Stopped<()>>
     match first_line(lines) {
         Some((line, rest)) => match cost_in(line) {
             Some(cost) => Ok((cost, rest)),
-            None => Err(offence(left)),
+            None => Err(offence((), left)),
         },
-        None => Err(offence(left)),
+        None => Err(offence((), left)),
     }
 }
 

@@ -1,5 +1,5 @@
 use Rattle.std.proofs.Common.{arith}
-use Rattle.plan_out.proofs.Fronts.{operator_found, operator_large, operator_missing}
+use Rattle.plan_out.proofs.OneOperator.{operator_found, operator_large, operator_missing}
 use Rattle.plan_out.proofs.line.operator_then.Goals as goal
 
 pub returns-in-Ok : goal.returns-in-Ok

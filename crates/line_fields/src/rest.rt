@@ -1,10 +1,9 @@
 //! The lines that are left to read.
 
-ghost use Rattle.std.specs.Prelude.{◌≡◌, ◌==◌, ℕ, List, [], ◌∷◌, length, MatchOption};
-ghost use Rattle.plan_out.specs.Reading.{begins_with_end};
+ghost use Rattle.std.specs.Prelude.{◌≡◌, ◌==◌, ℕ, List, [], ◌∷◌, length, drop, MatchOption};
 ghost use Rattle.line_grammar.specs.declared.Stopped.TheVariants as stopped;
+ghost use Rattle.symk_text.specs.Lines.{IsLine};
 
-use crate::line::is_end;
 use line_grammar::{Offence, Stopped};
 use std::marker::Model;
 use symk_text::Line;
@@ -35,6 +34,16 @@ impl<'a> Rest<'a> {
         self.lines.len()
     }
 
+    /// The first line, if one is left.
+    pub fn first(&self) -> Option<&[u8]>
+        ensures { MatchOption result (self.now ≡ []) (λ line. self.now ≡ line.now ∷ drop 1 self.now) }
+    {
+        match self.lines {
+            [line, ..] => Some(line.as_slice()),
+            [] => None,
+        }
+    }
+
     /// Whether no line is left.
     pub fn is_empty(&self) -> bool
         ensures { result ≡ (length self.now == 0) }
@@ -45,7 +54,7 @@ impl<'a> Rest<'a> {
 
 /// The first line, and the lines after it.
 pub fn first_line(rest: Rest<'_>) -> Option<(&[u8], Rest<'_>)>
-    ensures { MatchOption result (rest.entry ≡ []) (λ x. rest.entry ≡ x.0.now ∷ x.1) }
+    ensures { MatchOption result (rest.entry ≡ []) (λ x. (rest.entry ≡ x.0.now ∷ x.1) × IsLine x.0.now) }
 {
     match rest.lines {
         [line, after @ ..] => Some((line.as_slice(), Rest { lines: after })),
@@ -54,18 +63,8 @@ pub fn first_line(rest: Rest<'_>) -> Option<(&[u8], Rest<'_>)>
 }
 
 /// The first of so many lines that are left isn't what is wanted, or is missing.
-pub fn offence(left: usize) -> Stopped<()>
-    ensures { result ≡ stopped.Offence (record { wanted = tt; left = left }) }
+pub fn offence<S>(wanted: S, left: usize) -> Stopped<S>
+    ensures { result ≡ stopped.Offence (record { wanted = wanted; left = left }) }
 {
-    Stopped::Offence(Offence { wanted: (), left })
-}
-
-/// Whether the first line ends a list of so many blocks.
-pub fn begins_with_end(rest: &Rest<'_>, blocks: u64) -> bool
-    ensures { result ≡ begins_with_end blocks rest.now }
-{
-    match rest.lines {
-        [line, ..] => is_end(line.as_slice(), blocks),
-        [] => false,
-    }
+    Stopped::Offence(Offence { wanted, left })
 }

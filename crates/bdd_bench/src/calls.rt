@@ -1,6 +1,6 @@
 //! The operations on Ids that come from lists and structs, of which no contract says that the table has them.
 
-ghost use Rattle.std.specs.Prelude.{◌≡◌, ℕ, ◌<◌, length, IfOk};
+ghost use Rattle.std.specs.Prelude.{◌≡◌, ℕ, ◌<◌, length, IfOk, EachIndex, slice_index};
 
 use bdd_ops::Ops;
 use bdd_table::{FALSE, Id, TableFault};
@@ -13,6 +13,15 @@ pub fn known(ops: &Ops, id: Id) -> Id
         id
     } else {
         FALSE
+    }
+}
+
+/// Puts false in place of each Id that the table doesn't have.
+pub fn known_all(ops: &Ops, ids: &mut [Id])
+    ensures { EachIndex ids.new (λ i. slice_index ids.new i < length ops.now) }
+{
+    'ids: for i in 0..ids.len() {
+        ids[i] = known(ops, ids[i]);
     }
 }
 

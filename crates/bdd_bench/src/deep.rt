@@ -48,5 +48,8 @@ pub fn deep(ops: &mut Ops, n: u16) -> Result<Made, TableFault> {
     let first = image(ops, &step, both)?;
     let again = image(ops, &step, first)?;
     let set = disj(ops, first, again)?;
-    Ok(Made { set, rounds: 2 })
+    Ok(Made {
+        rounds: 2,
+        ..Made::of(set)
+    })
 }

@@ -46,7 +46,7 @@ fn run(rt: &HostRuntime, work: Work) -> io::Result<()> {
     let all = ops.table().held();
     let root = known(&ops, made.set);
     let nodes = of_root(&mut ops, root)?;
-    let rounds = made.rounds;
+    let (rounds, collected) = (made.rounds, made.collected);
     println!(rt; "rounds {rounds} nodes {nodes}")?;
-    eprintln!(rt; "microseconds {took} table {all}")
+    eprintln!(rt; "microseconds {took} table {all} collected {collected}")
 }

@@ -96,7 +96,7 @@ pub fn queens(ops: &mut Ops, n: u16) -> Result<Made, TableFault> {
         boards = place_row(ops, n, row, boards)?;
     }
     Ok(Made {
-        set: boards,
         rounds: u32::from(n),
+        ..Made::of(boards)
     })
 }

@@ -26,11 +26,23 @@ pub struct Work {
     pub cache: u32,
 }
 
-/// The last diagram of a work, and how many rounds it took.
+/// The last diagram of a work, how many rounds it took, and how many times the table was collected in them.
 #[derive(Clone, Copy, Debug, PartialEq, Eq)]
 pub struct Made {
     pub set: Id,
     pub rounds: u32,
+    pub collected: u32,
+}
+
+impl Made {
+    /// A diagram before the first round.
+    pub fn of(set: Id) -> Made {
+        Made {
+            set,
+            rounds: 0,
+            collected: 0,
+        }
+    }
 }
 
 /// The work that the words name, None where they name none.

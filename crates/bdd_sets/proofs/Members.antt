@@ -54,9 +54,15 @@ ended nodes b id r le = go id le
     go (suc zero) h = means_true nodes r b
     go (suc (suc id)) h = absurd (omega (arith, h))
 
-pub walked : (o : Layout) (nodes : List Node) (set id : ℕ) (s : List ℕ) → IsLayout o → IsReduced nodes → IsStateOf o s → IsSetOfStates o nodes set → id ≤ 1
-    → ((b : Bits) → IsCode o 0 s b → means nodes set (plain o b) ≡ means nodes id (plain o b)) → IsTrue (eqb id 1) ↔ Has o nodes set s
-walked o nodes set id s l r state of_states le same = (
-  (λ is b code. of_states b (plain o b) (λ place lt. sym (plain_at o b place lt)) ∙ same b code ∙ ended nodes (plain o b) id r le ∙ is),
-  (λ has. (let some = coded o s l state in sym (same some.0 some.1 ∙ ended nodes (plain o some.0) id r le) ∙ has (plain o some.0) (plain_code o s some.0 l some.1))),
+-- what the walk ends with
+pub walked : (o : Layout) (nodes : List Node) (set id : ℕ) (s : List ℕ) → IsReduced nodes → id ≤ 1
+    → ((b : Bits) → IsCode o 0 s b → means nodes set (plain o b) ≡ means nodes id (plain o b)) → (b : Bits) → IsCode o 0 s b → means nodes set (plain o b) ≡ eqb id 1
+walked o nodes set id s r le same b code = same b code ∙ ended nodes (plain o b) id r le
+
+-- of a set of states the plain bits tell what it has
+pub walked_states : (o : Layout) (nodes : List Node) (set : ℕ) (s : List ℕ) (holds : Bool) → IsLayout o → IsStateOf o s
+    → ((b : Bits) → IsCode o 0 s b → means nodes set (plain o b) ≡ holds) → IsSetOfStates o nodes set → IsTrue holds ↔ Has o nodes set s
+walked_states o nodes set s holds l state is of_states = (
+  (λ yes b code. of_states b (plain o b) (λ place lt. sym (plain_at o b place lt)) ∙ is b code ∙ yes),
+  (λ has. (let some = coded o s l state in sym (is some.0 some.1) ∙ has (plain o some.0) (plain_code o s some.0 l some.1))),
 )

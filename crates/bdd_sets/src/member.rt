@@ -10,12 +10,13 @@ use bdd_table::{Id, TRUE};
 use symk_task::State;
 use var_order::Order;
 
-/// Whether the set has the state. It goes down one path of the diagram, and allocates nothing.
+/// Whether the Id holds for the bits of the state, with false at every level that is of none of them: whether it has the state,
+/// if it is a set of states. It goes down one path of the diagram, and allocates nothing.
 pub fn has(ops: &Ops, order: &Order, set: Id, state: &State) -> bool
     requires set { set < length ops.now }
-    requires states { IsSetOfStates order.now ops.now set }
     requires state { IsStateOf order.now state.now }
-    ensures { IsTrue result ↔ Has order.now ops.now set state.now }
+    ensures bits { (b : Bits) → IsCode order.now 0 state.now b → means ops.now set (plain order.now b) ≡ result }
+    ensures states { IsSetOfStates order.now ops.now set → (IsTrue result ↔ Has order.now ops.now set state.now) }
 {
     let _ = order.blocks();
     let table = ops.table();

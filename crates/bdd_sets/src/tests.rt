@@ -1,5 +1,4 @@
 ghost use Rattle.std.specs.Prelude.{◌<◌, length};
-ghost use Rattle.bdd_sets.specs.Sets.{IsSetOfStates};
 
 use crate::*;
 use bdd_ops::Ops;
@@ -65,8 +64,7 @@ fn has_values(
     set: Id,
     values: &[u32],
 ) -> Result<bool, Memory>
-    requires set { set < length ops.now }
-    requires states { IsSetOfStates order.now ops.now set }
+    requires { set < length ops.now }
 {
     let state = state(rt, alloc, order, values)?;
     assert!(rt; order.is_state(&state));

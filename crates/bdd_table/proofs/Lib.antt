@@ -7,3 +7,4 @@ pub mod Moving
 pub mod Counting
 pub mod Collecting
 pub mod Growing
+pub mod Witness

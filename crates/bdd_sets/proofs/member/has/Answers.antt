@@ -1,7 +1,7 @@
 use Rattle.std.proofs.Common.{◌≡◌, ◌∙◌, ◌<◌, List, length, subst}
 use Rattle.bdd_table.specs.declared.node.Node.{Node}
 use Rattle.bdd_sets.specs.Sets.{plain}
-use Rattle.bdd_sets.proofs.Members.{went_hi, went_lo, walked}
+use Rattle.bdd_sets.proofs.Members.{went_hi, went_lo, walked, walked_states}
 use Rattle.bdd_sets.proofs.member.has.Goals as goal
 
 pub loop-id-preserved-then-bit_at : goal.loop-id-preserved-then-bit_at
@@ -24,5 +24,9 @@ loop-id-preserved c =
           (c.bit_at.ensures b code ∙ c.if-bit_at.false) c.lo-id.ensures.value;
     }
 
-pub returns : goal.returns
-returns c = walked c.args.order.now c.args.ops.now c.args.set c.loop-id.id c.args.state.now c.blocks-2.ensures.layout c.table-table.ensures.reduced c.requires.state c.requires.states c.loop-id-test.false c.loop-id.invariant.same
+pub returns-clause-bits : goal.returns-clause-bits
+returns-clause-bits c = walked c.args.order.now c.args.ops.now c.args.set c.loop-id.id c.args.state.now c.table-table.ensures.reduced c.loop-id-test.false c.loop-id.invariant.same
+
+pub returns-clause-states : goal.returns-clause-states
+returns-clause-states c = walked_states c.args.order.now c.args.ops.now c.args.set c.args.state.now _ c.blocks-2.ensures.layout c.requires.state
+    (walked c.args.order.now c.args.ops.now c.args.set c.loop-id.id c.args.state.now c.table-table.ensures.reduced c.loop-id-test.false c.loop-id.invariant.same)

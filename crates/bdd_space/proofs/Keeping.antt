@@ -45,6 +45,7 @@ space_grown e start new i k r = record {
   own = own_grown e.task e.order e.nodes new e.own k i.own;
   relations = relations_kept e.task e.order e.nodes new e.relations k i.relations;
   sets = λ a. set_grown e.order e.nodes new (set_at e.sets a) k (i.sets a);
+  steps = i.steps;
   initial = i.initial;
 }
 
@@ -91,6 +92,7 @@ module _ (e : Symbolic) (id r : ℕ) (new : List Slot) (puts : Puts e.sets id ne
     own = i.own;
     relations = i.relations;
     sets = sets_put known i.sets;
+    steps = i.steps;
     initial = i.initial;
   }
 

@@ -9,3 +9,4 @@ pub mod Moved
 pub mod Calls
 pub mod Begun
 pub mod Tidying
+pub mod Missed

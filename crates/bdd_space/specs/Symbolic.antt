@@ -11,6 +11,8 @@ use Rattle.var_order.specs.Layout.{Layout, IsOrderOf}
 use Rattle.operator_relations.specs.declared.relations.OperatorRelations.{OperatorRelations}
 use Rattle.operator_relations.specs.Relations.{AreRelationsOf}
 use Rattle.operator_relations.specs.Roots.{roots_of as relation_roots}
+use Rattle.set_values.specs.declared.stepping.StepFacts.{StepFacts}
+use Rattle.set_values.specs.Steps.{AreStepFacts}
 use Rattle.bdd_space.specs.declared.slots.Slot.{Slot}
 use Rattle.bdd_space.specs.declared.symbolic.Own.{Own}
 use Rattle.bdd_space.specs.Slots.{set_at, root_of}
@@ -22,6 +24,7 @@ pub record Symbolic : Type 0 where
   pub nodes : List Node
   pub own : Own
   pub relations : OperatorRelations
+  pub steps : StepFacts
   pub sets : List Slot
   pub last : ℕ
 
@@ -47,6 +50,7 @@ pub record IsSpace (e : Symbolic) (start : List ℕ) : Type 0 where
   pub reduced : IsReduced e.nodes
   pub own : OwnAre e.task e.order e.nodes e.own
   pub relations : AreRelationsOf e.task e.order e.nodes e.relations
+  pub steps : AreStepFacts e.task e.steps
   pub sets : AreSets e.order e.nodes e.sets
   pub initial : IsInitial e.task start
 

@@ -1,12 +1,16 @@
 //! What is asked of sets.
 
-ghost use Rattle.std.specs.Prelude.{◌≡◌, ◌<◌, ◌↔◌, IsTrue, IsFalse};
+ghost use Rattle.std.specs.Prelude.{◌≡◌, ◌<◌, ◌↔◌, IsTrue, IsFalse, IfOk};
 ghost use Rattle.space_api.specs.View.{Valid, HasMember, IsEmpty, HasSame};
+ghost use Rattle.space_api.specs.Operators.{LeadInto, LeadFrom};
 ghost use Rattle.bdd_space.specs.Seen.{seen};
 
 use crate::symbolic::BddSpace;
 use bdd_sets::has;
 use bdd_table::FALSE;
+use set_values::{leading_from, leading_into};
+use std::alloc::Global;
+use symk_task::Memory;
 
 impl<'a> BddSpace<'a> {
     /// Whether the set has no state.
@@ -39,5 +43,25 @@ impl<'a> BddSpace<'a> {
     {
         let set = self.id(a);
         has(&self.ops, &self.order, set, &self.initial)
+    }
+
+    /// The operators that may lead into the set.
+    pub(crate) fn leading_in(&self, alloc: Global, a: usize) -> Result<Vec<u32>, Memory>
+        requires { Valid (seen self.now) a }
+        ensures { IfOk result (λ ops. LeadInto (seen self.now) a ops.items) }
+    {
+        let set = self.id(a);
+        let table = self.ops.table();
+        leading_into(alloc, self.task, table, &self.order, &self.steps, set)
+    }
+
+    /// The operators that may apply in states of the set.
+    pub(crate) fn leading_out(&self, alloc: Global, a: usize) -> Result<Vec<u32>, Memory>
+        requires { Valid (seen self.now) a }
+        ensures { IfOk result (λ ops. LeadFrom (seen self.now) a ops.items) }
+    {
+        let set = self.id(a);
+        let table = self.ops.table();
+        leading_from(alloc, self.task, table, &self.order, &self.steps, set)
     }
 }

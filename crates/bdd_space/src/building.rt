@@ -17,6 +17,7 @@ use bdd_ops::Ops;
 use bdd_sets::{state_set, valid_set};
 use bdd_table::Table;
 use operator_relations::OperatorRelations;
+use set_values::StepFacts;
 use std::alloc::Global;
 use symk_task::{Memory, State, Task};
 use var_order::Order;
@@ -53,7 +54,7 @@ fn own_sets(
 }
 
 impl<'a> BddSpace<'a> {
-    /// The space of the task, with no valid set. The relations of operators of one cost are joined, in the order of the
+    /// The space of the task, with no valid set. The relations of operators of one cost are joined by halves, in the order of the
     /// operators, while a joined one has at most 4,096 nodes.
     pub fn of(alloc: Global, task: &'a Task) -> Result<BddSpace<'a>, Memory>
         ensures task { IfOk result (λ space. space.task ≡ task.now) }
@@ -77,6 +78,7 @@ impl<'a> BddSpace<'a> {
             &derived,
             JOINED_NODES,
         )?;
+        let steps = StepFacts::of(alloc, task)?;
         let sets = Slots::new(alloc);
         Ok(BddSpace {
             task,
@@ -85,6 +87,7 @@ impl<'a> BddSpace<'a> {
             ops,
             own,
             relations,
+            steps,
             sets,
             last: 0,
         })

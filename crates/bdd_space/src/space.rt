@@ -8,10 +8,12 @@ ghost use Rattle.space_api.specs.Frames.{Kept, NoMore, Gives, Forgot, Stays};
 ghost use Rattle.space_api.specs.Tidied.{Tidied, SameRoom};
 ghost use Rattle.space_api.specs.Listing.{ListsReached};
 ghost use Rattle.space_api.specs.Costs.{costs_of};
+ghost use Rattle.space_api.specs.Operators.{LeadInto, LeadFrom};
 ghost use Rattle.bdd_space.specs.Seen.{seen, Needs};
 
 use crate::symbolic::BddSpace;
 use space_api::{Space, SpaceFault};
+use std::alloc::Global;
 use symk_task::Fact;
 
 impl<'a> Space for BddSpace<'a> {
@@ -129,5 +131,16 @@ impl<'a> Space for BddSpace<'a> {
 
     fn cost_of(&self, op: u32) -> u64 {
         self.task.cost(op)
+    }
+
+    /// The operators whose facts after a step all have values that occur in the set: the value that an effect without
+    /// conditions leaves, if no later effect is on its variable, and conditions on variables that no effect is on.
+    fn operators_into(&self, alloc: Global, a: usize) -> Result<Vec<u32>, SpaceFault> {
+        self.leading_in(alloc, a)
+    }
+
+    /// The operators whose conditions on base variables all have values that occur in the set.
+    fn operators_from(&self, alloc: Global, a: usize) -> Result<Vec<u32>, SpaceFault> {
+        self.leading_out(alloc, a)
     }
 }

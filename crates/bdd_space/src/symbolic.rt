@@ -4,6 +4,7 @@ use crate::slots::Slots;
 use bdd_ops::Ops;
 use bdd_table::{FALSE, Id};
 use operator_relations::OperatorRelations;
+use set_values::StepFacts;
 use std::marker::Model;
 use symk_task::{Memory, State, Task};
 use var_order::Order;
@@ -17,6 +18,8 @@ pub struct BddSpace<'a> {
     pub(crate) ops: Ops,
     pub(crate) own: Own,
     pub(crate) relations: OperatorRelations,
+    /// What the operators ask for, and what they leave.
+    pub(crate) steps: StepFacts,
     pub(crate) sets: Slots,
     /// How many nodes were needed after the last collection.
     pub(crate) last: usize,
@@ -38,9 +41,9 @@ impl<'a> Model for BddSpace<'a> {
 
     ghost Value = { Symbolic };
 
-    ghost view = { λ a. record { task = a.task.now; order = a.order; nodes = a.ops; own = a.own; relations = a.relations; sets = a.sets.slots.items; last = a.last } };
+    ghost view = { λ a. record { task = a.task.now; order = a.order; nodes = a.ops; own = a.own; relations = a.relations; steps = a.steps; sets = a.sets.slots.items; last = a.last } };
 
-    ghost invariant = { λ a. IsSpace (record { task = a.task.now; order = a.order; nodes = a.ops; own = a.own; relations = a.relations; sets = a.sets.slots.items; last = a.last }) a.initial };
+    ghost invariant = { λ a. IsSpace (record { task = a.task.now; order = a.order; nodes = a.ops; own = a.own; relations = a.relations; steps = a.steps; sets = a.sets.slots.items; last = a.last }) a.initial };
 }
 
 ghost use Rattle.std.specs.Prelude.{◌≡◌, ◌<◌, ◌↔◌, ℕ, Some, length, IsTrue, IfOk, OnErr};

@@ -159,6 +159,34 @@ fn cost_one_leads_on_from_off_and_the_second_operator_leads_off_from_on_alone(
     Ok(())
 }
 
+fn matter<S: Space>(rt: &impl Abort, alloc: Global, space: &mut S) -> Result<(), SpaceFault> {
+    let init = space.init()?;
+    assert_eq!(rt;
+        space.operators_into(alloc, init)?.as_slice(),
+        [1].as_slice()
+    );
+    assert_eq!(rt;
+        space.operators_from(alloc, init)?.as_slice(),
+        [0].as_slice()
+    );
+    let all = space.all()?;
+    assert_eq!(rt;
+        space.operators_into(alloc, all)?.as_slice(),
+        [0, 1].as_slice()
+    );
+    Ok(())
+}
+
+#[test]
+fn the_second_operator_alone_may_lead_to_off_and_the_first_alone_from_it(
+    rt: HostRuntime,
+) -> Result<(), Fail> {
+    let alloc = rt.alloc();
+    let task = switch(&rt, alloc)?;
+    matter(&rt, alloc, &mut BddSpace::of(alloc, &task)?)?;
+    Ok(())
+}
+
 fn joined<S: Space>(rt: &impl Abort, space: &mut S) -> Result<(), SpaceFault> {
     let init = space.init()?;
     let all = space.all()?;

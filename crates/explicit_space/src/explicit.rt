@@ -35,6 +35,7 @@ ghost use Rattle.space_api.specs.View.{View, Valid, Has, HasMember, IsEmpty, Has
 ghost use Rattle.space_api.specs.Frames.{Kept, NoMore, Gives, Forgot};
 ghost use Rattle.space_api.specs.Listing.{ListsReached};
 ghost use Rattle.space_api.specs.Costs.{costs_of};
+ghost use Rattle.space_api.specs.Operators.{LeadInto, LeadFrom};
 ghost use Rattle.explicit_space.specs.Members.{has_state, AreStates, HasThose};
 ghost use Rattle.explicit_space.specs.Explicit.{set_at};
 ghost use Rattle.explicit_space.specs.Seen.{seen};
@@ -43,7 +44,7 @@ use crate::facts::fact_states;
 use crate::members::{difference, intersection, is_subset, single, union};
 use crate::states::all_states;
 use crate::steps::{cost_image, cost_preimage, goal_states, image, preimage};
-use space_api::{Space, SpaceFault, operator_costs};
+use space_api::{Space, SpaceFault, all_operators, operator_costs};
 use symk_task::Fact;
 
 impl<'a> ExplicitSpace<'a> {
@@ -314,5 +315,17 @@ impl<'a> Space for ExplicitSpace<'a> {
 
     fn cost_of(&self, op: u32) -> u64 {
         self.task.cost(op)
+    }
+
+    /// Every operator, whatever the set.
+    fn operators_into(&self, alloc: Global, a: usize) -> Result<Vec<u32>, SpaceFault> {
+        let _ = a;
+        all_operators(alloc, self.task.operators())
+    }
+
+    /// Every operator, whatever the set.
+    fn operators_from(&self, alloc: Global, a: usize) -> Result<Vec<u32>, SpaceFault> {
+        let _ = a;
+        all_operators(alloc, self.task.operators())
     }
 }

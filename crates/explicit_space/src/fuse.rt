@@ -7,9 +7,10 @@ ghost use Rattle.space_api.specs.View.{View, Valid, GoalIn, FactIn, Unites, Meet
 ghost use Rattle.space_api.specs.Frames.{Kept, NoMore, Gives, Forgot, Stays};
 ghost use Rattle.space_api.specs.Tidied.{Tidied, SameRoom};
 ghost use Rattle.space_api.specs.Listing.{ListsReached};
+ghost use Rattle.space_api.specs.Operators.{LeadInto, LeadFrom};
 
 use space_api::{Space, SpaceFault};
-use std::alloc::AllocError;
+use std::alloc::{AllocError, Global};
 use symk_task::Fact;
 
 /// A space over another, for callers who want to see what stands after a refusal.
@@ -284,5 +285,13 @@ impl<S: Space> Space for FuseSpace<S> {
 
     fn cost_of(&self, op: u32) -> u64 {
         self.inner.cost_of(op)
+    }
+
+    fn operators_into(&self, alloc: Global, a: S::Set) -> Result<Vec<u32>, SpaceFault> {
+        self.inner.operators_into(alloc, a)
+    }
+
+    fn operators_from(&self, alloc: Global, a: S::Set) -> Result<Vec<u32>, SpaceFault> {
+        self.inner.operators_from(alloc, a)
     }
 }

@@ -13,7 +13,7 @@ use Rattle.transitions.proofs.TouchedPlaces.{filter_below, kept_next, left_next}
 use Rattle.trans_merge.specs.Merging.{IsRelation}
 use Rattle.operator_relations.specs.Gathered.{AreSingle}
 use Rattle.operator_relations.specs.Copies.{IsCopy, TakesTurn}
-use Rattle.operator_relations.specs.Greedy.{operators_below, operators_of, AreCopies}
+use Rattle.operator_relations.specs.Halves.{operators_below, operators_of, AreCopies}
 use Rattle.operator_relations.proofs.OfCost.{below_or_at, copy_has}
 
 pub copies_none : (single : List Relation) → AreCopies single [] []

@@ -6,5 +6,5 @@ pub mod Rooting
 pub mod OfCost
 pub mod Appended
 pub mod Copied
-pub mod Walked
+pub mod Halving
 pub mod Answering

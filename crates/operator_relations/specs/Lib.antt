@@ -4,4 +4,4 @@ pub mod Relations
 pub mod Roots
 pub mod Asked
 pub mod Copies
-pub mod Greedy
+pub mod Halves

@@ -9,7 +9,7 @@ use Rattle.var_order.specs.Layout.{Layout, IsOrderOf}
 use Rattle.transitions.specs.Relations.{IsSet}
 use Rattle.operator_relations.specs.declared.relations.OperatorRelations.{OperatorRelations}
 use Rattle.operator_relations.specs.Gathered.{AreSingle, AreJoined}
-use Rattle.operator_relations.specs.Greedy.{AreGreedy}
+use Rattle.operator_relations.specs.Halves.{AreHalved}
 
 -- The costs are the operators' different ones, rising. Each operator has its relation, and the joined relations of a cost have
 -- the steps of the operators of that cost, and no others.
@@ -19,9 +19,9 @@ pub record AreRelationsOf (task : TaskParts) (o : Layout) (nodes : List Node) (r
   pub single : AreSingle task o nodes r.single.items
   pub joined : AreJoined task o nodes r.costs.items (length r.costs.items) r.starts.items r.joined.items
 
--- the joined relations of every cost are those of the walk over the operators' own ones, with this bound of nodes
+-- the joined relations of every cost are those that joining the operators' own ones by halves gives, with this bound of nodes
 abbrev pub AreJoinedWithin : TaskParts → Layout → ℕ → List Node → OperatorRelations → Type 0
-AreJoinedWithin task o bound nodes r = AreGreedy task o bound nodes r.single.items r.costs.items (length r.costs.items) r.starts.items r.joined.items
+AreJoinedWithin task o bound nodes r = AreHalved task o bound nodes r.single.items r.costs.items (length r.costs.items) r.starts.items r.joined.items
 
 -- the relations are those of the task's operators, and the Id is a set of states
 pub record AreAsked (task : TaskParts) (o : Layout) (nodes : List Node) (r : OperatorRelations) (set : ℕ) : Type 0 where

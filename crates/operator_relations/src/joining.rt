@@ -4,7 +4,7 @@ ghost use Rattle.std.specs.Prelude.{◌≡◌, ◌≤◌, ◌++◌, length, IfOk
 ghost use Rattle.bdd_table.specs.Diagram.{Keeps, IsReduced};
 ghost use Rattle.operator_relations.specs.Steps.{StepOfCost, HaveSteps};
 ghost use Rattle.operator_relations.specs.Gathered.{AreSingle, AreJoined};
-ghost use Rattle.operator_relations.specs.Greedy.{AreGreedyOf, AreGreedy};
+ghost use Rattle.operator_relations.specs.Halves.{AreHalvedOf, AreHalved};
 
 use crate::members::members_of_cost;
 use bdd_ops::Ops;
@@ -15,7 +15,7 @@ use trans_merge::merge;
 use transitions::Relation;
 use var_order::Order;
 
-/// The relations of the operators that have the cost, each joined into the last one as long as that has at most `bound` nodes.
+/// The relations of the operators that have the cost, joined by halves as long as a joined one has at most `bound` nodes.
 fn joined_of_cost(
     alloc: Global,
     task: &Task,
@@ -27,7 +27,7 @@ fn joined_of_cost(
 ) -> Result<Vec<Relation>, TableFault>
     requires { AreSingle task.now order.now ops.old single.now }
     ensures have { IfOk result (λ rs. HaveSteps order.now ops.new (StepOfCost task.now cost) rs.items) }
-    ensures greedy { IfOk result (λ rs. AreGreedyOf task.now order.now bound ops.new single.now cost rs.items) }
+    ensures halved { IfOk result (λ rs. AreHalvedOf task.now order.now bound ops.new single.now cost rs.items) }
     ensures kept { Keeps ops.old ops.new }
     ensures reduced { IsReduced ops.new }
 {
@@ -48,7 +48,7 @@ pub fn joined_by_cost(
 ) -> Result<(Vec<Relation>, Vec<usize>), TableFault>
     requires { AreSingle task.now order.now ops.old single.now }
     ensures joined { IfOk result (λ r. AreJoined task.now order.now ops.new costs.now (length costs.now) r.1.items r.0.items) }
-    ensures greedy { IfOk result (λ r. AreGreedy task.now order.now bound ops.new single.now costs.now (length costs.now) r.1.items r.0.items) }
+    ensures halved { IfOk result (λ r. AreHalved task.now order.now bound ops.new single.now costs.now (length costs.now) r.1.items r.0.items) }
     ensures kept { Keeps ops.old ops.new }
     ensures reduced { IsReduced ops.new }
 {

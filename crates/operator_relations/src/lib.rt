@@ -5,7 +5,7 @@
 //! that each operator's relation has exactly its steps, that the relations of a cost together have exactly the steps of the
 //! operators of that cost, and that the costs are the different ones of the operators, rising (`specs/Relations.antt`); and
 //! that the relations of a cost are the results of `merge` over copies of those of its operators, in their order
-//! (`specs/Greedy.antt`). `image_op` and `pre_op` name exactly the states that one operator leads to from a set, and from which
+//! (`specs/Halves.antt`). `image_op` and `pre_op` name exactly the states that one operator leads to from a set, and from which
 //! it leads into the set; `image_cost` and `pre_cost` those by the operators of a cost, and none where no operator has it. An
 //! image makes nothing but nodes. `push_roots` and `take_roots` are for a collection of the table: whoever collects puts the
 //! roots into its list and takes them back from there, moved, and then the relations are those of the same task over the new

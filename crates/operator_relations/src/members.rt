@@ -8,7 +8,7 @@ ghost use Rattle.transitions.specs.Ready.{IsReady};
 ghost use Rattle.operator_relations.specs.Steps.{StepOfCost, HaveSteps};
 ghost use Rattle.operator_relations.specs.Gathered.{AreSingle};
 ghost use Rattle.operator_relations.specs.Copies.{IsCopy, TakesTurn};
-ghost use Rattle.operator_relations.specs.Greedy.{operators_of, AreCopies};
+ghost use Rattle.operator_relations.specs.Halves.{operators_of, AreCopies};
 
 use std::alloc::Global;
 use symk_task::{Memory, Task};

@@ -39,9 +39,10 @@ pub struct OperatorRelations {
 }
 
 impl OperatorRelations {
-    /// The relations of the task's operators. Relations of one cost are joined in the order of the operators, each into the
-    /// last joined one as long as that has at most `bound` nodes afterwards, those counted that its root reaches, without the
-    /// constants; else it begins a new one. Relations of different costs are never joined.
+    /// The relations of the task's operators. Relations of one cost are joined by halves, in the order of the operators: what comes
+    /// of the first half stands before what comes of the second, but where each half comes to one relation and both joined
+    /// have at most `bound` nodes, those counted that the root reaches, without the constants, the joined one stands for all.
+    /// Relations of different costs are never joined.
     pub fn of(
         alloc: Global,
         task: &Task,
@@ -53,7 +54,7 @@ impl OperatorRelations {
         requires order { IsOrderOf task.now order.now }
         requires roots { AreRoots task.now order.now ops.old derived.now }
         ensures relations { IfOk result (AreRelationsOf task.now order.now ops.new) }
-        ensures greedy { IfOk result (AreJoinedWithin task.now order.now bound ops.new) }
+        ensures halved { IfOk result (AreJoinedWithin task.now order.now bound ops.new) }
         ensures kept { Keeps ops.old ops.new }
         ensures reduced { IsReduced ops.new }
     {

@@ -4,3 +4,4 @@ pub mod OneMore
 pub mod Cutting
 pub mod Settled
 pub mod Sides
+pub mod Listed

@@ -3,7 +3,9 @@ pub mod CostSet
 pub mod Runs
 pub mod Listing
 pub mod Facts
+pub mod AllLead
 pub mod Missed
 pub mod Keeping
 pub mod Owning
 pub mod Trading
+pub mod Rising

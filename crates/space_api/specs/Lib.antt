@@ -4,3 +4,4 @@ pub mod Owned
 pub mod Listing
 pub mod Costs
 pub mod Tidied
+pub mod Operators

@@ -9,7 +9,9 @@ ghost use Rattle.space_api.specs.Frames.{Kept, NoMore, Gives, Forgot, Stays};
 ghost use Rattle.space_api.specs.Tidied.{Tidied, SameRoom};
 ghost use Rattle.space_api.specs.Listing.{ListsReached};
 ghost use Rattle.space_api.specs.Costs.{costs_of};
+ghost use Rattle.space_api.specs.Operators.{LeadInto, LeadFrom};
 
+use std::alloc::Global;
 use symk_task::{Fact, Memory};
 
 /// Why a call of a space is refused: want of memory alone.
@@ -199,6 +201,16 @@ pub trait Space {
     fn cost_of(&self, op: u32) -> u64
         requires { op < (view self.now).system.operators }
         ensures { result ≡ (view self.now).system.cost op };
+
+    /// The operators that may lead into `a`, rising: each that leads from some state to one of `a`, and perhaps others.
+    fn operators_into(&self, alloc: Global, a: Self::Set) -> Result<Vec<u32>, SpaceFault>
+        requires { Valid (view self.now) a }
+        ensures { IfOk result (λ ops. LeadInto (view self.now) a ops.items) };
+
+    /// The operators that may apply in states of `a`, rising: each that leads on from a state of `a`, and perhaps others.
+    fn operators_from(&self, alloc: Global, a: Self::Set) -> Result<Vec<u32>, SpaceFault>
+        requires { Valid (view self.now) a }
+        ensures { IfOk result (λ ops. LeadFrom (view self.now) a ops.items) };
 
     /// The system is that of the task.
     ghost of_task: { (x : Self) → (view x).system ≡ system_of (view x).task };

@@ -5,6 +5,6 @@ pub mod WiderSteps
 pub mod Joined
 pub mod Visiting
 pub mod Merged
-pub mod LastOf
+pub mod Found
 pub mod Unions
-pub mod Greedy
+pub mod Halved

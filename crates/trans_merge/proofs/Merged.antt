@@ -1,17 +1,16 @@
 -- Merged relations, from one more.
 use Rattle.std.proofs.Common.{◌≡◌, ℕ, zero, suc, ◌<◌, ◌↔◌, ◌⊎◌, inl, inr, Bool, List, [], ◌∷◌, ◌++◌, length, get_or, refl, sym, ◌∙◌, ap, subst, arith}
 use Rattle.std.specs.List.{All}
-use Rattle.std.proofs.lemmas.List.{append_assoc, length-append}
+use Rattle.std.proofs.lemmas.List.{append_assoc, append-nil, length-append}
 use Rattle.bdd_table.specs.declared.node.Node.{Node}
 use Rattle.bdd_table.specs.Diagram.{Bits, means, IsReduced, Keeps}
 use Rattle.var_order.specs.Layout.{Layout}
 use Rattle.transitions.specs.declared.relations.Relation.{Relation}
 use Rattle.transitions.specs.Ready.{IsReady}
 use Rattle.transitions.specs.Relations.{Connects, Relates}
-use Rattle.axiom_layers.proofs.RootValues.{keeps_on}
 use Rattle.transitions.proofs.Using.{steps_alike, steps_of_relates}
 use Rattle.trans_merge.specs.Size.{HasAtMost}
-use Rattle.trans_merge.specs.Merging.{IsRelation, Leads, SomeLeads, IsJoined, IsMerged, Merges, Adds}
+use Rattle.trans_merge.specs.Merging.{IsRelation, Leads, SomeLeads, IsJoined, IsMerged, Merges, Combines}
 use Rattle.trans_merge.specs.Merging.Merges.{none, more}
 use Rattle.trans_merge.proofs.Reaching.{at_most_kept}
 
@@ -59,6 +58,11 @@ pub front_holds : (P : Relation → Type 0) (done rest : List Relation) → All 
 front_holds P [] rest h i d lt = absurd (omega (arith, lt))
 front_holds P (x ∷ done) rest h zero d lt = h 0 d (omega arith)
 front_holds P (x ∷ done) rest h (suc i) d lt = front_holds P done rest (λ j e less. h (suc j) e (omega (arith, less))) i d (omega (arith, lt))
+
+-- and those behind it
+pub behind_holds : (P : Relation → Type 0) (done rest : List Relation) → All P (done ++ rest) → All P rest
+behind_holds P [] rest h = h
+behind_holds P (x ∷ done) rest h = behind_holds P done rest (λ i d lt. h (suc i) d (omega (arith, lt)))
 
 -- all have it, with one more that has
 pub all_and : (P : Relation → Type 0) (xs : List Relation) (x : Relation) → All P xs → P x → All P (xs ++ x ∷ [])
@@ -123,25 +127,26 @@ module _ (o : Layout) where
       within = λ two. absurd (omega (arith, two));
     }
 
-    -- one that was joined into the last
-    joined_in : (old new : List Node) (part : List Relation) (last r joined : Relation) → Keeps start old → IsRelation o start r → IsMerged o bound start old part last → IsJoined o old last r new joined → HasAtMost new joined.root bound
-        → IsMerged o bound start new (part ++ r ∷ []) joined
-    joined_in old new part last r joined k is was made few = record {
+    -- two that were joined
+    joined_both : (old new : List Node) (left right : List Relation) (a b joined : Relation) → IsMerged o bound start old left a → IsMerged o bound start old right b → IsJoined o old a b new joined → HasAtMost new joined.root bound
+        → IsMerged o bound start new (left ++ right) joined
+    joined_both old new left right a b joined first second made few = record {
       relation = made.relation;
-      some = (let e = length-append part (r ∷ []) in omega (arith, e));
+      some = (let e = length-append left right in let n = first.some in omega (arith, e, n));
       leads = λ s t ss st. (
-          let one = made.leads s t ss st in
-          let two = was.leads s t ss st in
-          let same = leads_kept start old r s t k is.known in
-          let all = some_append start s t part (r ∷ []) in (
-            (λ h. elim (one.0 h) [ inl a ↦ all.1 (inl (two.0 a)) | inr b ↦ all.1 (inr (inl (same.1 b))) ]),
-            (λ h. elim (all.0 h) [ inl a ↦ one.1 (inl (two.1 a)) | inr b ↦ elim b [ inl c ↦ one.1 (inr (same.0 c)) | inr c ↦ absurd c ] ]),
+          let it = made.leads s t ss st in
+          let one = first.leads s t ss st in
+          let two = second.leads s t ss st in
+          let all = some_append start s t left right in (
+            (λ h. elim (it.0 h) [ inl x ↦ all.1 (inl (one.0 x)) | inr x ↦ all.1 (inr (two.0 x)) ]),
+            (λ h. elim (all.0 h) [ inl x ↦ it.1 (inl (one.1 x)) | inr x ↦ it.1 (inr (two.1 x)) ]),
           ));
       alone = λ m e. (
           let a = ap (λ (xs : List Relation). length xs) e in
-          let b = length-append part (r ∷ []) in
-          let c = was.some in
-          absurd (omega (arith, a, b, c)));
+          let b = length-append left right in
+          let c = first.some in
+          let d = second.some in
+          absurd (omega (arith, a, b, c, d)));
       within = λ two. few;
     }
 
@@ -151,14 +156,14 @@ module _ (o : Layout) where
     all_merged _ now _ (more members part results _ r before is) = all_and (IsRelation o now) results r (all_merged members now results before) is.relation
 
     -- The last of the results, and those before it.
-    pub record HasLast (members : List Relation) (now : List Node) (front : List Relation) (last : Relation) : Type 0 where
-      pub earlier : List Relation
-      pub part : List Relation
-      pub whole : members ≡ earlier ++ part
-      pub before : Merges o bound start earlier now front
-      pub is : IsMerged o bound start now part last
+    record HasLast (members : List Relation) (now : List Node) (front : List Relation) (last : Relation) : Type 0 where
+      earlier : List Relation
+      part : List Relation
+      whole : members ≡ earlier ++ part
+      before : Merges o bound start earlier now front
+      is : IsMerged o bound start now part last
 
-    pub last_of : (members : List Relation) (now : List Node) (results front : List Relation) (last : Relation) → Merges o bound start members now results → results ≡ front ++ last ∷ [] → HasLast members now front last
+    last_of : (members : List Relation) (now : List Node) (results front : List Relation) (last : Relation) → Merges o bound start members now results → results ≡ front ++ last ∷ [] → HasLast members now front last
     last_of _ now _ front last (none _) e = absurd (let a = ap (λ (xs : List Relation). length xs) e in let b = length-append front (last ∷ []) in omega (arith, a, b))
     last_of _ now _ front last (more members part results _ r before is) e = (
         let same = last_same results front r last e in
@@ -170,16 +175,65 @@ module _ (o : Layout) where
           is = subst (λ (x : Relation). IsMerged o bound start now part x) same.1 is;
         })
 
-    -- one relation more
-    pub merges_more : (members : List Relation) (old new : List Node) (before after : List Relation) (r : Relation) → IsReduced old → IsReduced new → Keeps start old → Keeps old new → IsRelation o start r
-        → Merges o bound start members old before → Adds o old before r bound new after → Merges o bound start (members ++ r ∷ []) new after
-    merges_more members old new before after r ro rn k l is was added = elim added [
-      | inl (e, _) ↦ subst (λ (xs : List Relation). Merges o bound start (members ++ r ∷ []) new xs) (sym e)
-          (more members (r ∷ []) before new r (merges_kept members old new before ro rn l was) (alone new r (keeps_on start old new k l) is))
-      | inr (front, last, joined, there, now, made, few) ↦ (
-          let h = last_of members old before front last was there in
-          let whole : h.earlier ++ (h.part ++ r ∷ []) ≡ members ++ r ∷ [] = sym (append_assoc h.earlier h.part (r ∷ [])) ∙ ap (λ (xs : List Relation). xs ++ r ∷ []) (sym h.whole) in
-          subst (λ (xs : List Relation). Merges o bound start xs new after) whole
-          (subst (λ (xs : List Relation). Merges o bound start (h.earlier ++ (h.part ++ r ∷ [])) new xs) (sym now)
-          (more h.earlier (h.part ++ r ∷ []) front new joined (merges_kept h.earlier old new front ro rn l h.before) (joined_in old new h.part last r joined k is h.is made few))))
+    -- one relation, or none, by itself
+    pub merges_few : (now : List Node) (rs : List Relation) → Keeps start now → All (IsRelation o start) rs → length rs < 2 → Merges o bound start rs now rs
+    merges_few now [] k all lt = none now
+    merges_few now (r ∷ []) k all lt = more [] (r ∷ []) [] now r (none now) (alone now r k (all 0 r (omega arith)))
+    merges_few now (r ∷ q ∷ rs) k all lt = absurd (omega (arith, lt))
+
+    -- results of two lists, one after the other
+    pub merges_both : (left right : List Relation) (now : List Node) (xs ys : List Relation) → Merges o bound start left now xs → Merges o bound start right now ys → Merges o bound start (left ++ right) now (xs ++ ys)
+    merges_both left _ now xs _ first (none _) =
+        subst (λ (ms : List Relation). Merges o bound start ms now (xs ++ [])) (sym (append-nil left)) (subst (λ (rs : List Relation). Merges o bound start left now rs) (sym (append-nil xs)) first)
+    merges_both left _ now xs _ first (more members part results _ r before is) =
+        subst (λ (ms : List Relation). Merges o bound start ms now (xs ++ (results ++ r ∷ []))) (append_assoc left members part)
+        (subst (λ (rs : List Relation). Merges o bound start ((left ++ members) ++ part) now rs) (append_assoc xs results (r ∷ []))
+        (more (left ++ members) part (xs ++ results) now r (merges_both left members now xs results first before) is))
+
+    -- where there is one result, it is made of all members
+    none_of : (members : List Relation) (now : List Node) (results : List Relation) → results ≡ [] → Merges o bound start members now results → members ≡ []
+    none_of _ now _ e (none _) = refl
+    none_of _ now _ e (more members part results _ r before is) = absurd (let a = ap (λ (xs : List Relation). length xs) e in let b = length-append results (r ∷ []) in omega (arith, a, b))
+
+    one_of : (members : List Relation) (now : List Node) (a : Relation) → Merges o bound start members now (a ∷ []) → IsMerged o bound start now members a
+    one_of members now a m =
+        let h = last_of members now (a ∷ []) [] a m refl in
+        let all : h.part ≡ members = sym (h.whole ∙ ap (λ (xs : List Relation). xs ++ h.part) (none_of h.earlier now [] refl h.before)) in
+        subst (λ (xs : List Relation). IsMerged o bound start now xs a) all h.is
+
+    -- two halves as one list
+    pub merges_combined : (left right : List Relation) (old new : List Node) (xs ys results : List Relation) → IsReduced old → IsReduced new → Keeps old new → Merges o bound start left old xs → Merges o bound start right old ys → Combines o old xs ys bound new results → Merges o bound start (left ++ right) new results
+    merges_combined left right old new xs ys results ro rn k first second c = elim c [
+      | inl (joined, e, (a, b, is_a, is_b, made, few)) ↦ (
+          let one = one_of left old a (subst (λ (rs : List Relation). Merges o bound start left old rs) is_a first) in
+          let two = one_of right old b (subst (λ (rs : List Relation). Merges o bound start right old rs) is_b second) in
+          subst (λ (rs : List Relation). Merges o bound start (left ++ right) new rs) (sym e)
+          (more [] (left ++ right) [] new joined (none new) (joined_both old new left right a b joined one two made few)))
+      | inr (e, stay) ↦ subst (λ (rs : List Relation). Merges o bound start (left ++ right) new rs) (sym e)
+          (merges_both left right new xs ys (merges_kept left old new xs ro rn k first) (merges_kept right old new ys ro rn k second))
     ]
+
+  -- members that were there before the table grew
+  some_kept : (old new : List Node) (rs : List Relation) (s t : List ℕ) → Keeps old new → All (IsRelation o old) rs → SomeLeads o old s t rs ↔ SomeLeads o new s t rs
+  some_kept old new [] s t k all = ((λ h. h), (λ h. h))
+  some_kept old new (r ∷ rs) s t k all =
+      let is : IsRelation o old r = all 0 r (omega arith) in
+      let here = leads_kept old new r s t k is.known in
+      let rest = some_kept old new rs s t k (λ i d lt. all (suc i) d (omega (arith, lt))) in (
+        (λ h. elim h [ inl x ↦ inl (here.0 x) | inr x ↦ inr (rest.0 x) ]),
+        (λ h. elim h [ inl x ↦ inl (here.1 x) | inr x ↦ inr (rest.1 x) ]),
+      )
+
+  pub merges_since : (bound : ℕ) (start mid : List Node) (members : List Relation) (now : List Node) (results : List Relation) → Keeps start mid → All (IsRelation o start) members → Merges o bound mid members now results → Merges o bound start members now results
+  merges_since bound start mid _ now _ k all (none _) = none now
+  merges_since bound start mid _ now _ k all (more members part results _ r before is) =
+      more members part results now r (merges_since bound start mid members now results k (front_holds (IsRelation o start) members part all) before) (record {
+        relation = is.relation;
+        some = is.some;
+        leads = λ s t ss st. (
+            let was = is.leads s t ss st in
+            let same = some_kept start mid part s t k (behind_holds (IsRelation o start) members part all) in
+            ((λ h. same.1 (was.0 h)), (λ h. was.1 (same.0 h))));
+        alone = is.alone;
+        within = is.within;
+      })

@@ -1,5 +1,5 @@
 -- What merged relations are made of.
-use Rattle.std.specs.Prelude.{◌≡◌, ℕ, Bool, ◌<◌, ◌≤◌, ◌↔◌, ◌⊎◌, [], ◌∷◌, ◌++◌, List, length}
+use Rattle.std.specs.Prelude.{◌≡◌, ◌≢◌, ℕ, Bool, ◌+◌, ◌/◌, ◌<◌, ◌≤◌, ◌↔◌, ◌⊎◌, [], ◌∷◌, ◌++◌, List, length}
 use Rattle.bdd_table.specs.declared.node.Node.{Node}
 use Rattle.bdd_table.specs.Diagram.{Bits, means}
 use Rattle.var_order.specs.Layout.{Layout}
@@ -56,27 +56,33 @@ pub data Merges (o : Layout) (bound : ℕ) (old : List Node) : List Relation →
   none : (new : List Node) → Merges o bound old [] new []
   more : (members part results : List Relation) (new : List Node) (r : Relation) → Merges o bound old members new results → IsMerged o bound old new part r → Merges o bound old (members ++ part) new (results ++ r ∷ [])
 
--- the relation is the last of these with r joined into it, within the bound
-abbrev pub JoinsLast : Layout → List Node → List Relation → Relation → ℕ → List Node → Relation → Type 0
-JoinsLast o old merged r bound new joined =
-    (front : List Relation) × (last : Relation) × (merged ≡ front ++ last ∷ []) × IsJoined o old last r new joined × HasAtMost new joined.root bound
+-- each list is one relation, and these are joined to one with at most so many nodes
+abbrev pub JoinsBoth : Layout → List Node → List Relation → List Relation → ℕ → List Node → Relation → Type 0
+JoinsBoth o old left right bound new joined =
+    (a : Relation) × (b : Relation) × (left ≡ a ∷ []) × (right ≡ b ∷ []) × IsJoined o old a b new joined × HasAtMost new joined.root bound
 
--- there is no last one of these, or the new list has it with r joined into it, and past the bound
-abbrev pub JoinsNone : Layout → List Node → List Relation → Relation → ℕ → List Node → Type 0
-JoinsNone o old merged r bound new =
-    (merged ≡ [])
-    ⊎ ((front : List Relation) × (last : Relation) × (joined : Relation) × (merged ≡ front ++ last ∷ []) × IsJoined o old last r new joined × (HasAtMost new joined.root bound → ⊥))
+-- one of the lists is not one relation, or the new list has both joined, and past the bound
+abbrev pub StayApart : Layout → List Node → List Relation → List Relation → ℕ → List Node → Type 0
+StayApart o old left right bound new =
+    ((length left ≢ 1) ⊎ (length right ≢ 1))
+    ⊎ ((a : Relation) × (b : Relation) × (joined : Relation) × (left ≡ a ∷ []) × (right ≡ b ∷ []) × IsJoined o old a b new joined × (HasAtMost new joined.root bound → ⊥))
 
--- the relation was joined into the last one, within the bound, or was added where that is past the bound
-abbrev pub Adds : Layout → List Node → List Relation → Relation → ℕ → List Node → List Relation → Type 0
-Adds o old merged r bound new after =
-    ((after ≡ merged ++ r ∷ []) × JoinsNone o old merged r bound new)
-    ⊎ ((front : List Relation) × (last : Relation) × (joined : Relation) × (merged ≡ front ++ last ∷ []) × (after ≡ front ++ joined ∷ []) × IsJoined o old last r new joined × HasAtMost new joined.root bound)
+-- both lists were joined to one relation, within the bound, or stand one after the other where they stay apart
+abbrev pub Combines : Layout → List Node → List Relation → List Relation → ℕ → List Node → List Relation → Type 0
+Combines o old left right bound new results =
+    ((joined : Relation) × (results ≡ joined ∷ []) × JoinsBoth o old left right bound new joined)
+    ⊎ ((results ≡ left ++ right) × StayApart o old left right bound new)
 
--- The results of a walk over the members in their order. Each member is joined into the last result where the joined relation has
--- at most so many nodes; where it has more, and where there is no result, the member begins a new one. All that is joined on the
+-- the first part has half of all, rounded down, and there are two at least
+pub record AreHalves (left right : List Relation) : Type 0 where
+  pub some : 1 ≤ length left
+  pub half : length left ≡ (length left + length right) / 2
+
+-- The results of joining by halves. What came of the first half of the members stands before what came of the second, but where
+-- each half came to one relation and both joined have at most so many nodes, the joined one stands for all. What is joined on the
 -- way is in the list, also what has too many nodes.
-pub data IsGreedy (o : Layout) (bound : ℕ) (nodes : List Node) : List Relation → List Relation → Type 0 where
-  nothing : IsGreedy o bound nodes [] []
-  begins : (members results : List Relation) (r : Relation) → IsGreedy o bound nodes members results → JoinsNone o nodes results r bound nodes → IsGreedy o bound nodes (members ++ r ∷ []) (results ++ r ∷ [])
-  joins : (members front : List Relation) (last r joined : Relation) → IsGreedy o bound nodes members (front ++ last ∷ []) → IsJoined o nodes last r nodes joined → HasAtMost nodes joined.root bound → IsGreedy o bound nodes (members ++ r ∷ []) (front ++ joined ∷ [])
+pub data IsHalved (o : Layout) (bound : ℕ) (nodes : List Node) : List Relation → List Relation → Type 0 where
+  nothing : IsHalved o bound nodes [] []
+  single : (r : Relation) → IsHalved o bound nodes (r ∷ []) (r ∷ [])
+  joins : (left right : List Relation) (a b joined : Relation) → AreHalves left right → IsHalved o bound nodes left (a ∷ []) → IsHalved o bound nodes right (b ∷ []) → IsJoined o nodes a b nodes joined → HasAtMost nodes joined.root bound → IsHalved o bound nodes (left ++ right) (joined ∷ [])
+  apart : (left right xs ys : List Relation) → AreHalves left right → IsHalved o bound nodes left xs → IsHalved o bound nodes right ys → StayApart o nodes xs ys bound nodes → IsHalved o bound nodes (left ++ right) (xs ++ ys)

@@ -2,10 +2,10 @@ use Rattle.std.proofs.Common.{◌≡◌, ◌+◌, ◌++◌, ◌∷◌, [], ℕ, 
 use Rattle.transitions.specs.declared.relations.Relation.{Relation}
 use Rattle.axiom_layers.proofs.RootValues.{keeps_on, keeps_itself}
 use Rattle.operator_relations.specs.Gathered.{AreJoined}
-use Rattle.operator_relations.specs.Greedy.{AreGreedyOf, AreGreedy}
+use Rattle.operator_relations.specs.Halves.{AreHalvedOf, AreHalved}
 use Rattle.operator_relations.proofs.Kept.{single_kept, joined_kept}
 use Rattle.operator_relations.proofs.Appended.{joined_none, joined_more, parts}
-use Rattle.operator_relations.proofs.Walked.{greedy_kept}
+use Rattle.operator_relations.proofs.Halving.{halved_kept}
 use Rattle.operator_relations.proofs.joining.joined_by_cost.Goals as goal
 
 pub loop-cost-init : goal.loop-cost-init
@@ -21,7 +21,7 @@ loop-cost-init c =
       single = c.requires;
       so_far = subst (λ (xs : List ℕ). AreJoined task o nodes costs 0 xs c.new-joined.result.items) (sym starts)
           (subst (λ (rs : List Relation). AreJoined task o nodes costs 0 (0 ∷ []) rs) (sym c.new-joined.ensures.items) (joined_none task o nodes costs));
-      greedy = λ i lt. absurd (omega (arith, lt));
+      halved = λ i lt. absurd (omega (arith, lt));
     }
 
 pub joined_of_cost-requires : goal.joined_of_cost-requires
@@ -52,10 +52,10 @@ loop-cost-preserved c =
       so_far = subst (λ (xs : List ℕ). AreJoined task o grown costs (n + 1) xs c.append.new.self.items) (sym ends)
           (subst (λ (rs : List Relation). AreJoined task o grown costs (n + 1) (starts ++ length (joined ++ part) ∷ []) rs) (sym both)
           (joined_more task o grown costs n starts joined part before it.have));
-      greedy = subst (λ (xs : List ℕ). AreGreedy task o c.args.bound grown single costs (n + 1) xs c.append.new.self.items) (sym ends)
-          (subst (λ (rs : List Relation). AreGreedy task o c.args.bound grown single costs (n + 1) (starts ++ length (joined ++ part) ∷ []) rs) (sym both)
-          (parts task o grown costs n starts joined part before (λ i rs. AreGreedyOf task o c.args.bound grown single (get_or costs i 0) rs)
-          (greedy_kept o c.args.bound now grown inv.reduced it.reduced it.kept task single inv.single costs n starts joined inv.greedy) it.greedy));
+      halved = subst (λ (xs : List ℕ). AreHalved task o c.args.bound grown single costs (n + 1) xs c.append.new.self.items) (sym ends)
+          (subst (λ (rs : List Relation). AreHalved task o c.args.bound grown single costs (n + 1) (starts ++ length (joined ++ part) ∷ []) rs) (sym both)
+          (parts task o grown costs n starts joined part before (λ i rs. AreHalvedOf task o c.args.bound grown single (get_or costs i 0) rs)
+          (halved_kept o c.args.bound now grown inv.reduced it.reduced it.kept task single inv.single costs n starts joined inv.halved) it.halved));
     }
 
 all : (c : goal.After-loop-cost) → c.loop-cost.cost-index ≡ length c.args.costs.now
@@ -65,6 +65,6 @@ pub returns-clause-joined : goal.returns-clause-joined
 returns-clause-joined c =
     subst (λ (n : ℕ). AreJoined c.args.task.now c.args.order.now c.loop-cost.ops c.args.costs.now n c.loop-cost.starts.items c.loop-cost.joined.items) (all c) c.loop-cost.invariant.so_far
 
-pub returns-clause-greedy : goal.returns-clause-greedy
-returns-clause-greedy c =
-    subst (λ (n : ℕ). AreGreedy c.args.task.now c.args.order.now c.args.bound c.loop-cost.ops c.args.single.now c.args.costs.now n c.loop-cost.starts.items c.loop-cost.joined.items) (all c) c.loop-cost.invariant.greedy
+pub returns-clause-halved : goal.returns-clause-halved
+returns-clause-halved c =
+    subst (λ (n : ℕ). AreHalved c.args.task.now c.args.order.now c.args.bound c.loop-cost.ops c.args.single.now c.args.costs.now n c.loop-cost.starts.items c.loop-cost.joined.items) (all c) c.loop-cost.invariant.halved

@@ -1,6 +1,6 @@
 use Rattle.bdd_table.specs.Diagram.{Keeps, IsReduced}
 use Rattle.operator_relations.specs.Gathered.{AreSingle, AreJoined}
-use Rattle.operator_relations.specs.Greedy.{AreGreedy}
+use Rattle.operator_relations.specs.Halves.{AreHalved}
 use Rattle.operator_relations.proofs.joining.joined_by_cost.Given as goal
 
 abbrev pub invariant-loop-cost : goal.invariant-loop-cost
@@ -9,5 +9,5 @@ invariant-loop-cost l = record {
   reduced : IsReduced l.ops;
   single : AreSingle l.task l.order l.ops l.single;
   so_far : AreJoined l.task l.order l.ops l.costs l.cost-index l.starts.items l.joined.items;
-  greedy : AreGreedy l.task l.order l.fn.bound l.ops l.single l.costs l.cost-index l.starts.items l.joined.items;
+  halved : AreHalved l.task l.order l.fn.bound l.ops l.single l.costs l.cost-index l.starts.items l.joined.items;
 }

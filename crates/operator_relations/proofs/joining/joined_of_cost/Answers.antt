@@ -13,8 +13,8 @@ members_of_cost-requires c = record {
 pub merge-requires : goal.merge-requires
 merge-requires c = (let have = c.in_ok-members.ensures.have c.args.order.now c.args.ops.now c.requires in have.relations)
 
-pub returns-clause-greedy : goal.returns-clause-greedy
-returns-clause-greedy c = ok_by c.merge.result _ _ c.merge.ensures.greedy (λ rs walk. record { members = c.in_ok-members.members.items; copies = c.in_ok-members.ensures.copies; walk = walk })
+pub returns-clause-halved : goal.returns-clause-halved
+returns-clause-halved c = ok_by c.merge.result _ _ c.merge.ensures.halved (λ rs halves. record { members = c.in_ok-members.members.items; copies = c.in_ok-members.ensures.copies; results_are = halves })
 
 pub returns-clause-have : goal.returns-clause-have
 returns-clause-have c = ok_by c.merge.result _ _ c.merge.ensures.merges (λ rs merges.

@@ -2,7 +2,7 @@ use Rattle.std.proofs.Common.{◌≡◌, ℕ, ◌<◌, List, [], length, sym, su
 use Rattle.symk_task.specs.Steps.{Step}
 use Rattle.transitions.specs.declared.relations.Relation.{Relation}
 use Rattle.operator_relations.specs.Steps.{HasSteps, HaveSteps}
-use Rattle.operator_relations.specs.Greedy.{operators_below, AreCopies}
+use Rattle.operator_relations.specs.Halves.{operators_below, AreCopies}
 use Rattle.operator_relations.proofs.OfCost.{StepBelow, below_none, below_more}
 use Rattle.operator_relations.proofs.Copied.{copies_none, copies_more}
 use Rattle.operator_relations.proofs.members.members_of_cost.Goals as goal

@@ -3,7 +3,7 @@ use Rattle.bdd_table.specs.declared.node.Node.{Node}
 use Rattle.var_order.specs.Layout.{Layout}
 use Rattle.operator_relations.specs.Steps.{HaveSteps}
 use Rattle.operator_relations.specs.Gathered.{AreSingle}
-use Rattle.operator_relations.specs.Greedy.{operators_below, AreCopies}
+use Rattle.operator_relations.specs.Halves.{operators_below, AreCopies}
 use Rattle.operator_relations.proofs.OfCost.{StepBelow}
 use Rattle.operator_relations.proofs.members.members_of_cost.Given as goal
 

@@ -13,5 +13,6 @@ invariant_of-result c = record {
   own = own_grown c.args.task.now c.in_ok-order.order c.own_sets.new.ops c.of-2.new.ops c.in_ok-own.own c.in_ok-relations.ensures.kept c.in_ok-own.ensures.are;
   relations = c.in_ok-relations.ensures.relations;
   sets = no_sets _ _ c.new-sets.result.slots.items c.new-sets.ensures;
+  steps = c.in_ok-steps.ensures;
   initial = c.in_ok-initial.ensures;
 }

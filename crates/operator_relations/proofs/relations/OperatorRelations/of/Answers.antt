@@ -1,7 +1,7 @@
 use Rattle.std.proofs.Common.{ℕ, List, length, sym, subst}
 use Rattle.transitions.specs.declared.relations.Relation.{Relation}
 use Rattle.operator_relations.specs.Gathered.{AreSingle, AreJoined}
-use Rattle.operator_relations.specs.Greedy.{AreGreedy}
+use Rattle.operator_relations.specs.Halves.{AreHalved}
 use Rattle.operator_relations.proofs.Kept.{single_kept}
 use Rattle.operator_relations.proofs.relations.OperatorRelations.of.Goals as goal
 
@@ -25,12 +25,12 @@ returns-clause-relations c =
       joined = subst (λ (xs : List ℕ). AreJoined task o end xs (length xs) starts joined) c.deref-2.ensures.value c.in_ok-joined.ensures.joined;
     }
 
-pub returns-clause-greedy : goal.returns-clause-greedy
-returns-clause-greedy c =
+pub returns-clause-halved : goal.returns-clause-halved
+returns-clause-halved c =
     let task = c.args.task.now in
     let o = c.args.order.now in
     let end = c.joined_by_cost.new.ops in
     let starts = c.in_ok-joined.starts.items in
     let joined = c.in_ok-joined.joined.items in
-    subst (λ (rs : List Relation). AreGreedy task o c.args.bound end rs c.in_ok-costs.costs.items (length c.in_ok-costs.costs.items) starts joined) c.deref.ensures.value
-    (subst (λ (xs : List ℕ). AreGreedy task o c.args.bound end c.deref.result.now xs (length xs) starts joined) c.deref-2.ensures.value c.in_ok-joined.ensures.greedy)
+    subst (λ (rs : List Relation). AreHalved task o c.args.bound end rs c.in_ok-costs.costs.items (length c.in_ok-costs.costs.items) starts joined) c.deref.ensures.value
+    (subst (λ (xs : List ℕ). AreHalved task o c.args.bound end c.deref.result.now xs (length xs) starts joined) c.deref-2.ensures.value c.in_ok-joined.ensures.halved)

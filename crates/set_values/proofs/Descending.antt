@@ -1,0 +1,82 @@
+-- The walk down a set, block by block.
+use Rattle.std.proofs.Common.{◌≡◌, ◌⊎◌, ℕ, zero, suc, ◌+◌, ◌<◌, ◌==◌, ◌||◌, Bool, true, false, List, [], ◌∷◌, length, get_or, inl, inr, refl, sym, ◌∙◌, ap, subst, arith}
+use Rattle.std.specs.List.{All, Contains}
+use Rattle.std.proofs.lemmas.Bool.{cases_eq, eq-eqb}
+use Rattle.std.proofs.lemmas.List.{get_or_default}
+use Rattle.bdd_table.specs.declared.node.Node.{Node}
+use Rattle.bdd_table.specs.Diagram.{Bits, means}
+use Rattle.var_order.specs.declared.block.Block.{Block}
+use Rattle.var_order.specs.Layout.{Layout, IsLayout, IsInside, block_at, owner_at, bits}
+use Rattle.var_order.specs.Codes.{value_at, IsInRange}
+use Rattle.set_values.specs.declared.occurring.Occurring.{Occurring}
+use Rattle.set_values.specs.Marks.{is_marked, KeepsMarks, value_of, SomeHolds, Passes}
+use Rattle.set_values.specs.Occurs.{AreStarts, AreInOrder, AreMarked, occurs_at, AreOccurring}
+
+module _ (o : Layout) (nodes : List Node) (set : ℕ) (starts slots : List ℕ) where
+  -- the set's codes are found below the first so many blocks of the list
+  pub record Descends (ids : List ℕ) (marks : List Bool) (n : ℕ) : Type 0 where
+    pub known : All (λ id. id < length nodes) ids
+    pub holds : (b : Bits) → IsInRange o 0 b → means nodes set b ≡ true → SomeHolds nodes ids b
+    pub marked : AreMarked o nodes set starts marks slots n
+
+  pub descends_none : (marks : List Bool) → set < length nodes → Descends (set ∷ []) marks 0
+  descends_none marks lt = record {
+    known = known;
+    holds = λ b range m. (set, (0, omega arith, refl), m);
+    marked = λ b k range m less. absurd (omega (arith, less));
+  }
+    where
+      known : (k d : ℕ) → k < length (set ∷ []) → get_or (set ∷ []) k d < length nodes
+      known zero d h = lt
+      known (suc k) d h = absurd (omega (arith, h))
+
+  below_or_at : (k n : ℕ) → k < n + 1 → (k < n) ⊎ (k ≡ n)
+  below_or_at k n h = grind arith
+
+  pub descends_more : (ids next : List ℕ) (old new : List Bool) (n slot start : ℕ) (block : Block) → slot < length o.blocks → slot ≡ get_or slots n 0 → start ≡ get_or starts slot 0 → block ≡ block_at o slot
+      → Descends ids old n → Passes nodes block start ids next old new → Descends next new (n + 1)
+  descends_more ids next old new n slot start block lt at from is d p = record {
+    known = p.known;
+    holds = λ b range m. (passed b range m).1;
+    marked = λ b k range m less. elim (below_or_at k n less) [
+      | inl before ↦ p.kept (get_or starts (get_or slots k 0) 0 + value_at o 0 b (get_or slots k 0)) (d.marked b k range m before)
+      | inr here ↦ (
+          let same : slot ≡ get_or slots k 0 = at ∙ ap (λ (i : ℕ). get_or slots i 0) (sym here) in
+          subst (λ (v : ℕ). is_marked new (get_or starts v 0 + value_at o 0 b v) ≡ true) same
+          (subst (λ (x : ℕ). is_marked new (x + value_at o 0 b slot) ≡ true) from
+          (subst (λ (x : Block). is_marked new (start + value_of x b) ≡ true) is (passed b range m).0)))
+    ];
+  }
+    where
+      passed : (b : Bits) → IsInRange o 0 b → means nodes set b ≡ true → (is_marked new (start + value_of block b) ≡ true) × SomeHolds nodes next b
+      passed b range m = p.found b (subst (λ (x : Block). value_of x b < x.values) (sym is) (range slot lt)) (d.holds b range m)
+
+-- the blocks with bits, place by place
+
+pub record InOrderBelow (o : Layout) (slots : List ℕ) (n : ℕ) : Type 0 where
+  pub each : (slot : ℕ) → slot < length o.blocks → 0 < (block_at o slot).width → (block_at o slot).first < n → Contains slots slot
+  pub only : All (λ slot. slot < length o.blocks) slots
+
+pub all_in_order : (o : Layout) (slots : List ℕ) (n : ℕ) → IsLayout o → bits o ≡ n → InOrderBelow o slots n → AreInOrder o slots
+all_in_order o slots n l e i = record {
+  each = λ slot lt some. (
+      let inside : IsInside (block_at o slot) (block_at o slot).first = record { from = omega arith; before = omega (arith, some) } in
+      let there = (l.owned slot (block_at o slot).first inside).0 in
+      i.each slot lt some (omega (arith, there, e)));
+  only = i.only;
+}
+
+-- what is marked occurs
+pub are_occurring : (o : Layout) (nodes : List Node) (set : ℕ) (r : Occurring) (slots : List ℕ) → AreInOrder o slots → AreMarked o nodes set r.starts.items r.marks.items slots (length slots) → (b : Bits) (slot : ℕ) → IsInRange o 0 b → means nodes set b ≡ true → slot < length o.blocks → occurs_at o r slot (value_at o 0 b slot) ≡ true
+are_occurring o nodes set r slots i m b slot range holds lt = elim (cases_eq (block_at o slot).width 0) [
+  | inl none ↦ ap (λ (t : Bool). t || is_marked r.marks.items (get_or r.starts.items slot 0 + value_at o 0 b slot)) (eq-eqb (block_at o slot).width 0 none)
+  | inr some ↦ (
+      let in_list = i.each slot lt (let ne : ¬ ((block_at o slot).width ≡ 0) = some in omega (arith, ne)) in
+      let at : get_or slots in_list.0 0 ≡ slot = get_or_default slots in_list.0 0 slot in_list.1 ∙ in_list.2 in
+      or_right ((block_at o slot).width == 0) (is_marked r.marks.items (get_or r.starts.items slot 0 + value_at o 0 b slot))
+      (subst (λ (v : ℕ). is_marked r.marks.items (get_or r.starts.items v 0 + value_at o 0 b v) ≡ true) at (m b in_list.0 range holds in_list.1)))
+]
+  where
+    or_right : (x y : Bool) → y ≡ true → (x || y) ≡ true
+    or_right true y h = refl
+    or_right false y h = h

@@ -1,0 +1,111 @@
+-- What is left of Ids below a block, value by value.
+use Rattle.std.proofs.Common.{◌≡◌, ◌≢◌, ◌⊎◌, ◌↔◌, ℕ, ◌+◌, ◌<◌, Bool, true, List, length, get_or, IsTrue, inl, inr, refl, sym, ◌∙◌, ap, subst, arith, true≢false}
+use Rattle.std.specs.List.{All, Contains}
+use Rattle.std.specs.Ordering.{nat_cmp}
+use Rattle.std.specs.BTreeSet.{BTreeSet, contains}
+use Rattle.std.proofs.lemmas.Bool.{cases_eq}
+use Rattle.std.proofs.lemmas.Cmp.{nat_cmp_total}
+use Rattle.std.proofs.lemmas.List.{get_or_default}
+use Rattle.std.proofs.lemmas.List.Elements.{Contains-get_or}
+use Rattle.std.proofs.lemmas.Map.Lookups.{exact_unsigned}
+use Rattle.std.proofs.lemmas.Map.Views.{btree_set_contains_iff}
+use Rattle.bdd_table.specs.declared.node.Node.{Node}
+use Rattle.bdd_table.specs.Diagram.{Bits, means, IsReduced}
+use Rattle.bdd_table.proofs.Meaning.{means_false}
+use Rattle.var_order.specs.declared.block.Block.{Block}
+use Rattle.set_values.specs.Marks.{is_marked, KeepsMarks, value_of, SomeHolds, Passes}
+use Rattle.set_values.specs.Ends.{HasId, AreKnown, AddsEnd, Finds, Adds}
+
+module _ (nodes : List Node) (block : Block) (start : ℕ) where
+  -- so far as the values below n go
+  pub record AddsBelow (id : ℕ) (old new : BTreeSet ℕ) (marks more : List Bool) (n : ℕ) : Type 0 where
+    pub kept : KeepsMarks marks more
+    pub keeps : (q : ℕ) → HasId old q → HasId new q
+    pub known : AreKnown nodes new
+    pub found : (b : Bits) → value_of block b < n → means nodes id b ≡ true → Finds nodes block start id new more b
+
+  pub adds_none : (id : ℕ) (ends : BTreeSet ℕ) (marks : List Bool) → AreKnown nodes ends → AddsBelow id ends ends marks marks 0
+  adds_none id ends marks known = record {
+    kept = λ place h. h;
+    keeps = λ q h. h;
+    known = known;
+    found = λ b lt m. absurd (omega (arith, lt));
+  }
+
+  pub finds_more : (id : ℕ) (old new : BTreeSet ℕ) (marks more : List Bool) (b : Bits) → KeepsMarks marks more → ((q : ℕ) → HasId old q → HasId new q) → Finds nodes block start id old marks b → Finds nodes block start id new more b
+  finds_more id old new marks more b kept keeps f = record {
+    marked = kept (start + value_of block b) f.marked;
+    end = f.end;
+    has = keeps f.end f.has;
+    holds = f.holds;
+  }
+
+  below_or_at : (k n : ℕ) → k < n + 1 → (k < n) ⊎ (k ≡ n)
+  below_or_at k n h = grind arith
+
+  module _ (r : IsReduced nodes) (id : ℕ) where
+    -- what the Id leaves below one more value
+    pub adds_more : (old now new : BTreeSet ℕ) (marks mid more : List Bool) (n end : ℕ) → AddsBelow id old now marks mid n → end < length nodes → ((b : Bits) → value_of block b ≡ n → means nodes end b ≡ means nodes id b) → AddsEnd (start + n) end now new mid more → AddsBelow id old new marks more (n + 1)
+    adds_more old now new marks mid more n end a lt same e = record {
+      kept = λ place h. e.kept place (a.kept place h);
+      keeps = λ q h. e.keeps q (a.keeps q h);
+      known = λ q h. elim (e.only q h) [ inl o ↦ a.known q o | inr is ↦ omega (arith, is, lt) ];
+      found = λ b le m. elim (below_or_at (value_of block b) n le) [
+        | inl less ↦ finds_more id now new mid more b e.kept e.keeps (a.found b less m)
+        | inr at ↦ (
+            let holds : means nodes end b ≡ true = same b at ∙ m in
+            let some : end ≢ 0 = λ z. true≢false (sym holds ∙ ap (λ (x : ℕ). means nodes x b) z ∙ means_false nodes r b) in
+            record {
+              marked = subst (λ (v : ℕ). is_marked more (start + v) ≡ true) (sym at) (e.marked some);
+              end = end;
+              has = e.has some;
+              holds = holds;
+            })
+      ];
+    }
+
+  pub adds_all : (id : ℕ) (old new : BTreeSet ℕ) (marks more : List Bool) → AddsBelow id old new marks more block.values → Adds nodes block start id old new marks more
+  adds_all id old new marks more a = record { kept = a.kept; keeps = a.keeps; known = a.known; found = a.found }
+
+  -- an Id that is below the block leaves itself
+  pub adds_skipped : (id : ℕ) (old new : BTreeSet ℕ) (marks more : List Bool) → id < length nodes → AreKnown nodes old → KeepsMarks marks more → ((k : ℕ) → k < block.values → is_marked more (start + k) ≡ true) → ((q : ℕ) → HasId new q ↔ (HasId old q ⊎ (q ≡ id))) → Adds nodes block start id old new marks more
+  adds_skipped id old new marks more lt known kept all put = record {
+    kept = kept;
+    keeps = λ q h. (put q).1 (inl h);
+    known = λ q h. elim ((put q).0 h) [ inl o ↦ known q o | inr is ↦ omega (arith, is, lt) ];
+    found = λ b less m. record { marked = all (value_of block b) less; end = id; has = (put id).1 (inr refl); holds = m };
+  }
+
+  -- of the first so many Ids
+  pub record PassesBelow (ids : List ℕ) (ends : BTreeSet ℕ) (marks more : List Bool) (n : ℕ) : Type 0 where
+    pub kept : KeepsMarks marks more
+    pub known : AreKnown nodes ends
+    pub found : (b : Bits) (k : ℕ) → k < n → value_of block b < block.values → means nodes (get_or ids k 0) b ≡ true → Finds nodes block start (get_or ids k 0) ends more b
+
+  pub passes_none : (ids : List ℕ) (ends : BTreeSet ℕ) (marks : List Bool) → AreKnown nodes ends → PassesBelow ids ends marks marks 0
+  passes_none ids ends marks known = record { kept = λ place h. h; known = known; found = λ b k lt. absurd (omega (arith, lt)) }
+
+  pub passes_more : (ids : List ℕ) (old new : BTreeSet ℕ) (marks mid more : List Bool) (n : ℕ) → PassesBelow ids old marks mid n → Adds nodes block start (get_or ids n 0) old new mid more → PassesBelow ids new marks more (n + 1)
+  passes_more ids old new marks mid more n p a = record {
+    kept = λ place h. a.kept place (p.kept place h);
+    known = a.known;
+    found = λ b k lt less m. elim (below_or_at k n lt) [
+      | inl before ↦ finds_more (get_or ids k 0) old new mid more b a.kept a.keeps (p.found b k before less m)
+      | inr at ↦ (let same = ap (λ (i : ℕ). get_or ids i 0) at in
+          subst (λ (id : ℕ). Finds nodes block start id new more b) (sym same) (a.found b less (subst (λ (id : ℕ). means nodes id b ≡ true) same m)))
+    ];
+  }
+
+  in_keys : (set : BTreeSet ℕ) (q : ℕ) → HasId set q ↔ Contains set.keys q
+  in_keys set q = btree_set_contains_iff nat_cmp_total exact_unsigned set q
+
+  -- and of all of them
+  pub passes_all : (ids next : List ℕ) (ends : BTreeSet ℕ) (marks more : List Bool) → PassesBelow ids ends marks more (length ids) → next ≡ ends.keys → Passes nodes block start ids next marks more
+  passes_all ids next ends marks more p e = record {
+    kept = p.kept;
+    known = λ k d lt. p.known (get_or next k d) ((in_keys ends (get_or next k d)).1 (subst (λ (xs : List ℕ). Contains xs (get_or next k d)) e (Contains-get_or next k d lt)));
+    found = λ b less (id, (k, lt, is), m). (
+        let at : get_or ids k 0 ≡ id = get_or_default ids k 0 id lt ∙ is in
+        let f = p.found b k lt less (subst (λ (x : ℕ). means nodes x b ≡ true) (sym at) m) in
+        (f.marked, (f.end, subst (λ (xs : List ℕ). Contains xs f.end) (sym e) ((in_keys ends f.end).0 f.has), f.holds)));
+  }

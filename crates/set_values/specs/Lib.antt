@@ -1,0 +1,5 @@
+pub mod Marks
+pub mod Ends
+pub mod Occurs
+pub mod Steps
+pub mod Leading

@@ -50,7 +50,7 @@ two_values v w x y h k (suc zero) = k
 two_values v w x y h k (suc (suc var)) = tt
 
 -- with one variable that is 0 at first
-one_fits : (metric : ℕ) (v : Variable) (goal : List Fact) (operators : List Operator) → metric < 2 → FitsVariable v → sum_by bits_of (v ∷ []) ≤ 4096 → 0 < range v →
+one_fits : (metric : ℕ) (v : Variable) (goal : List Fact) (operators : List Operator) → metric < 2 → FitsVariable v → sum_by bits_of (v ∷ []) ≤ 65536 → 0 < range v →
     AreFacts (v ∷ []) goal → length operators ≤ 1000000 → AllByRecursion (FitsOperator (v ∷ [])) operators → Fits (plain metric (v ∷ []) (0 ∷ []) goal operators)
 one_fits metric v goal operators m fits bits some goal_fits few each = record {
   metric = m;
@@ -69,7 +69,7 @@ one_fits metric v goal operators m fits bits some goal_fits few each = record {
 }
 
 -- with two variables
-two_fits : (v w : Variable) (x y : ℕ) (goal : List Fact) (operators : List Operator) → FitsVariable v → FitsVariable w → sum_by bits_of (v ∷ w ∷ []) ≤ 4096 → x < range v → y < range w →
+two_fits : (v w : Variable) (x y : ℕ) (goal : List Fact) (operators : List Operator) → FitsVariable v → FitsVariable w → sum_by bits_of (v ∷ w ∷ []) ≤ 65536 → x < range v → y < range w →
     AreFacts (v ∷ w ∷ []) goal → length operators ≤ 1000000 → AllByRecursion (FitsOperator (v ∷ w ∷ [])) operators → Fits (plain 0 (v ∷ w ∷ []) (x ∷ y ∷ []) goal operators)
 two_fits v w x y goal operators v_fits w_fits bits first second goal_fits few each = record {
   metric = lit< tt;

@@ -1,6 +1,4 @@
-pub mod Random
 pub mod Calls
 pub mod Pairs
 pub mod Answers
 pub mod Rounds
-pub mod Small

@@ -12,9 +12,9 @@ ghost use Rattle.space_agreement.specs.Rounds.{IsRound, AgreeFor};
 use crate::calls::{Call, drawn_call};
 use crate::comparing::{alike, same_costs, same_operators, tidied};
 use crate::pairs::{Pair, drawn_pair, give_back, keep, made, take_out, whole};
-use crate::random::Random;
 use space_api::{Space, SpaceFault};
 use std::alloc::Global;
+use task_draws::Random;
 
 /// At most so many pairs are kept from round to round.
 const MOST: usize = 16;

@@ -26,8 +26,8 @@ ghost use Rattle.space_api.specs.View.{View, Valid};
 ghost use Rattle.space_api.specs.Frames.{Kept, NoMore, Gives};
 ghost use Rattle.space_agreement.specs.Calls.{Means, IsAmong};
 
-use crate::random::Random;
 use space_api::{Space, SpaceFault};
+use task_draws::Random;
 
 /// Makes the call. A call that takes one set is given the first.
 pub fn make<S: Space>(

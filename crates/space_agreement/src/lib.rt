@@ -3,21 +3,17 @@
 //! `agree` makes the same calls on two spaces, one after the other, on sets that the same calls gave, and compares after each
 //! call what both answer. A seed draws the calls. Two spaces of one system are always found to agree, every set that was made
 //! is given back, and every other set stays as it was; where the answer is yes, both systems have the same operators at the
-//! same costs. `random_task` draws a small task, with derived variables, rules and effects that have conditions, from a seed.
+//! same costs.
 //! The tests try the space over ordered sets of states against the space over decision diagrams on 200 such tasks.
-//! It stands on `space_api` for what a space is, on `symk_task` for tasks, and, for its tests alone, on `explicit_space` and
+//! It stands on `space_api` for what a space is, on `task_draws` for numbers that are drawn, and, for its tests alone, on `explicit_space` and
 //! `bdd_space`.
 #![tactic(auto)]
 
 mod agreeing;
 mod calls;
 mod comparing;
-mod kinds;
 mod pairs;
-mod random;
-mod tasks;
 #[cfg(test)]
 mod tests;
 
 pub use agreeing::agree;
-pub use tasks::random_task;

@@ -17,8 +17,8 @@ ghost use Rattle.space_agreement.specs.Calls.{Means, IsAmong};
 ghost use Rattle.space_agreement.specs.Pairs.{lefts, rights, AreKept, Makes, Moves};
 
 use crate::calls::{Call, make};
-use crate::random::Random;
 use space_api::{Space, SpaceFault};
+use task_draws::Random;
 
 /// Makes the call on both spaces, each with its own sets of the pairs.
 pub fn made<A: Space, B: Space>(

@@ -1,13 +1,12 @@
 //! The space over ordered sets of states and the space over decision diagrams, on tasks that are drawn.
 
 use crate::agree;
-use crate::random::Random;
-use crate::tasks::{drawn_parts, random_task};
 use bdd_space::BddSpace;
 use explicit_space::ExplicitSpace;
 use std::alloc::Global;
 use std::test::Fail;
 use symk_task::{List, Memory, Operator, Task, TaskParts};
+use task_draws::{Random, drawn_parts, random_task};
 
 /// Whether a space of each of the tasks answers alike, over 40 calls.
 fn agrees(alloc: Global, left: &Task, right: &Task, seed: u64) -> Result<bool, Memory> {
@@ -100,14 +99,5 @@ fn tasks_without_their_goal_or_their_rules_are_told_from_them(rt: HostRuntime) -
     }
     assert!(rt; goal_is_told);
     assert!(rt; rules_are_told);
-    Ok(())
-}
-
-#[test]
-fn numbers_are_those_of_the_published_generator(rt: HostRuntime) -> Result<(), Fail> {
-    let mut random = Random::of(1_234_567);
-    assert_eq!(rt; random.next(), 6_457_827_717_110_365_317);
-    assert_eq!(rt; random.next(), 3_203_168_211_198_807_973);
-    assert_eq!(rt; random.next(), 9_817_491_932_198_370_423);
     Ok(())
 }

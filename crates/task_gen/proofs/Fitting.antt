@@ -106,7 +106,7 @@ bits_of_switch : (i : ℕ) → bits_of (switch i) ≤ 1
 unfolding width doublings
 bits_of_switch i = lit≤ tt
 
-few_bits : (n : ℕ) → n ≤ 64 → sum_by bits_of (variables n) ≤ 4096
+few_bits : (n : ℕ) → n ≤ 64 → sum_by bits_of (variables n) ≤ 65536
 few_bits n most =
     let switches_bits = sum_up_to bits_of switch n 1 bits_of_switch in
     rw (sum_by-append bits_of (up_to switch n) (all_on ∷ [])) (omega (arith, switches_bits))

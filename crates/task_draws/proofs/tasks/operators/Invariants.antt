@@ -1,5 +1,5 @@
 use Rattle.std.proofs.Common.{◌≡◌, length}
-use Rattle.space_agreement.proofs.tasks.operators.Given as goal
+use Rattle.task_draws.proofs.tasks.operators.Given as goal
 
 abbrev pub invariant-operators : goal.invariant-operators
 invariant-operators l = length l.operators.items ≡ l.counter

@@ -1,7 +1,7 @@
 //! Numbers that look drawn by chance.
 
 ghost use Rattle.std.specs.Prelude.{◌≡◌, ◌<◌, ◌%◌, ◌==◌};
-ghost use Rattle.space_agreement.specs.Random.{mixed, after};
+ghost use Rattle.task_draws.specs.Random.{mixed, after};
 
 /// The stream of numbers of a seed.
 ///

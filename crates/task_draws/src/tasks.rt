@@ -1,7 +1,7 @@
 //! Small tasks, drawn.
 
 ghost use Rattle.std.specs.Prelude.{◌≤◌, IfOk, IfSome, length};
-ghost use Rattle.space_agreement.specs.Small.{IsSmall};
+ghost use Rattle.task_draws.specs.Small.{IsSmall};
 
 use crate::kinds::{Kind, Kinds};
 use crate::random::Random;

@@ -1,5 +1,5 @@
 use Rattle.std.proofs.Common.{◌≡◌, ◌+◌, length}
-use Rattle.space_agreement.proofs.kinds.Kinds.drawn.Given as goal
+use Rattle.task_draws.proofs.kinds.Kinds.drawn.Given as goal
 
 abbrev pub invariant-bases : goal.invariant-bases
 invariant-bases l = length l.items.items ≡ l.counter

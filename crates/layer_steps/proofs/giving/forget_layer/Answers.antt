@@ -1,4 +1,4 @@
-use Rattle.layer_steps.proofs.Moving.{trades_as}
+use Rattle.space_api.proofs.Trading.{trades_as}
 use Rattle.layer_steps.proofs.PartsBack.{all_parts}
 use Rattle.layer_steps.proofs.giving.forget_layer.Goals as goal
 

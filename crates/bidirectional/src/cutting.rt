@@ -138,7 +138,7 @@ fn op_cuts<S: Space>(
     }
 }
 
-/// The first operator from this one on that crosses into the set at this cost.
+/// The first operator from this one on that crosses into the set at this cost; none is tried that leads into no state of it.
 fn first_op<S: Space>(
     alloc: Global,
     space: &mut S,
@@ -155,9 +155,10 @@ fn first_op<S: Space>(
     ensures ok { IfOk result (IsFirstOp (S.view space.old).system (Stands (S.view space.old) front.now) (Has (S.view space.old) to) cost b z from) }
 {
     let costs = meeting_costs(alloc, space, front, cost, b, z, to)?;
-    'operators: for op in 0..space.operators() {
-        if from <= op as u64 && op_cuts(space, front, cost, b, z, op, &costs, to)? {
-            return Ok(Some(op));
+    let ops = space.operators_into(alloc, to)?;
+    'operators: for op in &ops {
+        if from <= *op as u64 && op_cuts(space, front, cost, b, z, *op, &costs, to)? {
+            return Ok(Some(*op));
         }
     }
     Ok(None)

@@ -7,7 +7,7 @@
 //! by hand, and, on tasks that are drawn, with the listed plans, over the space of ordered sets and the space of decision
 //! diagrams; and they refuse one call of the space after the other.
 //! It stands on `bidirectional`, for the listed plans on `task_run`, and for its tests on `explicit_space`, `bdd_space`,
-//! `small_tasks` and `space_agreement`.
+//! `small_tasks` and `task_draws`.
 #![tactic(auto)]
 
 mod listing;

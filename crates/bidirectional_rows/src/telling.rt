@@ -1,7 +1,6 @@
 //! What a search from both ends tells.
 
-ghost use Rattle.std.specs.Prelude.{◌≡◌, ◌≤◌};
-ghost use Rattle.task_system.specs.Computed.{system_of};
+ghost use Rattle.std.specs.Prelude.{◌≤◌};
 ghost use Rattle.bidirectional.specs.Both.{IsBoth, GoesOn};
 
 use crate::listing::{all_cuts, cuts_up_to, first_cuts};
@@ -9,7 +8,6 @@ use crate::plans::PlanCut;
 use bidirectional::{Both, Choose, Cut, Next, Within};
 use space_api::{Space, SpaceFault};
 use std::alloc::Global;
-use symk_task::Task;
 
 /// What is known once costs are settled, and the cuts of one of them.
 #[derive(Debug, Drop)]
@@ -24,20 +22,16 @@ pub struct Settled {
     pub all: Vec<Cut>,
 }
 
-/// Begins over the space of the task, settles the one cost, and lists the cuts of the other.
+/// Begins over the space, settles the one cost, and lists the cuts of the other.
 pub fn cuts_once_settled<S: Space, P: Choose + Drop>(
     alloc: Global,
     space: &mut S,
-    task: &Task,
     choose: P,
     settled: u64,
     cost: u64,
 ) -> Result<Settled, SpaceFault>
-    requires system { (S.view space.old).system ≡ system_of task.now }
-    requires cost { cost ≤ settled }
+    requires { cost ≤ settled }
 {
-    // A task fits.
-    let _ = task.parts();
     let mut both = Both::new(alloc, space, choose)?;
     both.settle(alloc, space, settled)?;
     let f = both.forward_layers().known_below();
@@ -57,18 +51,13 @@ pub struct Cutting {
     pub cuts: Vec<PlanCut>,
 }
 
-/// Begins over the space of the task, settles this cost, and lists the cuts of each cost up to it.
+/// Begins over the space, settles this cost, and lists the cuts of each cost up to it.
 pub fn list_cuts<S: Space, P: Choose + Drop>(
     alloc: Global,
     space: &mut S,
-    task: &Task,
     choose: P,
     most: u64,
-) -> Result<Cutting, SpaceFault>
-    requires { (S.view space.old).system ≡ system_of task.now }
-{
-    // A task fits.
-    let _ = task.parts();
+) -> Result<Cutting, SpaceFault> {
     let mut both = Both::new(alloc, space, choose)?;
     both.settle(alloc, space, most)?;
     let b = both.backward_layers().known_below();
@@ -120,19 +109,14 @@ fn layer_above<T: Copy, P: Choose>(both: &Both<T, P>, most: u64) -> Option<u64> 
     ahead.or(back)
 }
 
-/// Begins over the space of the task, with all states for the backward side, and lists the costs of plans up to the greatest
+/// Begins over the space, with all states for the backward side, and lists the costs of plans up to the greatest
 /// one, at most 99, then the next. The set of all states stays in the space.
 pub fn list_costs<S: Space, P: Choose + Drop>(
     alloc: Global,
     space: &mut S,
-    task: &Task,
     choose: P,
     most: u64,
-) -> Result<Costs, SpaceFault>
-    requires { (S.view space.old).system ≡ system_of task.now }
-{
-    // A task fits.
-    let _ = task.parts();
+) -> Result<Costs, SpaceFault> {
     let all = space.all()?;
     let mut both = Both::new_within(alloc, space, choose, all)?;
     let within = costs_within(alloc, space, &mut both, most)?;
@@ -169,19 +153,14 @@ fn answers_of<S: Space, P: Choose>(
     Ok(answers)
 }
 
-/// Begins over the space of the task, and lists what comes after each cost of a plan, the first included, at most so many
+/// Begins over the space, and lists what comes after each cost of a plan, the first included, at most so many
 /// answers.
 pub fn list_answers<S: Space, P: Choose + Drop>(
     alloc: Global,
     space: &mut S,
-    task: &Task,
     choose: P,
     count: u32,
-) -> Result<Vec<Next>, SpaceFault>
-    requires { (S.view space.old).system ≡ system_of task.now }
-{
-    // A task fits.
-    let _ = task.parts();
+) -> Result<Vec<Next>, SpaceFault> {
     let mut both = Both::new(alloc, space, choose)?;
     let answers = answers_of(alloc, space, &mut both, count)?;
     both.give_back(space);

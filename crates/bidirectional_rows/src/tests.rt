@@ -13,11 +13,11 @@ use small_tasks::{
     near_and_far, no_plan, one_switch, past_64_bits, same_name_twice, switch_and_back,
     two_switches, zero_costs,
 };
-use space_agreement::random_task;
 use space_api::SpaceFault;
 use std::alloc::Global;
 use std::test::Fail;
 use symk_task::{Memory, Task};
+use task_draws::random_task;
 
 /// Each choice of the side that goes on.
 const CHOICES: [Choice; 4] = [
@@ -39,10 +39,10 @@ fn settles(
     let cost = cost.min(most);
     if diagrams {
         let mut space = BddSpace::of(alloc, task)?;
-        cuts_once_settled(alloc, &mut space, task, choose, most, cost)
+        cuts_once_settled(alloc, &mut space, choose, most, cost)
     } else {
         let mut space = ExplicitSpace::of(alloc, task)?;
-        cuts_once_settled(alloc, &mut space, task, choose, most, cost)
+        cuts_once_settled(alloc, &mut space, choose, most, cost)
     }
 }
 
@@ -56,15 +56,9 @@ fn costs_in(
 ) -> Result<Costs, SpaceFault> {
     if diagrams {
         let mut space = BddSpace::of(alloc, task)?;
-        list_costs(alloc, &mut space, task, choose, most)
+        list_costs(alloc, &mut space, choose, most)
     } else {
-        list_costs(
-            alloc,
-            &mut ExplicitSpace::of(alloc, task)?,
-            task,
-            choose,
-            most,
-        )
+        list_costs(alloc, &mut ExplicitSpace::of(alloc, task)?, choose, most)
     }
 }
 
@@ -225,10 +219,10 @@ fn answers_in(
 ) -> Result<Vec<Next>, SpaceFault> {
     if diagrams {
         let mut space = BddSpace::of(alloc, task)?;
-        list_answers(alloc, &mut space, task, choose, count)
+        list_answers(alloc, &mut space, choose, count)
     } else {
         let mut space = ExplicitSpace::of(alloc, task)?;
-        list_answers(alloc, &mut space, task, choose, count)
+        list_answers(alloc, &mut space, choose, count)
     }
 }
 
@@ -385,10 +379,10 @@ fn cuts_in(
 ) -> Result<Cutting, SpaceFault> {
     if diagrams {
         let mut space = BddSpace::of(alloc, task)?;
-        list_cuts(alloc, &mut space, task, choose, most)
+        list_cuts(alloc, &mut space, choose, most)
     } else {
         let mut space = ExplicitSpace::of(alloc, task)?;
-        list_cuts(alloc, &mut space, task, choose, most)
+        list_cuts(alloc, &mut space, choose, most)
     }
 }
 

@@ -2,6 +2,7 @@ pub mod Sets
 pub mod Joining
 pub mod Kept
 pub mod Barren
+pub mod Leading
 pub mod OneChild
 pub mod Adding
 pub mod Gathering

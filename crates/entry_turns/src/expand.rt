@@ -10,7 +10,7 @@ ghost use Rattle.entry_turns.specs.Grown.{Gathers, Expands};
 
 use crate::children::{Children, give_back_children, try_operator};
 use crate::entries::Entry;
-use crate::ways::way_for;
+use crate::ways::{is_among, leading, way_for};
 use cost_layers::Layers;
 use space_api::{Space, SpaceFault};
 use std::alloc::Global;
@@ -26,7 +26,8 @@ fn is_last_of_cost<S: Space>(space: &S, order: &[u32], i: usize, w: u64) -> bool
     }
 }
 
-/// Adds the children by all operators, in this order. After a refusal the children so far are there.
+/// Adds the children by all operators, in this order; none is tried that cannot lead on. After a refusal the children so far
+/// are there.
 fn gather<S: Space>(
     alloc: Global,
     space: &mut S,
@@ -45,8 +46,12 @@ fn gather<S: Space>(
     ensures makes { Makes (S.view space.old) (S.view space.new) (children.new.level.items ++ children.new.falling.items) }
     ensures ok { OnOk result (Gathers (S.view space.old) (S.view space.new) front.now back.now entry.now children.new.level.items children.new.falling.items) }
 {
+    let ops = leading(alloc, space, entry)?;
     let mut last = None;
     'operators: for (i, op) in order.iter().enumerate() {
+        if !is_among(&ops, *op) {
+            continue 'operators;
+        }
         let w = space.cost_of(*op);
         let alone = is_last_of_cost(space, order, i, w);
         let way = way_for(space, front, back, entry, last, w, alone)?;

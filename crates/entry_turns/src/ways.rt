@@ -1,22 +1,47 @@
 //! Where operators of one cost lead on from an entry, and the set of a child.
 
-ghost use Rattle.std.specs.Prelude.{◌≡◌, ◌≤◌, ◌-◌, ◌<◌, ◌^◌, ◌↔◌, ℕ, Some, IsTrue, IfOk, OnErr, MatchOption};
+ghost use Rattle.std.specs.Prelude.{◌≡◌, ◌≤◌, ◌-◌, ◌<◌, ◌^◌, ◌↔◌, ℕ, Some, IsTrue, IfOk, OnErr, MatchOption, Contains};
+ghost use Rattle.std.specs.List.Sorted.{IsStrictlyIncreasing};
 ghost use Rattle.task_system.specs.System.{State, Leads};
 ghost use Rattle.space_api.specs.View.{View, Valid, Has};
 ghost use Rattle.space_api.specs.Frames.{Kept, NoMore, Stays};
 ghost use Rattle.cost_layers.specs.Layers.{Held, whole_at};
 ghost use Rattle.entry_turns.specs.Entries.{set_in, cost_in};
-ghost use Rattle.entry_turns.specs.Ways.{IsLeast, Joins, JoinsByCost, IsWay, WayIs, Found};
+ghost use Rattle.entry_turns.specs.Ways.{AreLeading, IsLeast, Joins, JoinsByCost, IsWay, WayIs, Found};
 
 use crate::entries::{Entry, Prefix, Suffix, cost_of};
 use cost_layers::Layers;
 use space_api::{Space, SpaceFault, meets};
+use std::alloc::Global;
 
 /// Whether operators of a cost may lead on: the layer into which they do, or None where none does.
 #[derive(Clone, Copy)]
 pub(crate) struct Way<T: Copy> {
     pub(crate) cost: u64,
     pub(crate) layer: Option<T>,
+}
+
+/// The operators that may lead on from the entry, rising: each that does, and perhaps others.
+pub(crate) fn leading<S: Space>(
+    alloc: Global,
+    space: &S,
+    entry: &Entry<S::Set>,
+) -> Result<Vec<u32>, SpaceFault>
+    requires { Valid (S.view space.now) (set_in entry.now) }
+    ensures { IfOk result (λ ops. AreLeading (S.view space.now) entry.now ops.items) }
+{
+    match entry {
+        Entry::Before(prefix) => space.operators_into(alloc, prefix.set),
+        Entry::After(suffix) => space.operators_from(alloc, suffix.set),
+    }
+}
+
+/// Whether the operator is one of these, which rise.
+pub(crate) fn is_among(ops: &[u32], op: u32) -> bool
+    requires { IsStrictlyIncreasing ops.now }
+    ensures { IsTrue result ↔ Contains ops.now op }
+{
+    ops.binary_search(&op).is_ok()
 }
 
 /// The number of the first ring of this cost that has a state of the set, 0 where none has.

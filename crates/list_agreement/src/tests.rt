@@ -2,10 +2,10 @@
 
 use crate::following::{Firsts, Priced, follows, give_alike};
 use plan_listing::{BACKWARD, Choice, Engine, FORWARD, LIGHTER, LOWER, Request, Sets, listed};
-use space_agreement::random_task;
 use std::alloc::Global;
 use std::test::Fail;
 use symk_task::{Memory, Mode, Task};
+use task_draws::random_task;
 
 const STATES: Sets = Sets::States { calls: u64::MAX };
 

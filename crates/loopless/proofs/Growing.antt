@@ -1,5 +1,5 @@
 -- Entries while the tree grows, and the children of one, operator after operator.
-use Rattle.std.proofs.Common.{◌≡◌, ℕ, ◌+◌, ◌<◌, ◌≤◌, ◌^◌, ◌⊎◌, inl, inr, Bool, true, false, IsTrue, IsFalse, List, [], ◌∷◌, ◌++◌, length, Some, refl, sym, ◌∙◌, ap, subst, arith, add-one}
+use Rattle.std.proofs.Common.{◌≡◌, ℕ, zero, suc, ◌+◌, ◌<◌, ◌≤◌, ◌^◌, ◌⊎◌, inl, inr, Bool, true, false, IsTrue, IsFalse, List, [], ◌∷◌, ◌++◌, length, Some, refl, sym, ◌∙◌, ap, subst, arith, add-one}
 use Rattle.std.specs.Bool.{Decides}
 use Rattle.std.specs.List.{AllByRecursion}
 use Rattle.std.proofs.lemmas.List.{length-append}
@@ -8,7 +8,7 @@ use Rattle.space_api.specs.View.{View}
 use Rattle.space_api.specs.Frames.{Stays}
 use Rattle.space_api.specs.Owned.{Trades}
 use Rattle.space_api.proofs.Keeping.{kept_refl, kept_trans}
-use Rattle.prefix_laws.specs.Queue.{prefix, ind, count, sum_ops, Good, Bounds}
+use Rattle.prefix_laws.specs.Queue.{prefix, ind, count, sum_ops, Good, Bounds, Hopeless}
 use Rattle.prefix_laws.proofs.Splits.{count_join, cost_join}
 use Rattle.prefix_laws.proofs.Traces.{bounds_by, plan_by, one_end}
 use Rattle.prefix_tree.specs.Tree.{One, IsTree, IsNode, InTree, IsCounted, Grows, GivesUp, path_at, uses_at, with_child, one_at}
@@ -235,6 +235,14 @@ children_next y nodes e n kids new g (inr (k, pushed, stands, path)) =
       few = omega (arith, g.few, length-append kids (k ∷ []));
       counted = λ p i. rw (prefixes_last nodes kids k, path) (omega (arith, sum_next n (λ op. ind (prefix (e ++ op ∷ []) p)), g.counted p i, count_join (prefixes nodes kids) ((e ++ n ∷ []) ∷ []) p));
     })
+
+-- no loopless plan goes on by any of the next so many operators
+pub children_past : {T : Type 0} (y : System) (nodes : List (Node T)) (e : List ℕ) (n k : ℕ) (kids : List Entry) → AreChildren y nodes e n kids → ((op : ℕ) → n ≤ op → op < n + k → Hopeless y (e ++ op ∷ [])) → AreChildren y nodes e (n + k) kids
+children_past y nodes e n zero kids z lost = let same : n ≡ n + 0 = omega arith in subst (λ (m : ℕ). AreChildren y nodes e m kids) same z
+children_past y nodes e n (suc k) kids z lost =
+    let same : n + k + 1 ≡ n + suc k = omega arith in
+    let before = children_past y nodes e n k kids z (λ op ge lt. lost op ge (omega (arith, lt))) in
+    subst (λ (m : ℕ). AreChildren y nodes e m kids) same (children_next y nodes e (n + k) kids kids before (inl (refl, lost (n + k) (omega arith) (omega arith))))
 
 -- entries and children stand while the tree grows
 pub entry_grown : {Set : Type 0} (v w : View Set) (a b : List (Node Set)) (e : Entry) → Grows v w a b → IsEntry v.system a e → IsEntry w.system b e

@@ -1,6 +1,7 @@
 pub mod Layers
 pub mod Reaching
 pub mod Growing
+pub mod Skipping
 pub mod Moving
 pub mod Turning
 pub mod Readying

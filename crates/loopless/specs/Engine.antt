@@ -1,6 +1,6 @@
 -- An engine as its callers see it.
 use Rattle.std.specs.Prelude.{◌≡◌, ℕ, ◌⊎◌, Bool, IsFalse, List, Option, Result}
-use Rattle.task_system.specs.System.{State, System, IsPlanOf, Listed}
+use Rattle.task_system.specs.System.{State, System, IsPlanOf}
 use Rattle.symk_task.specs.declared.parts.Mode.TheVariants.{Loopless}
 use Rattle.run_graph.specs.Reached.{Useful}
 use Rattle.space_api.specs.View.{View, Valid, Has}
@@ -57,10 +57,6 @@ HasAlone {Set} v within = (a : Set) → Valid v a → a ≡ within
 -- the set has each useful state
 abbrev pub HasUseful : {Set : Type 0} → View Set → Set → Type 0
 HasUseful v within = (s : State) → Useful v.system s → Has v within s
-
--- each useful state is one that the system lists
-abbrev pub ListsUseful : {Set : Type 0} → View Set → Type 0
-ListsUseful v = (s : State) → Useful v.system s → Listed v.system.states s
 
 -- each loopless plan of the system pends
 abbrev pub OwesAll : {S Set : Type 0} → (S → View Set) → System → LooplessPlans S Set → Type 0

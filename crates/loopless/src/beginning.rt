@@ -2,7 +2,7 @@
 
 ghost use Rattle.std.specs.Prelude.{◌≡◌, IfOk, None, Some};
 ghost use Rattle.space_api.specs.View.{View, Valid};
-ghost use Rattle.loopless.specs.Engine.{system_of, most_of, ended_of, IsEngine, HasNone, HasAlone, HasUseful, ListsUseful, OwesAll};
+ghost use Rattle.loopless.specs.Engine.{system_of, most_of, ended_of, IsEngine, HasNone, HasAlone, HasUseful, OwesAll};
 
 use crate::engine::LooplessPlans;
 use crate::reach::is_goal;
@@ -106,8 +106,7 @@ impl<S: Space + Drop> LooplessPlans<S> {
         space: S,
         most: Option<u64>,
     ) -> Result<LooplessPlans<S>, Memory>
-        requires none { HasNone (S.view space) }
-        requires states { ListsUseful (S.view space) }
+        requires { HasNone (S.view space) }
         ensures lawful { IfOk result (λ x. IsEngine S.view x) }
         ensures system { IfOk result (λ x. system_of S.view x ≡ (S.view space).system) }
         ensures all { IfOk result (λ x. OwesAll S.view (S.view space).system x) }
@@ -121,10 +120,9 @@ impl<S: Space + Drop> LooplessPlans<S> {
 
     /// All loopless plans of the space's system. No plan is taken yet: each one pends.
     ///
-    /// The caller knows that no set of the space is valid yet, and that each useful state is listed.
+    /// The caller knows that no set of the space is valid yet.
     pub fn new(alloc: Global, space: S) -> Result<LooplessPlans<S>, Memory>
-        requires none { HasNone (S.view space) }
-        requires states { ListsUseful (S.view space) }
+        requires { HasNone (S.view space) }
         ensures lawful { IfOk result (λ x. IsEngine S.view x) }
         ensures system { IfOk result (λ x. system_of S.view x ≡ (S.view space).system) }
         ensures all { IfOk result (λ x. OwesAll S.view (S.view space).system x) }
@@ -136,8 +134,7 @@ impl<S: Space + Drop> LooplessPlans<S> {
 
     /// The same, with the greatest cost that is wanted.
     pub fn within(alloc: Global, space: S, most: u64) -> Result<LooplessPlans<S>, Memory>
-        requires none { HasNone (S.view space) }
-        requires states { ListsUseful (S.view space) }
+        requires { HasNone (S.view space) }
         ensures lawful { IfOk result (λ x. IsEngine S.view x) }
         ensures system { IfOk result (λ x. system_of S.view x ≡ (S.view space).system) }
         ensures all { IfOk result (λ x. OwesAll S.view (S.view space).system x) }

@@ -10,7 +10,7 @@ ghost use Rattle.loopless.specs.Children.{IsEntry, Added, AreChildren, CountsOn,
 
 use crate::reach::reach;
 use backward_search::Backward;
-use prefix_tree::{Entry, Node, Queue, add, release_all};
+use prefix_tree::{Entry, Node, Queue, add, node_at, release_all};
 use space_api::{Space, SpaceFault};
 use std::alloc::{AllocError, Global};
 use std::cmp::Reverse;
@@ -72,9 +72,10 @@ fn add_child<S: Space>(
     }
 }
 
-/// Adds the children by all operators to the tree and to the children, and makes room for them in the queue. Want of memory leaves
-/// what came so far.
+/// Adds the children by all operators to the tree and to the children, and makes room for them in the queue. No operator is tried
+/// that doesn't apply. Want of memory leaves what came so far.
 fn add_all<S: Space>(
+    alloc: Global,
     space: &mut S,
     backward: &Backward<S::Set>,
     tree: &mut Vec<Node<S::Set>>,
@@ -94,8 +95,10 @@ fn add_all<S: Space>(
     ensures room { OnOk result (HasRoom queue.new (length children.new.items)) }
     ensures children { OnOk result (AreChildren (S.view space.old).system tree.new.items (path_at tree.old.items entry.node) (S.view space.old).system.operators children.new.items) }
 {
-    'operators: for op in 0..space.operators() {
-        add_child(space, backward, tree, entry, op, children)?;
+    let here = node_at(tree, entry.node);
+    let ops = space.operators_from(alloc, here.set)?;
+    'operators: for op in &ops {
+        add_child(space, backward, tree, entry, *op, children)?;
     }
     queue.make_room(children.len())
 }
@@ -123,7 +126,7 @@ pub(crate) fn expand<S: Space>(
     ensures err { OnErr result (Regrows (S.view space.old) (S.view space.new) tree.old.items tree.new.items) }
 {
     let mut children = Vec::new(alloc);
-    match add_all(space, backward, tree, queue, entry, &mut children) {
+    match add_all(alloc, space, backward, tree, queue, entry, &mut children) {
         Ok(()) => Ok(children),
         Err(fault) => {
             release_all(space, tree, children);

@@ -1,7 +1,7 @@
 //! Lists by any engine over either space.
 
 ghost use Rattle.std.specs.Prelude.{◌≡◌, None, Some, IfOk};
-ghost use Rattle.reconstruct.specs.Engine.{ListsUseful, IsReadyFor, IsEngine};
+ghost use Rattle.reconstruct.specs.Engine.{IsReadyFor, IsEngine};
 ghost use Rattle.loopless.specs.Engine.{IsEngine as IsLoopless};
 
 use crate::costs::costs_of;
@@ -76,8 +76,7 @@ fn all_plans<S: Space + Drop>(
     choice: Choice,
     request: Request,
 ) -> Result<TopPlans<S, Choice>, Memory>
-    requires none { IsReadyFor (S.view space) None }
-    requires states { ListsUseful (S.view space) }
+    requires { IsReadyFor (S.view space) None }
     ensures { IfOk result (IsEngine S.view) }
 {
     let mut space = space;
@@ -100,8 +99,7 @@ fn loopless_plans<S: Space + Drop>(
     space: S,
     request: Request,
 ) -> Result<LooplessPlans<S>, Memory>
-    requires none { IsReadyFor (S.view space) None }
-    requires states { ListsUseful (S.view space) }
+    requires { IsReadyFor (S.view space) None }
     ensures { IfOk result (IsLoopless S.view) }
 {
     let mut space = space;
@@ -124,8 +122,7 @@ fn listed_over<S: Space + Drop>(
     space: S,
     request: Request,
 ) -> Result<Listing, Memory>
-    requires none { IsReadyFor (S.view space) None }
-    requires states { ListsUseful (S.view space) }
+    requires { IsReadyFor (S.view space) None }
 {
     match request.engine {
         Engine::Top(choice) => {
@@ -145,8 +142,6 @@ fn listed_over<S: Space + Drop>(
 
 /// The first plans of the task, as they are asked for.
 pub fn listed(alloc: Global, task: &Task, request: Request) -> Result<Listing, Memory> {
-    // A task fits, and so its system lists each useful state.
-    let _ = task.parts();
     match request.sets {
         Sets::States { calls } => {
             let space = FuseSpace::new(ExplicitSpace::of(alloc, task)?, calls);

@@ -1,6 +1,6 @@
 -- An engine as its callers see it.
 use Rattle.std.specs.Prelude.{◌≡◌, ◌↔◌, ℕ, Bool, IsFalse, List, Option, Some, None, Result}
-use Rattle.task_system.specs.System.{State, System, IsPlan, Listed}
+use Rattle.task_system.specs.System.{State, System, IsPlan}
 use Rattle.run_graph.specs.Reached.{Useful}
 use Rattle.space_api.specs.View.{View, Valid, Has}
 use Rattle.lazy_plans.specs.Law.{Last}
@@ -42,10 +42,6 @@ HasRoom view x = IsTidy (view x.space)
 -- one call of it
 abbrev pub Answers : {S P Set : Type 0} → (S → View Set) → TopPlans S P Set → TopPlans S P Set → Result (Option (List ℕ)) Stop → Type 0
 Answers view x z result = Answered (view x.space) (view z.space) x.most (Pends view x) (Pends view z) (IsEngine view z) z.ended result
-
--- each useful state is one that the system lists
-abbrev pub ListsUseful : {Set : Type 0} → View Set → Type 0
-ListsUseful v = (s : State) → Useful v.system s → Listed v.system.states s
 
 -- no set is valid, or the set alone that has every useful state
 abbrev pub IsReadyFor : {Set : Type 0} → View Set → Option Set → Type 0

@@ -4,7 +4,7 @@ ghost use Rattle.std.specs.Prelude.{None, Some, IfOk};
 ghost use Rattle.space_api.specs.View.{View};
 ghost use Rattle.space_api.specs.Owned.{Trades};
 ghost use Rattle.bidirectional.specs.Both.{IsBoth, IsOwnOf};
-ghost use Rattle.reconstruct.specs.Engine.{ListsUseful, IsReadyFor, IsNew};
+ghost use Rattle.reconstruct.specs.Engine.{IsReadyFor, IsNew};
 
 use crate::engine::TopPlans;
 use crate::pricing::by_cost;
@@ -20,8 +20,7 @@ fn both_of<S: Space, P: Choose + Drop>(
     choose: P,
     within: Option<S::Set>,
 ) -> Result<Both<S::Set, P>, Memory>
-    requires ready { IsReadyFor (S.view space.old) within }
-    requires states { ListsUseful (S.view space.old) }
+    requires { IsReadyFor (S.view space.old) within }
     ensures both { IfOk result (IsBoth (S.view space.new)) }
     ensures trades { IfOk result (λ h. Trades (S.view space.old) (S.view space.new) (λ a. ⊥) (IsOwnOf h)) }
 {
@@ -39,8 +38,7 @@ fn begin<S: Space + Drop, P: Choose + Drop>(
     most: Option<u64>,
     within: Option<S::Set>,
 ) -> Result<TopPlans<S, P>, Memory>
-    requires ready { IsReadyFor (S.view space) within }
-    requires states { ListsUseful (S.view space) }
+    requires { IsReadyFor (S.view space) within }
     ensures { IfOk result (IsNew S.view (S.view space) most) }
 {
     let mut space = space;
@@ -62,10 +60,9 @@ fn begin<S: Space + Drop, P: Choose + Drop>(
 impl<S: Space + Drop, P: Choose + Drop> TopPlans<S, P> {
     /// All plans of the space's system. No plan is taken yet: each one pends.
     ///
-    /// The caller knows that no set of the space is valid, and that the system lists each useful state.
+    /// The caller knows that no set of the space is valid.
     pub fn new(alloc: Global, space: S, choose: P) -> Result<TopPlans<S, P>, Memory>
-        requires none { IsReadyFor (S.view space) None }
-        requires states { ListsUseful (S.view space) }
+        requires { IsReadyFor (S.view space) None }
         ensures { IfOk result (IsNew S.view (S.view space) None) }
     {
         begin(alloc, space, choose, None, None)
@@ -73,8 +70,7 @@ impl<S: Space + Drop, P: Choose + Drop> TopPlans<S, P> {
 
     /// The same, where no plan that costs more than `most` is wanted. Such plans pend for ever, and it ends without them.
     pub fn within(alloc: Global, space: S, choose: P, most: u64) -> Result<TopPlans<S, P>, Memory>
-        requires none { IsReadyFor (S.view space) None }
-        requires states { ListsUseful (S.view space) }
+        requires { IsReadyFor (S.view space) None }
         ensures { IfOk result (IsNew S.view (S.view space) (Some most)) }
     {
         begin(alloc, space, choose, Some(most), None)
@@ -89,8 +85,7 @@ impl<S: Space + Drop, P: Choose + Drop> TopPlans<S, P> {
         choose: P,
         within: S::Set,
     ) -> Result<TopPlans<S, P>, Memory>
-        requires alone { IsReadyFor (S.view space) (Some within) }
-        requires states { ListsUseful (S.view space) }
+        requires { IsReadyFor (S.view space) (Some within) }
         ensures { IfOk result (IsNew S.view (S.view space) None) }
     {
         begin(alloc, space, choose, None, Some(within))
@@ -106,8 +101,7 @@ impl<S: Space + Drop, P: Choose + Drop> TopPlans<S, P> {
         most: u64,
         within: S::Set,
     ) -> Result<TopPlans<S, P>, Memory>
-        requires alone { IsReadyFor (S.view space) (Some within) }
-        requires states { ListsUseful (S.view space) }
+        requires { IsReadyFor (S.view space) (Some within) }
         ensures { IfOk result (IsNew S.view (S.view space) (Some most)) }
     {
         begin(alloc, space, choose, Some(most), Some(within))

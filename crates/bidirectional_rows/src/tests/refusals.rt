@@ -1,7 +1,6 @@
 //! Calls that are refused memory, one after the other.
 
-ghost use Rattle.std.specs.Prelude.{◌≡◌, ◌+◌, ◌<◌, ◌≤◌};
-ghost use Rattle.task_system.specs.Computed.{system_of};
+ghost use Rattle.std.specs.Prelude.{◌+◌, ◌<◌, ◌≤◌};
 ghost use Rattle.space_api.specs.View.{Valid};
 ghost use Rattle.space_api.specs.Frames.{Stays};
 ghost use Rattle.cost_layers.specs.Layers.{Held};
@@ -225,11 +224,7 @@ fn fused_over<S: Space>(
     space: &mut FuseSpace<S>,
     task: &Task,
     choose: Choice,
-) -> Result<Outcome, Memory>
-    requires { (S.view space.old.inner).system ≡ system_of task.now }
-{
-    // A task fits.
-    let _ = task.parts();
+) -> Result<Outcome, Memory> {
     let mut both = match Both::new(alloc, space, choose) {
         Ok(both) => both,
         Err(_) => return Ok(Outcome::NotBegun),

@@ -1,9 +1,5 @@
 use Rattle.bidirectional.proofs.Advancing.{goes_stays}
-use Rattle.bidirectional_rows.proofs.Begun.{listed_in}
 use Rattle.bidirectional_rows.proofs.telling.cuts_once_settled.Goals as goal
-
-pub new-requires : goal.new-requires
-new-requires g c = listed_in (g.S.Space.view c.args.space.now).system c.args.task.now c.parts.ensures.fits c.requires.system
 
 pub all_cuts-requires-clause-both : goal.all_cuts-requires-clause-both
 all_cuts-requires-clause-both g c =

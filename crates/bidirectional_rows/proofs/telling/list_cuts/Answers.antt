@@ -1,9 +1,5 @@
 use Rattle.bidirectional.proofs.Advancing.{goes_stays}
-use Rattle.bidirectional_rows.proofs.Begun.{listed_in}
 use Rattle.bidirectional_rows.proofs.telling.list_cuts.Goals as goal
-
-pub new-requires : goal.new-requires
-new-requires g c = listed_in (g.S.Space.view c.args.space.now).system c.args.task.now c.parts.ensures.fits c.requires
 
 pub give_back-requires : goal.give_back-requires
 give_back-requires g c =

@@ -1,10 +1,20 @@
-use Rattle.std.proofs.Common.{arith, refl, ◌∙◌, sym, ◌++◌}
+use Rattle.std.proofs.Common.{ℕ, ◌<◌, List, get_or, arith, refl, ◌∙◌, sym, subst, ◌++◌}
+use Rattle.std.specs.List.{Contains}
+use Rattle.std.proofs.lemmas.List.{get_or_default}
+use Rattle.std.specs.List.Sorted.{IsStrictlyIncreasing}
+use Rattle.task_system.specs.System.{System}
+use Rattle.space_api.proofs.Trading.{valid_clash}
 use Rattle.cost_layers.specs.Layers.{rings_at, whole_at}
 use Rattle.cost_layers.proofs.Holding.{holds_kept}
-use Rattle.space_api.proofs.Keeping.{kept_trans, stays_refl}
+use Rattle.space_api.proofs.Keeping.{kept_refl, kept_trans, stays_refl}
 use Rattle.entry_turns.proofs.Sets.{makes_stays, ok_valid, ok_kept}
-use Rattle.entry_turns.proofs.Gathering.{sofar_on, sofar_end, way_kept, way_from}
+use Rattle.entry_turns.proofs.Leading.{leading_rises, not_leading}
+use Rattle.entry_turns.proofs.Adding.{none_added}
+use Rattle.entry_turns.proofs.Gathering.{order_at, sofar_on, sofar_end, way_kept, way_from}
 use Rattle.entry_turns.proofs.expand.gather.Goals as goal
+
+pub is_among-requires : goal.is_among-requires
+is_among-requires g c = subst IsStrictlyIncreasing (sym c.deref.ensures.value) (leading_rises (g.S.Space.view c.args.space.now) c.args.entry.now c.in_ok-ops.ops.items c.in_ok-ops.ensures)
 
 pub way_for-requires-clause-front : goal.way_for-requires-clause-front
 way_for-requires-clause-front g c =
@@ -64,6 +74,29 @@ operators-preserved g c =
       last = way_from u v w c.args.front.now c.args.back.now e c.in_ok-way.way i.makes.kept made.kept c.requires.front c.requires.back c.requires.entry c.in_ok-way.ensures.ok;
       makes = made;
       sofar = sofar_on u v v1 w c.args.front.now c.args.back.now e c.requires.front c.requires.back c.requires.entry i.makes.kept c.way_for.ensures.stays.kept c.args.order.now c.operators.i _ level falling c.try_operator.new.children.level.items c.try_operator.new.children.falling.items c.operators-test.true refl i.makes.each i.sofar c.in_ok-try_operator.ensures.added;
+    }
+
+pub operators-preserved-then-not-is_among : goal.operators-preserved-then-not-is_among
+operators-preserved-then-not-is_among g c =
+    let view = g.S.Space.view in
+    let u = view c.args.space.now in
+    let v = view c.operators.space in
+    let i = c.operators.invariant in
+    let e = c.args.entry.now in
+    let front = c.args.front.now in
+    let back = c.args.back.now in
+    let order = c.args.order.now in
+    let op = get_or order c.operators.i 0 in
+    let ops = c.in_ok-ops.ops.items in
+    let level = c.operators.children.level.items in
+    let falling = c.operators.children.falling.items in
+    let number : op < v.system.operators = subst (λ (y : System). op < y.operators) (sym i.makes.kept.system) (order_at u.system.operators order c.operators.i op c.operators-test.true (get_or_default order c.operators.i 0 op c.operators-test.true) c.requires.order.range) in
+    let off : ¬ Contains ops op = λ h. valid_clash (c.is_among.ensures.1 (subst (λ (xs : List ℕ). Contains xs op) (sym c.deref.ensures.value) h)) c.if-not-is_among.true in
+    record {
+      last = i.last;
+      makes = i.makes;
+      sofar = sofar_on u v v v front back e c.requires.front c.requires.back c.requires.entry i.makes.kept (kept_refl v) order c.operators.i op level falling level falling c.operators-test.true refl i.makes.each i.sofar
+          (none_added v front back e op level falling v (kept_refl v) number (ok_kept u v e i.makes.kept c.requires.entry) (not_leading u v front back e ops op i.makes.kept (ok_valid u e c.requires.entry) c.in_ok-ops.ensures off));
     }
 
 pub returns-clause-ok : goal.returns-clause-ok

@@ -1,9 +1,5 @@
 use Rattle.bidirectional.proofs.Advancing.{goes_stays}
-use Rattle.bidirectional_rows.proofs.Begun.{listed_in}
 use Rattle.bidirectional_rows.proofs.tests.refusals.fused_over.Goals as goal
-
-pub new-requires : goal.new-requires
-new-requires g c = listed_in (g.S.Space.view c.args.space.now.inner).system c.args.task.now c.parts.ensures.fits c.requires
 
 pub cuts_stand-requires : goal.cuts_stand-requires
 cuts_stand-requires g c =

@@ -1,0 +1,4 @@
+pub mod Reading
+pub mod Refused
+pub mod Judging
+pub mod Carried

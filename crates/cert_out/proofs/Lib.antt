@@ -1,0 +1,4 @@
+pub mod Rounds
+pub mod Inducing
+pub mod Proving
+pub mod TextLines

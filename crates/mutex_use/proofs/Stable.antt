@@ -1,0 +1,141 @@
+-- When a group stands, told by calls of a space.
+use Rattle.std.proofs.Common.{◌≡◌, ◌≢◌, ℕ, ◌+◌, ◌<◌, ◌⊎◌, ◌↔◌, inl, inr, Bool, false, IsTrue, IsFalse, List, ◌∷◌, length, get_or, take, Option, Some, None, IsSomeAnd, slice_get, refl, sym, ◌∙◌, ap, subst, arith}
+use Rattle.std.specs.List.{Contains}
+use Rattle.std.proofs.lemmas.Bool.{cases_eq}
+use Rattle.std.proofs.lemmas.Option.{slice_get_within}
+use Rattle.std.proofs.lemmas.List.Elements.{All-contains, Contains-append_right}
+use Rattle.symk_task.specs.declared.parts.Fact.{Fact}
+use Rattle.symk_task.specs.declared.parts.Effect.{Effect}
+use Rattle.symk_task.specs.declared.parts.Operator.{Operator}
+use Rattle.symk_task.specs.declared.parts.TaskParts.{TaskParts}
+use Rattle.symk_task.specs.Variables.{IsBase, IsState, place}
+use Rattle.symk_task.specs.Steps.{Holds, Fires, ValueAfter, Step}
+use Rattle.symk_task.specs.Fits.{Fits}
+use Rattle.symk_task.specs.Plans.{IsInitial}
+use Rattle.symk_task.proofs.Running.{step_state}
+use Rattle.symk_task.proofs.Starting.{start_law, one_initial}
+use Rattle.task_system.specs.System.{State, System, Leads}
+use Rattle.task_system.specs.Computed.{system_of}
+use Rattle.task_system.proofs.RunsLaw.{leads_law}
+use Rattle.space_api.specs.View.{View, Valid, Has, Preimage}
+use Rattle.space_api.specs.Frames.{Kept, Gives}
+use Rattle.space_api.proofs.Facts.{base_holds}
+use Rattle.space_api.proofs.Trading.{valid_clash}
+use Rattle.mutex_use.specs.Groups.{group_at, HasAtMostOne, Keeps, AreBase, IsBaseGroup}
+use Rattle.mutex_use.specs.Counts.{HasTwo}
+use Rattle.mutex_use.specs.Rounds.{StandsFrom}
+use Rattle.mutex_use.specs.Sets.{HasAll, IsSafe}
+use Rattle.mutex_use.specs.Writers.{Touches, HaveTouching}
+use Rattle.mutex_use.proofs.Lists.{told, more, in_list}
+
+-- At most one fact holds where no two different ones do.
+
+same_fact : (f h : Fact) → (f ≡ h) ⊎ (f ≢ h)
+same_fact f h = elim (cases_eq f.var h.var) [
+  | inl p ↦ elim (cases_eq f.val h.val) [ inl q ↦ inl (λ i. record { var = p i; val = q i }) | inr n ↦ inr (λ e. n (ap (λ (z : Fact). z.val) e)) ]
+  | inr n ↦ inr (λ e. n (ap (λ (z : Fact). z.var) e))
+]
+
+pub at_most_one : (task : TaskParts) (facts : List Fact) (s : State) → ¬ HasTwo task facts s → HasAtMostOne task facts s
+at_most_one task facts s n f h cf ch hf hh = elim (same_fact f h) [ inl e ↦ e | inr ne ↦ absurd (n (f, h, cf, ch, ne, hf, hh)) ]
+
+pub not_two : (task : TaskParts) (facts : List Fact) (s : State) → HasAtMostOne task facts s → ¬ HasTwo task facts s
+not_two task facts s most (f, h, cf, ch, ne, hf, hh) = ne (most f h cf ch hf hh)
+
+-- An operator that has no effect on a variable leaves its value.
+
+module _ (task : TaskParts) (facts : List Fact) (s t : State) (a : ℕ) (base : AreBase task facts) (step : Step task s a t) (idle : ¬ Touches task a facts) where
+  value_stays : (f : Fact) → Contains facts f → get_or t (place task f.var) 0 ≡ get_or s (place task f.var) 0
+  value_stays f has = by (slice_get task.operators a) refl step.1.values
+    where
+      by : (o : Option Operator) → slice_get task.operators a ≡ o
+          → IsSomeAnd o (λ operator. (var : ℕ) → IsBase task var → ValueAfter (Fires task s) operator.effects var (get_or s (place task var) 0) (get_or t (place task var) 0))
+          → get_or t (place task f.var) 0 ≡ get_or s (place task f.var) 0
+      by None is h = absurd h
+      by (Some operator) is h = elim (h f.var (All-contains (λ (z : Fact). IsBase task z.var) facts f base has)) [
+        | inl (last, on, e) ↦ absurd (idle (f, has, (operator, last, is, subst (λ (z : List Effect). Contains z last) (sym on.here) (Contains-append_right on.before (last ∷ on.later) last (0, omega arith, refl)), on.on)))
+        | inr x ↦ x.1
+      ]
+
+  holds_before : (f : Fact) → Contains facts f → Holds task t f → Holds task s f
+  holds_before f has h =
+      let is = All-contains (λ (z : Fact). IsBase task z.var) facts f base has in
+      (base_holds task s f is).1 (sym (value_stays f has) ∙ (base_holds task t f is).0 h)
+
+  pub idle_keeps : HasAtMostOne task facts s → HasAtMostOne task facts t
+  idle_keeps most f h cf ch hf hh = most f h cf ch (holds_before f cf hf) (holds_before h ch hh)
+
+-- The initial state and the operators that touch the group are looked at.
+
+module _ {Set : Type 0} (task : TaskParts) (v w : View Set) (g : ℕ) (facts : List Fact) (operators : List ℕ) (all kept broken : Set) (fits : Fits task) (is : v.task ≡ task) (system : v.system ≡ system_of v.task)
+    (same : facts ≡ group_at task g) (base : IsBaseGroup task g) (touching : HaveTouching task facts operators) (every : HasAll v all) (keeps : (s : State) → Has v kept s → IsState task s × Keeps task s g)
+    (valid : Valid v kept) (k : Kept v w) (gives : Gives v w (λ s. Has v all s × HasTwo v.task facts s) broken) where
+  are_base : AreBase task facts
+  are_base = subst (AreBase task) (sym same) base.1
+
+  system_is : w.system ≡ system_of task
+  system_is = k.system ∙ system ∙ ap system_of is
+
+  breaks : (s : State) → IsState task s → HasTwo task facts s → IsTrue (w.has broken s)
+  breaks s state two = (gives.means s).1 ((every s).1 (subst (λ (z : TaskParts). IsState z s) (sym is) state), subst (λ (z : TaskParts). HasTwo z facts s) (sym is) two)
+
+  broken_has : (s : State) → IsTrue (w.has broken s) → HasTwo task facts s
+  broken_has s h = subst (λ (z : TaskParts). HasTwo z facts s) is ((gives.means s).0 h).1
+
+  outside : (s : State) → IsState task s → IsFalse (w.has broken s) → Keeps task s g
+  outside s state out = subst (λ (z : List Fact). HasAtMostOne task z s) same (at_most_one task facts s (λ two. valid_clash (breaks s state two) out))
+
+  inside : (s : State) → Keeps task s g → IsFalse (w.has broken s)
+  inside s most = elim (told (w.has broken s)) [
+    | inl m ↦ absurd (not_two task facts s (subst (λ (z : List Fact). HasAtMostOne task z s) (sym same) most) (broken_has s m))
+    | inr out ↦ out
+  ]
+
+  start : IsInitial task w.system.initial
+  start = subst (λ (y : System). IsInitial task y.initial) (sym system_is) (start_law task fits)
+
+  steps_from : IsSafe w operators kept broken → (s t : State) (a : ℕ) → IsState task s → Has v kept s → Step task s a t → Keeps task t g
+  steps_from safe s t a state from step = elim (in_list operators a) [
+    | inl has ↦ outside t (step_state task s a t fits state step) (safe.steps a s t has (k.same kept valid s ∙ from) leads)
+    | inr not ↦ subst (λ (z : List Fact). HasAtMostOne task z t) same
+        (idle_keeps task facts s t a are_base step (λ touches. not (touching.all a (number touches) touches)) (subst (λ (z : List Fact). HasAtMostOne task z s) (sym same) (keeps s from).1))
+  ]
+    where
+      leads : Leads w.system a s t
+      leads = subst (λ (y : System). Leads y a s t) (sym system_is) ((leads_law task s a t fits state).1 step)
+
+      number : Touches task a facts → a < length task.operators
+      number touches = (let writes = touches.2 in slice_get_within task.operators a writes.0 writes.2)
+
+  pub safe_stands : IsSafe w operators kept broken → StandsFrom task (Has v kept) g
+  safe_stands safe = record {
+    base = base;
+    initial = λ s i. subst (λ (z : State). Keeps task z g) (one_initial task w.system.initial s start i) (outside w.system.initial start.state safe.initial);
+    steps = steps_from safe;
+  }
+
+  pub stands_safe : StandsFrom task (Has v kept) g → IsSafe w operators kept broken
+  stands_safe stands = record {
+    initial = inside w.system.initial (stands.initial w.system.initial start);
+    steps = λ a s t has from leads.
+        let before = sym (k.same kept valid s) ∙ from in
+        let state = (keeps s before).0 in
+        inside t (stands.steps s t a state before ((leads_law task s a t fits state).0 (subst (λ (y : System). Leads y a s t) system_is leads)));
+  }
+
+-- Nothing is reached, told by calls that keep the sets.
+
+pub same_preimage : {Set : Type 0} (v w : View Set) (op : ℕ) (to from : Set) (s : State) → Kept v w → Valid v to → Valid v from → Preimage w op to from s ↔ Preimage v op to from s
+same_preimage v w op to from s k vt vf = (
+  (λ h. (sym (k.same from vf s) ∙ h.0, (h.1.0, sym (k.same to vt h.1.0) ∙ h.1.1, subst (λ (y : System). Leads y op s h.1.0) k.system h.1.2))),
+  (λ h. (k.same from vf s ∙ h.0, (h.1.0, k.same to vt h.1.0 ∙ h.1.1, subst (λ (y : System). Leads y op s h.1.0) (sym k.system) h.1.2))),
+)
+
+-- one operator more is tried
+pub none_more : {Set : Type 0} (v w : View Set) (operators : List ℕ) (i x : ℕ) (to from : Set) (r : Bool) → i < length operators → get_or operators i x ≡ x → Kept v w → Valid v to → Valid v from
+    → IsTrue r ↔ ((s : State) × Preimage w x to from s) → r ≡ false → ((op : ℕ) (s : State) → Contains (take i operators) op → ¬ Preimage v op to from s)
+    → (op : ℕ) (s : State) → Contains (take (i + 1) operators) op → ¬ Preimage v op to from s
+none_more v w operators i x to from r lt is k vt vf tells fails before op s has pre = elim ((more operators i x op lt is).0 has) [
+  | inl m ↦ before op s m pre
+  | inr e ↦ valid_clash (tells.1 (s, (same_preimage v w x to from s k vt vf).1 (subst (λ (z : ℕ). Preimage v z to from s) (sym e) pre))) fails
+]

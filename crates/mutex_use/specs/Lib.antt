@@ -1,0 +1,5 @@
+pub mod Groups
+pub mod Counts
+pub mod Writers
+pub mod Rounds
+pub mod Sets

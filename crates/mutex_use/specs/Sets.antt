@@ -1,0 +1,37 @@
+-- Sets of states that keep groups, and what calls do to them.
+use Rattle.std.specs.Prelude.{◌≡◌, ℕ, ◌↔◌, IsFalse, List, Contains}
+use Rattle.symk_task.specs.declared.parts.Fact.{Fact}
+use Rattle.symk_task.specs.declared.parts.TaskParts.{TaskParts}
+use Rattle.symk_task.specs.Variables.{IsState}
+use Rattle.task_system.specs.System.{State, Leads}
+use Rattle.space_api.specs.View.{View, Has, Preimage}
+use Rattle.space_api.specs.Frames.{Gives}
+use Rattle.space_api.specs.Owned.{Trades}
+use Rattle.mutex_use.specs.Groups.{HasAtMostOne, IsKeeper, IsGreatest}
+
+-- the set has each state of the task
+abbrev pub HasAll : {Set : Type 0} → View Set → Set → Type 0
+HasAll v a = (s : State) → Has v a s ↔ IsState v.task s
+
+-- r stands for the set a, which is given back, and has those of its states of which P holds
+pub record Narrows {Set : Type 0} (v w : View Set) (a : Set) (P : State → Type 0) (r : Set) : Type 0 where
+  pub trades : Trades v w (λ x. x ≡ a) (λ x. x ≡ r)
+  pub means : (s : State) → Has w r s ↔ (Has v a s × P s)
+
+-- where at most one of the facts holds, in the set
+abbrev pub KeepsIn : {Set : Type 0} → View Set → Set → List Fact → State → Type 0
+KeepsIn v a facts s = Has v a s × HasAtMostOne v.task facts s
+
+-- one of the operators leads from a state of the one set to one of the other
+abbrev pub Reaches : {Set : Type 0} → View Set → List ℕ → Set → Set → Type 0
+Reaches v operators from to = (op : ℕ) × Contains operators op × ((s : State) × Preimage v op to from s)
+
+-- the initial state is outside the set, and none of the operators leads from a state of the other set into it
+pub record IsSafe {Set : Type 0} (v : View Set) (operators : List ℕ) (a broken : Set) : Type 0 where
+  pub initial : IsFalse (v.has broken v.system.initial)
+  pub steps : (op : ℕ) (s t : State) →
+      Contains operators op → Has v a s → Leads v.system op s t → IsFalse (v.has broken t)
+
+-- the set is new, and has the states that keep the greatest set of groups that hold
+abbrev pub KeepsGreatest : {Set : Type 0} → View Set → View Set → TaskParts → Set → Type 0
+KeepsGreatest v w task a = (groups : List ℕ) × IsGreatest task groups × Gives v w (IsKeeper task groups) a

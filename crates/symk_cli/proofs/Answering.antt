@@ -9,22 +9,23 @@ use Rattle.plan_out.specs.declared.end.End.TheVariants as end
 use Rattle.plan_out.specs.declared.check.Checked.{Checked}
 use Rattle.plan_out.specs.declared.check.Checked.TheVariants as checked
 use Rattle.symk_cli.specs.declared.top.TheConstants.{USAGE}
-use Rattle.symk_cli.specs.declared.request.Reach.{Reach}
-use Rattle.symk_cli.specs.declared.request.Reach.TheVariants.{All, UpTo, Percent}
-use Rattle.symk_cli.specs.declared.status.Status.{Status}
-use Rattle.symk_cli.specs.declared.status.Status.TheVariants as status
-use Rattle.symk_cli.specs.Sent.{Sent, nothing}
-use Rattle.symk_cli.specs.Ends.{Ends, FrontOf, AsOne, OrFront, Puts}
-use Rattle.symk_cli.specs.Wishes.{Ask, Wish, lists, checks, shows}
+use Rattle.plan_run.specs.declared.asking.Reach.{Reach}
+use Rattle.plan_run.specs.declared.asking.Reach.TheVariants.{All, UpTo, Percent}
+use Rattle.plan_run.specs.declared.status.Status.{Status}
+use Rattle.plan_run.specs.declared.status.Status.TheVariants as status
+use Rattle.plan_run.specs.Sent.{Sent, nothing, IsOne}
+use Rattle.plan_run.specs.Ends.{Ends, FrontOf, AsOne, OrFront, Puts}
+use Rattle.symk_cli.specs.Wishes.{Ask, Further, Wish, lists, continues, checks, shows}
 use Rattle.symk_cli.specs.Refusals.{IsTaskText, FileRefused}
-use Rattle.symk_cli.specs.Lists.{Aim, aim, Listing, end_status}
-use Rattle.symk_cli.specs.Reaches.{NoListing, IfPercent, MayList, MayPart, OrReached}
+use Rattle.plan_run.specs.Lists.{Aim, aim, Listing, MayCome, end_status}
+use Rattle.plan_run.specs.Reaches.{NoListing, IfPercent, MayList, MayPart, OrReached}
 use Rattle.symk_cli.specs.Verdicts.{Verdict, verdict_status}
 use Rattle.symk_cli.specs.Plans.{IsPlansText, PlansRefused}
+use Rattle.symk_cli.specs.Goes.{AreGood, aim_from, MayGoOn, MayGoPart, OrGoesOn}
 use Rattle.symk_cli.specs.Named.{HasText, HasRead}
 use Rattle.symk_cli.specs.Answer.{Whole, Part, Answer, AreTexts, Answered, usage_text}
-use Rattle.symk_cli.proofs.Took.{took_nothing}
-use Rattle.symk_cli.proofs.Puts.{end_puts}
+use Rattle.plan_run.proofs.Took.{took_nothing}
+use Rattle.plan_run.proofs.Puts.{end_puts}
 
 -- a text, or a front of one, answers where each that may come does, as one piece
 front_answers : (wish : Option Wish) (F P : Option Bytes) (May : Status → Bytes → Type 0) → ((result : Status) (pieces : List Bytes) → AsOne May result pieces → Whole wish F P result pieces) → (result : Status) (out : Sent) → OrFront May result out → Answer wish F P result out
@@ -38,6 +39,7 @@ front_answers wish F P May whole status.Good out m = (whole status.Good out.piec
 front_answers wish F P May whole status.Shown out m = (whole status.Shown out.pieces m.0, m.1)
 front_answers wish F P May whole status.Exhausted out m = (whole status.Exhausted out.pieces m.0, m.1)
 front_answers wish F P May whole status.BadList out m = (whole status.BadList out.pieces m.0, m.1)
+front_answers wish F P May whole status.Gap out m = (whole status.Gap out.pieces m.0, m.1)
 front_answers wish F P May whole status.Bounded out m = (whole status.Bounded out.pieces m.0, m.1)
 front_answers wish F P May whole status.Offending out m = (whole status.Offending out.pieces m.0, m.1)
 front_answers wish F P May whole status.Usage out m = (whole status.Usage out.pieces m.0, m.1)
@@ -52,6 +54,7 @@ front_answered wish told F P May old new result whole texts p = record { F = F; 
 nothing_read : (told : Option Told) (wish : Option Wish) → AreTexts told wish None None
 nothing_read told None = tt
 nothing_read told (Some (lists ask)) = tt
+nothing_read told (Some (continues ask)) = (tt, tt)
 nothing_read told (Some (checks file plans mode)) = (tt, tt)
 nothing_read told (Some (shows number)) = tt
 
@@ -104,8 +107,30 @@ pub plans_refused : (told : Option Told) (file plans : Bytes) (mode : Mode) (tas
 plans_refused told file plans mode task old new result f p =
     front_answered (Some (checks file plans mode)) told (Some f.0) p.0 (PlansRefused p.0) old new result (plans_whole file plans mode f.0 p.0 task f.2) (f.1, p.1) p.2
 
+-- so are they where a list is to go on
+refused_continues : (ask : Further) (F P : Option Bytes) (result : Status) (pieces : List Bytes) → AsOne (FileRefused F) result pieces → Whole (Some (continues ask)) F P result pieces
+refused_continues ask F P status.Unreadable pieces m = (m.0, m.1, inl m.2)
+refused_continues ask F P status.TooLong pieces m = (m.0, m.1, inl m.2)
+refused_continues ask F P status.Offending pieces m = (m.0, m.1, inl m.2)
+refused_continues ask F P result pieces m = absurd m.2
+
+pub continues_refused : (told : Option Told) (ask : Further) (old new : SinkView) (result : Status) → HasRead told ask.file (λ F. Puts (OrFront (FileRefused F)) old new result) → Answered (Some (continues ask)) told old new result
+continues_refused told ask old new result h =
+    front_answered (Some (continues ask)) told h.0 None (FileRefused h.0) old new result (refused_continues ask h.0 None) (h.1, tt) h.2
+
+earlier_whole : (ask : Further) (F : Bytes) (P : Option Bytes) (task : TaskParts) → IsTaskText F task → (result : Status) (pieces : List Bytes) → AsOne (PlansRefused P) result pieces → Whole (Some (continues ask)) (Some F) P result pieces
+earlier_whole ask F P task t status.Unreadable pieces m = (m.0, m.1, inr ((task, t), m.2))
+earlier_whole ask F P task t status.TooLong pieces m = (m.0, m.1, inr ((task, t), m.2))
+earlier_whole ask F P task t status.Offending pieces m = (m.0, m.1, inr ((task, t), m.2))
+earlier_whole ask F P task t result pieces m = absurd m.2
+
+pub earlier_refused : (told : Option Told) (ask : Further) (task : TaskParts) (old new : SinkView) (result : Status) → HasText told ask.file (λ F. IsTaskText F task) → HasRead told ask.plans (λ P. Puts (OrFront (PlansRefused P)) old new result)
+    → Answered (Some (continues ask)) told old new result
+earlier_refused told ask task old new result f p =
+    front_answered (Some (continues ask)) told (Some f.0) p.0 (PlansRefused p.0) old new result (earlier_whole ask f.0 p.0 task f.2) (f.1, p.1) p.2
+
 -- plans are listed
-abbrev IsListing : Status → Type 0
+abbrev pub IsListing : Status → Type 0
 IsListing status.Reached = Unit {0}
 IsListing status.MoreLeft = Unit {0}
 IsListing status.Bounded = Unit {0}
@@ -131,7 +156,7 @@ percent_status task All result pieces h = absurd h
 percent_status task (UpTo most) result pieces h = absurd h
 percent_status task (Percent percent) result pieces h = none_status task result pieces h
 
-may_status : (task : TaskParts) (ask : Ask) (result : Status) (pieces : List Bytes) → MayList task ask.mode ask.wanted ask.reach result pieces → IsListing result
+pub may_status : (task : TaskParts) (ask : Ask) (result : Status) (pieces : List Bytes) → MayList task ask.mode ask.wanted ask.reach result pieces → IsListing result
 may_status task ask result pieces (inl l) = listing_status (aim task ask.mode ask.wanted l.0) result pieces l.2
 may_status task ask result pieces (inr h) = percent_status task ask.reach result pieces h
 
@@ -153,6 +178,7 @@ list_answers ask F P task t status.WriteFault out l = part_answers ask F P task 
 list_answers ask F P task t status.Memory out l = part_answers ask F P task t out l
 list_answers ask F P task t status.Reached out l = ((task, t, l.0), l.1)
 list_answers ask F P task t status.MoreLeft out l = ((task, t, l.0), l.1)
+list_answers ask F P task t status.Gap out l = absurd (may_status task ask status.Gap out.pieces l.0)
 list_answers ask F P task t status.Bounded out l = ((task, t, l.0), l.1)
 list_answers ask F P task t status.Exhausted out l = ((task, t, l.0), l.1)
 list_answers ask F P task t status.CostRange out l = ((task, t, l.0), l.1)
@@ -161,6 +187,56 @@ list_answers ask F P task t result out l = absurd (may_status task ask result ou
 pub lists_answered : (told : Option Told) (ask : Ask) (task : TaskParts) (old new : SinkView) (result : Status) → HasText told ask.file (λ F. IsTaskText F task) → Puts (OrReached task ask.mode ask.wanted ask.reach) old new result → Answered (Some (lists ask)) told old new result
 lists_answered told ask task old new result h p =
     record { F = Some h.0; P = None; texts = h.1; out = p.0; taken = p.1; answer = list_answers ask h.0 None task h.2 result p.0 p.2 }
+
+-- they are listed after those of an earlier list
+abbrev IsGoing : Status → Type 0
+IsGoing status.Gap = Unit {0}
+IsGoing result = IsListing result
+
+is_going : (why : End) → IsGoing (end_status why)
+is_going (end.Reached n) = tt
+is_going (end.More n) = tt
+is_going (end.Bounded n) = tt
+is_going (end.Exhausted n) = tt
+is_going end.CostRange = tt
+
+going_status : (a : Aim) (result : Status) (pieces : List Bytes) → MayCome a result pieces → IsGoing result
+going_status a result pieces (inl l) = subst IsGoing (sym l.says) (is_going l.ended)
+going_status a result pieces (inr g) = subst IsGoing (sym g.says) tt
+
+module _ (ask : Further) (F P : Bytes) (task : TaskParts) (blocks : List ReadBlock) (t : IsTaskText F task) (p : IsPlansText P blocks) where
+  bad_whole : (pieces : List Bytes) → IsOne (Verdict task ask.mode blocks status.BadList) pieces → Whole (Some (continues ask)) (Some F) (Some P) status.BadList pieces
+  bad_whole pieces v = (v.0, v.1, (task, t, (blocks, p, v.2)))
+
+  going_listed : (result : Status) (pieces : List Bytes) → AreGood task ask.mode blocks → MayCome (aim_from task ask.mode ask.wanted blocks) result pieces → Whole (Some (continues ask)) (Some F) (Some P) result pieces
+  going_listed status.Reached pieces g l = (task, t, (blocks, p, g, l))
+  going_listed status.MoreLeft pieces g l = (task, t, (blocks, p, g, l))
+  going_listed status.Bounded pieces g l = (task, t, (blocks, p, g, l))
+  going_listed status.Exhausted pieces g l = (task, t, (blocks, p, g, l))
+  going_listed status.CostRange pieces g l = (task, t, (blocks, p, g, l))
+  going_listed status.Gap pieces g l = (task, t, (blocks, p, g, l))
+  going_listed result pieces g l = absurd (going_status (aim_from task ask.mode ask.wanted blocks) result pieces l)
+
+  going_whole : (result : Status) (pieces : List Bytes) → MayGoOn task ask.mode ask.wanted blocks result pieces → Whole (Some (continues ask)) (Some F) (Some P) result pieces
+  going_whole result pieces (inl b) =
+      let v = subst (λ (s : Status). Verdict task ask.mode blocks s b.0) b.2.0 b.2.1 in
+      subst (λ (s : Status). Whole (Some (continues ask)) (Some F) (Some P) s pieces) (sym b.2.0) (bad_whole pieces (b.0, b.1, v))
+  going_whole result pieces (inr g) = going_listed result pieces g.0 g.1
+
+  going_part : (out : Sent) → FrontOf (MayGoOn task ask.mode ask.wanted blocks) out ⊎ MayGoPart task ask.mode ask.wanted blocks out → Part (Some (continues ask)) (Some F) (Some P) out
+  going_part out (inl (inl none)) = inl none
+  going_part out (inl (inr f)) = inr (inl (f.0, f.1, going_whole f.0 f.1 f.2, f.3))
+  going_part out (inr g) = inr (inr (task, t, (blocks, p, g.0, g.1)))
+
+  going_answers : (result : Status) (out : Sent) → OrGoesOn task ask.mode ask.wanted blocks result out → Answer (Some (continues ask)) (Some F) (Some P) result out
+  going_answers status.WriteFault out l = going_part out l
+  going_answers status.Memory out l = going_part out l
+  going_answers result out l = (going_whole result out.pieces l.0, l.1)
+
+pub continues_answered : (told : Option Told) (ask : Further) (task : TaskParts) (blocks : List ReadBlock) (old new : SinkView) (result : Status) → HasText told ask.file (λ F. IsTaskText F task) → HasText told ask.plans (λ P. IsPlansText P blocks)
+    → Puts (OrGoesOn task ask.mode ask.wanted blocks) old new result → Answered (Some (continues ask)) told old new result
+continues_answered told ask task blocks old new result f p g =
+    record { F = Some f.0; P = Some p.0; texts = (f.1, p.1); out = g.0; taken = g.1; answer = going_answers ask f.0 p.0 task blocks f.2 p.2 result g.0 g.2 }
 
 -- a list is judged
 abbrev IsVerdict : Status → Type 0

@@ -8,9 +8,9 @@ use Rattle.symk_text.specs.Numbers.{value_of, number_at}
 use Rattle.symk_io.specs.View.{Bytes}
 use Rattle.symk_task.specs.declared.parts.Mode.{Mode}
 use Rattle.symk_words.specs.Texts.{Texts, PlanTexts, texts_asked, plan, check, demo}
-use Rattle.symk_cli.specs.declared.request.Direction.{Direction}
-use Rattle.symk_cli.specs.declared.request.Reach.{Reach}
-use Rattle.symk_cli.specs.Wishes.{Wish, lists, checks, shows, number_within, mode_of, direction_of, reach_of, serves, lists_if_served, ask_of, spelled, wish_of}
+use Rattle.plan_run.specs.declared.asking.Direction.{Direction}
+use Rattle.plan_run.specs.declared.asking.Reach.{Reach}
+use Rattle.symk_cli.specs.Wishes.{Wish, checks, shows, number_within, mode_of, direction_of, reach_of, serves, lists_after, lists_if_served, ask_of, spelled, wish_of}
 
 and_step : (b : Bool) (x : ℕ) (xs rest : List ℕ) (all : Bool) → (b && all) ≡ true → (all ≡ true → rest ≡ xs) → cond b (x ∷ rest) [] ≡ x ∷ xs
 and_step true x xs rest all h r = ap (λ z. x ∷ z) (r h)
@@ -88,7 +88,7 @@ number_read least most word small = by_digits least most word (list_all is_ascii
 
 -- what the texts of a `plan` spell, part after part
 abbrev pub reach_part : PlanTexts → ℕ → Mode → Direction → Option Reach → Option Wish
-reach_part t count m d o = option_and_then (λ r. lists_if_served (ask_of t count m d r)) o
+reach_part t count m d o = option_and_then (λ r. lists_if_served t.after (ask_of t count m d r)) o
 
 abbrev pub direction_part : PlanTexts → ℕ → Mode → Option Direction → Option Wish
 direction_part t count m o = option_and_then (λ d. reach_part t count m d (reach_of t.bound t.quality)) o
@@ -124,9 +124,9 @@ pub plan_no_reach : (t : PlanTexts) (count : ℕ) (m : Mode) (d : Direction) →
 plan_no_reach t count m d e is dir r = plan_reach t count m d None e is dir r
 
 pub plan_spelled : (t : PlanTexts) (count : ℕ) (m : Mode) (d : Direction) (r : Reach) (served : Bool) → number_within 1 1000000000 t.k ≡ Some count → mode_of t.mode ≡ Some m → direction_of t.search ≡ Some d → reach_of t.bound t.quality ≡ Some r → serves m d ≡ served
-    → spelled (plan t) ≡ cond served (Some (lists (ask_of t count m d r))) None
+    → spelled (plan t) ≡ cond served (lists_after t.after (ask_of t count m d r)) None
 plan_spelled t count m d r served e is dir re s =
-    plan_reach t count m d (Some r) e is dir re ∙ ap (λ b. cond b (Some (lists (ask_of t count m d r))) None) s
+    plan_reach t count m d (Some r) e is dir re ∙ ap (λ b. cond b (lists_after t.after (ask_of t count m d r)) None) s
 
 -- those of a `check`, and of a `demo`
 pub check_spelled : (file plans : Bytes) (mode : Option Bytes) (o : Option Mode) → mode_of mode ≡ o → spelled (check file plans mode) ≡ option_map (λ m. checks file plans m) o

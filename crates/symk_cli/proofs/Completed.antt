@@ -10,16 +10,21 @@ use Rattle.plan_out.specs.declared.blocks.ReadBlock.{ReadBlock}
 use Rattle.plan_out.specs.Plans.{IsPlansOf}
 use Rattle.symk_text.specs.Lines.{lines}
 use Rattle.symk_cli.specs.declared.TheConstants.{LIMIT}
-use Rattle.symk_cli.specs.declared.status.Status.{Status}
-use Rattle.symk_cli.specs.declared.status.Status.TheVariants as status
-use Rattle.symk_cli.specs.Ends.{HasCauses}
-use Rattle.symk_cli.specs.Wishes.{Ask, Wish, lists, checks, shows, wish_of}
+use Rattle.plan_run.specs.declared.status.Status.{Status}
+use Rattle.plan_run.specs.declared.status.Status.TheVariants as status
+use Rattle.plan_run.specs.Ends.{HasCauses}
+use Rattle.symk_cli.specs.Wishes.{Ask, Further, Wish, lists, continues, checks, shows, wish_of}
 use Rattle.symk_cli.specs.LawfulWords.{AreLawful}
 use Rattle.symk_cli.specs.Named.{IsToldText}
 use Rattle.symk_cli.specs.Refusals.{IsTaskText, FileOffence}
 use Rattle.symk_cli.specs.Plans.{IsPlansText, PlansOffence}
-use Rattle.symk_cli.specs.Answer.{Answer, Answered}
+use Rattle.symk_cli.specs.Goes.{AreGood, aim_from}
+use Rattle.symk_cli.specs.Answer.{Lists, Answer, Answered}
 use Rattle.symk_cli.specs.Complete.{TellsText, TellsTexts, Finishes, IsQuiet, Complete}
+use Rattle.plan_run.specs.Lists.{Aim, MayCome, IsTrueEnd, end_status}
+use Rattle.plan_out.specs.declared.end.End.{End}
+use Rattle.plan_out.specs.declared.end.End.TheVariants as end
+use Rattle.symk_cli.proofs.Answering.{may_status}
 use Rattle.symk_cli.proofs.LawfulWishes.{lawful_asks}
 
 -- a whole text does not offend
@@ -81,6 +86,11 @@ never_usage words told old new result a lawful e =
 some_none : (wish : Wish) → Some wish ≡ None → ⊥
 some_none wish e = cc
 
+-- a list that goes on from no other names no plan that is missed
+no_gap_listed : (ask : Ask) (F P : Option Bytes) (pieces : List Bytes) → Lists (Some (lists ask)) F P status.Gap pieces → ⊥
+no_gap_listed ask None P pieces l = l
+no_gap_listed ask (Some F) P pieces l = may_status l.0 ask status.Gap pieces l.2
+
 -- what is asked for over a text that is a task file
 lists_finish : (told : Option Told) (ask : Ask) (old new : SinkView) (result : Status) → TellsTexts told (lists ask)
     → (result ≡ status.Unreadable → ⊥) → (result ≡ status.WriteFault → ⊥) → Answered (Some (lists ask)) told old new result → Finishes (lists ask) result ⊎ (result ≡ status.Memory)
@@ -97,6 +107,7 @@ lists_finish told ask old new status.TooLong t u w a =
     absurd (task_short t.1 a.F (read_task told ask.file t.0 t.1 a.F t.2 t.3 a.texts) a.answer.0.2.0)
 lists_finish told ask old new status.Offending t u w a =
     absurd (task_lawful t.1 a.answer.0.0 a.F (read_task told ask.file t.0 t.1 a.F t.2 t.3 a.texts) a.answer.0.2)
+lists_finish told ask old new status.Gap t u w a = absurd (no_gap_listed ask a.F a.P a.out.pieces a.answer.0)
 lists_finish told ask old new status.Good t u w a = absurd a.answer.0.2
 lists_finish told ask old new status.BadList t u w a = absurd a.answer.0.2
 lists_finish told ask old new status.Shown t u w a = absurd a.answer.0.2
@@ -124,7 +135,49 @@ checks_finish told file plans mode old new status.MoreLeft t u w a = absurd a.an
 checks_finish told file plans mode old new status.Bounded t u w a = absurd a.answer.0
 checks_finish told file plans mode old new status.Exhausted t u w a = absurd a.answer.0
 checks_finish told file plans mode old new status.CostRange t u w a = absurd a.answer.0
+checks_finish told file plans mode old new status.Gap t u w a = absurd a.answer.0
 checks_finish told file plans mode old new status.Shown t u w a = absurd a.answer.0.2
+
+-- without a greatest cost no list ends as bounded
+ends_bounded : (a : Aim) (limit : a.limit ≡ None) (plans : List (List ℕ)) (why : End) → status.Bounded ≡ end_status why → IsTrueEnd a.task a.mode a.limit plans (Some why) → ⊥
+ends_bounded a limit plans (end.Bounded n) e true = let some = subst (λ o. IsSome o) limit true.0 in absurd (cc)
+ends_bounded a limit plans (end.Reached n) e true = let bad : status.Bounded ≡ status.Reached = e in absurd (cc)
+ends_bounded a limit plans (end.More n) e true = let bad : status.Bounded ≡ status.MoreLeft = e in absurd (cc)
+ends_bounded a limit plans (end.Exhausted n) e true = let bad : status.Bounded ≡ status.Exhausted = e in absurd (cc)
+ends_bounded a limit plans end.CostRange e true = let bad : status.Bounded ≡ status.CostRange = e in absurd (cc)
+
+comes_bounded : (a : Aim) (limit : a.limit ≡ None) (pieces : List Bytes) → MayCome a status.Bounded pieces → ⊥
+comes_bounded a limit pieces (inl l) = ends_bounded a limit (a.earlier ++ l.plans) l.ended l.says l.promise.end
+comes_bounded a limit pieces (inr g) = let bad : status.Bounded ≡ status.Gap = g.says in absurd (cc)
+
+plans_bounded : (ask : Further) (task : TaskParts) (P : Option Bytes) (pieces : List Bytes) → IsSomeAnd P (λ plans. (blocks : List ReadBlock) × IsPlansText plans blocks × AreGood task ask.mode blocks × MayCome (aim_from task ask.mode ask.wanted blocks) status.Bounded pieces) → ⊥
+plans_bounded ask task None pieces g = g
+plans_bounded ask task (Some P) pieces g = comes_bounded (aim_from task ask.mode ask.wanted g.0) refl pieces g.3
+
+never_bounded : (ask : Further) (F P : Option Bytes) (pieces : List Bytes) → Lists (Some (continues ask)) F P status.Bounded pieces → ⊥
+never_bounded ask None P pieces g = g
+never_bounded ask (Some F) P pieces g = plans_bounded ask g.0 P pieces g.2
+
+-- a list that goes on, over a task file and a plan text
+continues_finish : (told : Option Told) (ask : Further) (old new : SinkView) (result : Status) → TellsTexts told (continues ask)
+    → (result ≡ status.Unreadable → ⊥) → (result ≡ status.WriteFault → ⊥) → Answered (Some (continues ask)) told old new result → Finishes (continues ask) result ⊎ (result ≡ status.Memory)
+continues_finish told ask old new status.Reached t u w a = inl (inl refl)
+continues_finish told ask old new status.MoreLeft t u w a = inl (inr (inl refl))
+continues_finish told ask old new status.Exhausted t u w a = inl (inr (inr (inl refl)))
+continues_finish told ask old new status.CostRange t u w a = inl (inr (inr (inr (inl refl))))
+continues_finish told ask old new status.Gap t u w a = inl (inr (inr (inr (inr (inl refl)))))
+continues_finish told ask old new status.BadList t u w a = inl (inr (inr (inr (inr (inr refl)))))
+continues_finish told ask old new status.Memory t u w a = inr refl
+continues_finish told ask old new status.Unreadable t u w a = absurd (u refl)
+continues_finish told ask old new status.WriteFault t u w a = absurd (w refl)
+continues_finish told ask old new status.Usage t u w a = absurd (some_none (continues ask) a.answer.0.2.0)
+continues_finish told ask old new status.TooLong t u w a =
+    absurd (either _ _ _ (λ h. task_short t.0.1 a.F (read_task told ask.file t.0.0 t.0.1 a.F t.0.2 t.0.3 a.texts.0) h.0) (λ h. plans_short t.1.1 a.P (read_plans told ask.plans t.1.0 t.1.1 a.P t.1.2 t.1.3 a.texts.1) h.0) a.answer.0.2)
+continues_finish told ask old new status.Offending t u w a =
+    absurd (either _ _ _ (λ h. task_lawful t.0.1 a.answer.0.0 a.F (read_task told ask.file t.0.0 t.0.1 a.F t.0.2 t.0.3 a.texts.0) h) (λ h. plans_lawful t.1.1 a.answer.0.0 a.P (read_plans told ask.plans t.1.0 t.1.1 a.P t.1.2 t.1.3 a.texts.1) h) a.answer.0.2)
+continues_finish told ask old new status.Bounded t u w a = absurd (never_bounded ask a.F a.P a.out.pieces a.answer.0)
+continues_finish told ask old new status.Good t u w a = absurd a.answer.0.2
+continues_finish told ask old new status.Shown t u w a = absurd a.answer.0.2
 
 shows_finish : (told : Option Told) (number : ℕ) (old new : SinkView) (result : Status) → (result ≡ status.WriteFault → ⊥) → Answered (Some (shows number)) told old new result → (result ≡ status.Shown) ⊎ (result ≡ status.Memory)
 shows_finish told number old new status.Shown w a = inl refl
@@ -136,10 +189,12 @@ shows_finish told number old new status.MoreLeft w a = absurd a.answer.0
 shows_finish told number old new status.Bounded w a = absurd a.answer.0
 shows_finish told number old new status.Exhausted w a = absurd a.answer.0
 shows_finish told number old new status.CostRange w a = absurd a.answer.0
+shows_finish told number old new status.Gap w a = absurd a.answer.0
 shows_finish told number old new result w a = absurd a.answer.0.2
 
 finish : (told : Option Told) (wish : Wish) (old new : SinkView) (result : Status) → TellsTexts told wish → (result ≡ status.Unreadable → ⊥) → (result ≡ status.WriteFault → ⊥) → Answered (Some wish) told old new result → Finishes wish result ⊎ (result ≡ status.Memory)
 finish told (lists ask) old new result t u w a = lists_finish told ask old new result t u w a
+finish told (continues ask) old new result t u w a = continues_finish told ask old new result t u w a
 finish told (checks file plans mode) old new result t u w a = checks_finish told file plans mode old new result t u w a
 finish told (shows number) old new result t u w a = shows_finish told number old new result w a
 

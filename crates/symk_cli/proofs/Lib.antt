@@ -1,15 +1,5 @@
-pub mod Causes
-pub mod Took
-pub mod Puts
-pub mod Given
-pub mod Serving
-pub mod Spaces
-pub mod Listed
-pub mod Ended
-pub mod Reached
 pub mod Asked
 pub mod LawfulWishes
-pub mod Costed
 pub mod Switched
 pub mod Answering
 pub mod ReadBack
@@ -17,3 +7,4 @@ pub mod Refusing
 pub mod Opening
 pub mod Completed
 pub mod Long
+pub mod Continued

@@ -4,15 +4,17 @@ use Rattle.symk_io.specs.View.{Bytes, SinkView, Told}
 use Rattle.symk_task.specs.declared.parts.Mode.{Mode}
 use Rattle.symk_task.specs.declared.parts.TaskParts.{TaskParts}
 use Rattle.plan_out.specs.declared.blocks.ReadBlock.{ReadBlock}
-use Rattle.symk_cli.specs.declared.status.Status.{Status}
-use Rattle.symk_cli.specs.declared.status.Status.TheVariants as status
-use Rattle.symk_cli.specs.Wishes.{Ask, Wish, lists, checks, shows}
+use Rattle.plan_run.specs.declared.status.Status.{Status}
+use Rattle.plan_run.specs.declared.status.Status.TheVariants as status
+use Rattle.symk_cli.specs.Wishes.{Ask, Further, Wish, lists, continues, checks, shows}
 use Rattle.symk_cli.specs.Named.{IsToldText, HasText}
 use Rattle.symk_cli.specs.Refusals.{IsTaskText, IsTask, FileOffence}
 use Rattle.symk_cli.specs.Plans.{IsPlansText, PlansOffence}
 use Rattle.symk_cli.specs.Verdicts.{Verdict}
-use Rattle.symk_cli.specs.Reaches.{MayList}
-use Rattle.symk_cli.specs.Answer.{Answer, Answered}
+use Rattle.plan_run.specs.Reaches.{MayList}
+use Rattle.plan_run.specs.Lists.{MayCome}
+use Rattle.symk_cli.specs.Goes.{AreGood, aim_from}
+use Rattle.symk_cli.specs.Answer.{GoesOn, Answer, Answered}
 use Rattle.symk_cli.specs.Lengths.{IsShort, IsLong, IsOffending, PlanLengths, CheckLengths, Lengths}
 use Rattle.symk_cli.specs.declared.TheConstants.{LIMIT}
 
@@ -39,6 +41,11 @@ short_offence told name out read t so = has_text told name (λ text. PlansOffenc
 short_plans : (told : Option Told) (name : Bytes) (More : List ReadBlock → Type 0) (read : Option Bytes) → IfSome read (IsToldText told name) → IsSomeAnd read (λ text. (blocks : List ReadBlock) × IsPlansText text blocks × More blocks) → IsShort told name
 short_plans told name More read t so = has_text told name (λ text. (blocks : List ReadBlock) × IsPlansText text blocks × More blocks) (λ text. length text ≤ LIMIT) read (λ text h. h.1.short) t so
 
+short_good : (told : Option Told) (name : Bytes) (mode : Mode) (task : TaskParts) (More : List ReadBlock → Type 0) (read : Option Bytes) → IfSome read (IsToldText told name)
+    → IsSomeAnd read (λ text. (blocks : List ReadBlock) × IsPlansText text blocks × AreGood task mode blocks × More blocks) → IsShort told name
+short_good told name mode task More read t so =
+    has_text told name (λ text. (blocks : List ReadBlock) × IsPlansText text blocks × AreGood task mode blocks × More blocks) (λ text. length text ≤ LIMIT) read (λ text h. h.1.short) t so
+
 short_judged : (told : Option Told) (file plans : Bytes) (mode : Mode) (result : Status) (out : Bytes) (F P : Option Bytes) → IfSome F (IsToldText told file) → IfSome P (IsToldText told plans)
     → IsSomeAnd F (λ text. (task : TaskParts) × IsTaskText text task × IsSomeAnd P (λ other. (blocks : List ReadBlock) × IsPlansText other blocks × Verdict task mode blocks result out)) → IsShort told file × IsShort told plans
 short_judged told file plans mode result out None P f p so = absurd so
@@ -53,6 +60,7 @@ plan_lengths told ask old new status.MoreLeft a = short_listed told ask.file (λ
 plan_lengths told ask old new status.Bounded a = short_listed told ask.file (λ task. MayList task ask.mode ask.wanted ask.reach status.Bounded a.out.pieces) a.F a.texts a.answer.0
 plan_lengths told ask old new status.Exhausted a = short_listed told ask.file (λ task. MayList task ask.mode ask.wanted ask.reach status.Exhausted a.out.pieces) a.F a.texts a.answer.0
 plan_lengths told ask old new status.CostRange a = short_listed told ask.file (λ task. MayList task ask.mode ask.wanted ask.reach status.CostRange a.out.pieces) a.F a.texts a.answer.0
+plan_lengths told ask old new status.Gap a = short_listed told ask.file (λ task. MayList task ask.mode ask.wanted ask.reach status.Gap a.out.pieces) a.F a.texts a.answer.0
 plan_lengths told ask old new status.Usage a = tt
 plan_lengths told ask old new status.Unreadable a = tt
 plan_lengths told ask old new status.WriteFault a = tt
@@ -85,11 +93,35 @@ check_lengths told file plans mode old new status.MoreLeft a = absurd a.answer.0
 check_lengths told file plans mode old new status.Bounded a = absurd a.answer.0
 check_lengths told file plans mode old new status.Exhausted a = absurd a.answer.0
 check_lengths told file plans mode old new status.CostRange a = absurd a.answer.0
+check_lengths told file plans mode old new status.Gap a = absurd a.answer.0
 check_lengths told file plans mode old new status.Shown a = absurd a.answer.0.2
+
+short_going : (told : Option Told) (file plans : Bytes) (mode : Mode) (More : TaskParts → List ReadBlock → Type 0) (F P : Option Bytes) → IfSome F (IsToldText told file) → IfSome P (IsToldText told plans) → GoesOn F P mode More
+    → IsShort told file × IsShort told plans
+short_going told file plans mode More None P f p so = absurd so
+short_going told file plans mode More (Some text) P f p so = ((text, f, so.1.short), short_good told plans mode so.0 (More so.0) P p so.2)
+
+further_lengths : (told : Option Told) (ask : Further) (old new : SinkView) (result : Status) → Answered (Some (continues ask)) told old new result → CheckLengths told ask.file ask.plans result
+further_lengths told ask old new status.TooLong a = long_of_two told ask.file ask.plans _ _ a.F a.P a.texts.0 a.texts.1 a.answer.0.2
+further_lengths told ask old new status.Offending a = offence_of_two told ask.file ask.plans a.answer.0.0 a.F a.P a.texts.0 a.texts.1 a.answer.0.2
+further_lengths told ask old new status.BadList a = short_judged told ask.file ask.plans ask.mode status.BadList a.answer.0.0 a.F a.P a.texts.0 a.texts.1 a.answer.0.2
+further_lengths told ask old new status.Usage a = tt
+further_lengths told ask old new status.Unreadable a = tt
+further_lengths told ask old new status.WriteFault a = tt
+further_lengths told ask old new status.Memory a = tt
+further_lengths told ask old new status.Reached a = short_going told ask.file ask.plans ask.mode (λ task blocks. MayCome (aim_from task ask.mode ask.wanted blocks) status.Reached a.out.pieces) a.F a.P a.texts.0 a.texts.1 a.answer.0
+further_lengths told ask old new status.MoreLeft a = short_going told ask.file ask.plans ask.mode (λ task blocks. MayCome (aim_from task ask.mode ask.wanted blocks) status.MoreLeft a.out.pieces) a.F a.P a.texts.0 a.texts.1 a.answer.0
+further_lengths told ask old new status.Bounded a = short_going told ask.file ask.plans ask.mode (λ task blocks. MayCome (aim_from task ask.mode ask.wanted blocks) status.Bounded a.out.pieces) a.F a.P a.texts.0 a.texts.1 a.answer.0
+further_lengths told ask old new status.Exhausted a = short_going told ask.file ask.plans ask.mode (λ task blocks. MayCome (aim_from task ask.mode ask.wanted blocks) status.Exhausted a.out.pieces) a.F a.P a.texts.0 a.texts.1 a.answer.0
+further_lengths told ask old new status.CostRange a = short_going told ask.file ask.plans ask.mode (λ task blocks. MayCome (aim_from task ask.mode ask.wanted blocks) status.CostRange a.out.pieces) a.F a.P a.texts.0 a.texts.1 a.answer.0
+further_lengths told ask old new status.Gap a = short_going told ask.file ask.plans ask.mode (λ task blocks. MayCome (aim_from task ask.mode ask.wanted blocks) status.Gap a.out.pieces) a.F a.P a.texts.0 a.texts.1 a.answer.0
+further_lengths told ask old new status.Good a = absurd a.answer.0.2
+further_lengths told ask old new status.Shown a = absurd a.answer.0.2
 
 -- what the answer says of lengths
 pub lengths_of : (asked : Option Wish) (told : Option Told) (old new : SinkView) (result : Status) → Answered asked told old new result → Lengths asked told result
 lengths_of None told old new result a = λ e. (subst (λ s. Answer None a.F a.P s a.out) e a.answer).0.2
 lengths_of (Some (lists ask)) told old new result a = plan_lengths told ask old new result a
+lengths_of (Some (continues ask)) told old new result a = further_lengths told ask old new result a
 lengths_of (Some (checks file plans mode)) told old new result a = check_lengths told file plans mode old new result a
 lengths_of (Some (shows number)) told old new result a = λ e. (subst (λ s. Answer (Some (shows number)) a.F a.P s a.out) e a.answer).0.2

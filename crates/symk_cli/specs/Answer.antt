@@ -1,44 +1,57 @@
 -- The answer of the program.
 use Rattle.std.specs.Prelude.{◌≡◌, ◌⊎◌, ◌++◌, ⊤, List, codes, Option, Some, None, IfSome, IsSomeAnd}
 use Rattle.symk_io.specs.View.{Bytes, SinkView, Told}
+use Rattle.symk_task.specs.declared.parts.Mode.{Mode}
 use Rattle.symk_task.specs.declared.parts.TaskParts.{TaskParts}
-use Rattle.symk_cli.specs.Wishes.{Wish, lists, checks, shows}
+use Rattle.plan_out.specs.declared.blocks.ReadBlock.{ReadBlock}
+use Rattle.symk_cli.specs.Wishes.{Wish, lists, continues, checks, shows}
 use Rattle.symk_cli.specs.Named.{IsToldText}
 use Rattle.symk_cli.specs.Refusals.{IsTaskText, IsTask, FileRefused}
-use Rattle.symk_cli.specs.Plans.{PlansRefused, Judged}
-use Rattle.symk_cli.specs.Sent.{Sent, nothing, Took, IsWhole, IsOne, IsFront}
-use Rattle.symk_cli.specs.Reaches.{MayList, MayPart}
+use Rattle.symk_cli.specs.Plans.{IsPlansText, PlansRefused, Judged}
+use Rattle.symk_cli.specs.Goes.{AreGood, aim_from}
+use Rattle.plan_run.specs.Sent.{Sent, nothing, Took, IsWhole, IsOne, IsFront}
+use Rattle.plan_run.specs.Lists.{MayCome, PartListing}
+use Rattle.plan_run.specs.Reaches.{MayList, MayPart}
 use Rattle.symk_cli.specs.Shown.{IsSummary}
-use Rattle.symk_cli.specs.declared.status.Status.{Status}
-use Rattle.symk_cli.specs.declared.status.Status.TheVariants as status
+use Rattle.plan_run.specs.declared.status.Status.{Status}
+use Rattle.plan_run.specs.declared.status.Status.TheVariants as status
 
 -- what the program may be asked for
 unfoldable pub usage_text : Bytes
 usage_text =
-    codes "usage: symk plan FILE --k K [--mode topk|loopless|unordered] [--search auto|forward|backward|bidirectional] [--more] [--bound Q | --quality P]\n"
+    codes "usage: symk plan FILE --k K [--mode topk|loopless|unordered] [--search auto|forward|backward|bidirectional] [--more] [--bound Q | --quality P] [--after PLANS]\n"
     ++ codes "       symk check FILE PLANS [--mode topk|loopless|unordered]\n"
     ++ codes "       symk demo N\n"
 
 -- a file that is asked for is refused: FILE, or PLANS after a FILE that is a task file
 abbrev pub Refused : Option Wish → Option Bytes → Option Bytes → Status → Bytes → Type 0
 Refused (Some (lists ask)) F P result out = FileRefused F result out
+Refused (Some (continues ask)) F P result out = FileRefused F result out ⊎ (IsTask F × PlansRefused P result out)
 Refused (Some (checks file plans mode)) F P result out = FileRefused F result out ⊎ (IsTask F × PlansRefused P result out)
 Refused (Some (shows number)) F P result out = ⊥
 Refused None F P result out = ⊥
 
--- plans of the task that FILE states are listed
-abbrev pub Lists : Option Wish → Option Bytes → Status → List Bytes → Type 0
-Lists (Some (lists ask)) F result pieces = IsSomeAnd F (λ text. (task : TaskParts) × IsTaskText text task × MayList task ask.mode ask.wanted ask.reach result pieces)
-Lists wish F result pieces = ⊥
+-- FILE states a task, and PLANS states blocks, each of which is good
+abbrev pub GoesOn : Option Bytes → Option Bytes → Mode → (TaskParts → List ReadBlock → Type 0) → Type 0
+GoesOn F P mode IsSo =
+    IsSomeAnd F (λ text. (task : TaskParts) × IsTaskText text task × IsSomeAnd P (λ plans. (blocks : List ReadBlock) × IsPlansText plans blocks × AreGood task mode blocks × IsSo task blocks))
+
+-- plans of the task that FILE states are listed, if need be after those that PLANS states, or what those miss is told
+abbrev pub Lists : Option Wish → Option Bytes → Option Bytes → Status → List Bytes → Type 0
+Lists (Some (lists ask)) F P result pieces = IsSomeAnd F (λ text. (task : TaskParts) × IsTaskText text task × MayList task ask.mode ask.wanted ask.reach result pieces)
+Lists (Some (continues ask)) F P result pieces = GoesOn F P ask.mode (λ task blocks. MayCome (aim_from task ask.mode ask.wanted blocks) result pieces)
+Lists wish F P result pieces = ⊥
 
 -- a front of a list goes out
-abbrev pub PartLists : Option Wish → Option Bytes → Sent → Type 0
-PartLists (Some (lists ask)) F out = IsSomeAnd F (λ text. (task : TaskParts) × IsTaskText text task × MayPart task ask.mode ask.wanted ask.reach out)
-PartLists wish F out = ⊥
+abbrev pub PartLists : Option Wish → Option Bytes → Option Bytes → Sent → Type 0
+PartLists (Some (lists ask)) F P out = IsSomeAnd F (λ text. (task : TaskParts) × IsTaskText text task × MayPart task ask.mode ask.wanted ask.reach out)
+PartLists (Some (continues ask)) F P out = GoesOn F P ask.mode (λ task blocks. PartListing (aim_from task ask.mode ask.wanted blocks) out)
+PartLists wish F P out = ⊥
 
--- the blocks that PLANS states are judged by the task that FILE states
+-- the blocks that PLANS states are judged by the task that FILE states; where a list is to go on from them, that one fails
 abbrev pub Judges : Option Wish → Option Bytes → Option Bytes → Status → Bytes → Type 0
 Judges (Some (checks file plans mode)) F P result out = IsSomeAnd F (λ text. (task : TaskParts) × IsTaskText text task × Judged task mode P result out)
+Judges (Some (continues ask)) F P status.BadList out = IsSomeAnd F (λ text. (task : TaskParts) × IsTaskText text task × Judged task ask.mode P status.BadList out)
 Judges wish F P result out = ⊥
 
 -- a demonstration is summed up
@@ -52,11 +65,12 @@ Whole wish F P status.Usage pieces = IsOne (λ out. (wish ≡ None) × (out ≡ 
 Whole wish F P status.Unreadable pieces = IsOne (Refused wish F P status.Unreadable) pieces
 Whole wish F P status.TooLong pieces = IsOne (Refused wish F P status.TooLong) pieces
 Whole wish F P status.Offending pieces = IsOne (Refused wish F P status.Offending) pieces
-Whole wish F P status.Reached pieces = Lists wish F status.Reached pieces
-Whole wish F P status.MoreLeft pieces = Lists wish F status.MoreLeft pieces
-Whole wish F P status.Bounded pieces = Lists wish F status.Bounded pieces
-Whole wish F P status.Exhausted pieces = Lists wish F status.Exhausted pieces
-Whole wish F P status.CostRange pieces = Lists wish F status.CostRange pieces
+Whole wish F P status.Reached pieces = Lists wish F P status.Reached pieces
+Whole wish F P status.MoreLeft pieces = Lists wish F P status.MoreLeft pieces
+Whole wish F P status.Bounded pieces = Lists wish F P status.Bounded pieces
+Whole wish F P status.Exhausted pieces = Lists wish F P status.Exhausted pieces
+Whole wish F P status.CostRange pieces = Lists wish F P status.CostRange pieces
+Whole wish F P status.Gap pieces = Lists wish F P status.Gap pieces
 Whole wish F P status.Good pieces = IsOne (Judges wish F P status.Good) pieces
 Whole wish F P status.BadList pieces = IsOne (Judges wish F P status.BadList) pieces
 Whole wish F P status.Shown pieces = IsOne (Shows wish status.Shown) pieces
@@ -65,7 +79,7 @@ Whole wish F P status.Memory pieces = ⊥
 
 -- nothing, a front of whole pieces, or a front of a list that goes on
 abbrev pub Part : Option Wish → Option Bytes → Option Bytes → Sent → Type 0
-Part wish F P out = (out ≡ nothing) ⊎ ((result : Status) × (whole : List Bytes) × Whole wish F P result whole × IsFront out whole) ⊎ PartLists wish F out
+Part wish F P out = (out ≡ nothing) ⊎ ((result : Status) × (whole : List Bytes) × Whole wish F P result whole × IsFront out whole) ⊎ PartLists wish F P out
 
 -- What the sink took under a status, given what is asked for and the texts that were read of FILE and PLANS: whole pieces, or a
 -- part of them where the sink failed or memory was wanting.
@@ -78,6 +92,7 @@ Answer wish F P result out = IsWhole (Whole wish F P result) out
 abbrev pub AreTexts : Option Told → Option Wish → Option Bytes → Option Bytes → Type 0
 AreTexts told None F P = ⊤
 AreTexts told (Some (lists ask)) F P = IfSome F (IsToldText told ask.file)
+AreTexts told (Some (continues ask)) F P = IfSome F (IsToldText told ask.file) × IfSome P (IsToldText told ask.plans)
 AreTexts told (Some (checks file plans mode)) F P = IfSome F (IsToldText told file) × IfSome P (IsToldText told plans)
 AreTexts told (Some (shows number)) F P = ⊤
 

@@ -2,13 +2,13 @@
 use Rattle.std.specs.Prelude.{◌≡◌, List, IsSome}
 use Rattle.symk_io.specs.View.{Bytes}
 use Rattle.symk_words.specs.Texts.{Texts, plan, check, demo}
-use Rattle.symk_words.specs.Lawful.{Plain, plan_words, check_words, demo_words}
+use Rattle.symk_words.specs.Lawful.{Plain, PlainIfSome, plan_words, check_words, demo_words}
 use Rattle.symk_cli.specs.Wishes.{spelled}
 
 -- the program's name, the subcommand, its texts in their places, and its options in the order of the usage text; no name is
 -- empty or begins with `-`
 abbrev pub AreWordsOf : Texts → List Bytes → Type 0
-AreWordsOf (plan t) words = (prog : Bytes) × (words ≡ plan_words prog t) × Plain t.file
+AreWordsOf (plan t) words = (prog : Bytes) × (words ≡ plan_words prog t) × Plain t.file × PlainIfSome t.after
 AreWordsOf (check file plans mode) words = (prog : Bytes) × (words ≡ check_words prog file plans mode) × Plain file × Plain plans
 AreWordsOf (demo n) words = (prog : Bytes) × (words ≡ demo_words prog n)
 

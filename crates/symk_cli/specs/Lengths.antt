@@ -1,12 +1,12 @@
 -- Which texts are too long.
 use Rattle.std.specs.Prelude.{◌≡◌, ◌⊎◌, ◌<◌, ◌≤◌, length, ⊤, Option, Some, None}
 use Rattle.symk_io.specs.View.{Bytes, Told}
-use Rattle.symk_cli.specs.Wishes.{Wish, lists, checks, shows}
+use Rattle.symk_cli.specs.Wishes.{Wish, lists, continues, checks, shows}
 use Rattle.symk_cli.specs.Named.{HasText}
 use Rattle.symk_cli.specs.Refusals.{FileOffence}
 use Rattle.symk_cli.specs.declared.TheConstants.{LIMIT}
-use Rattle.symk_cli.specs.declared.status.Status.{Status}
-use Rattle.symk_cli.specs.declared.status.Status.TheVariants as status
+use Rattle.plan_run.specs.declared.status.Status.{Status}
+use Rattle.plan_run.specs.declared.status.Status.TheVariants as status
 
 -- the text of the name has at most 268,435,456 bytes
 abbrev pub IsShort : Option Told → Bytes → Type 0
@@ -30,8 +30,8 @@ PlanLengths told file status.Memory = ⊤
 PlanLengths told file status.Offending = IsOffending told file
 PlanLengths told file result = IsShort told file
 
--- `check`: too long only where FILE is, or PLANS after a FILE that isn't; an offending line only where FILE isn't and offends,
--- or neither is; a verdict only where neither is
+-- where PLANS is read too: too long only where FILE is, or PLANS after a FILE that isn't; an offending line only where FILE
+-- isn't and offends, or neither is; a verdict and a listing's end only where neither is
 abbrev pub CheckLengths : Option Told → Bytes → Bytes → Status → Type 0
 CheckLengths told file plans status.TooLong = IsLong told file ⊎ (IsShort told file × IsLong told plans)
 CheckLengths told file plans status.Usage = ⊤
@@ -45,5 +45,6 @@ CheckLengths told file plans result = IsShort told file × IsShort told plans
 abbrev pub Lengths : Option Wish → Option Told → Status → Type 0
 Lengths None told result = (result ≡ status.TooLong) → ⊥
 Lengths (Some (lists ask)) told result = PlanLengths told ask.file result
+Lengths (Some (continues ask)) told result = CheckLengths told ask.file ask.plans result
 Lengths (Some (checks file plans mode)) told result = CheckLengths told file plans result
 Lengths (Some (shows number)) told result = (result ≡ status.TooLong) → ⊥

@@ -1,16 +1,10 @@
-pub mod Codes
-pub mod Listable
-pub mod Sent
-pub mod Ends
 pub mod Lengths
 pub mod Wishes
 pub mod Requests
 pub mod LawfulWords
 pub mod Refusals
-pub mod Lists
-pub mod Reaches
-pub mod Engines
 pub mod Verdicts
+pub mod Goes
 pub mod Shown
 pub mod Plans
 pub mod Answer

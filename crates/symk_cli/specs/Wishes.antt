@@ -8,11 +8,11 @@ use Rattle.symk_io.specs.View.{Bytes}
 use Rattle.symk_task.specs.declared.parts.Mode.{Mode}
 use Rattle.symk_task.specs.declared.parts.Mode.TheVariants.{TopK, Loopless, Unordered}
 use Rattle.symk_words.specs.Texts.{Texts, PlanTexts, texts_asked, plan, check, demo}
-use Rattle.symk_cli.specs.declared.request.Wanted.{Wanted}
-use Rattle.symk_cli.specs.declared.request.Reach.{Reach}
-use Rattle.symk_cli.specs.declared.request.Reach.TheVariants.{All, UpTo, Percent}
-use Rattle.symk_cli.specs.declared.request.Direction.{Direction}
-use Rattle.symk_cli.specs.declared.request.Direction.TheVariants.{Auto, Forward, Backward, Bidirectional}
+use Rattle.plan_run.specs.declared.asking.Wanted.{Wanted}
+use Rattle.plan_run.specs.declared.asking.Reach.{Reach}
+use Rattle.plan_run.specs.declared.asking.Reach.TheVariants.{All, UpTo, Percent}
+use Rattle.plan_run.specs.declared.asking.Direction.{Direction}
+use Rattle.plan_run.specs.declared.asking.Direction.TheVariants.{Auto, Forward, Backward, Bidirectional}
 
 -- what a list is asked to be: so many plans of FILE in a mode, found in a direction, up to a cost
 pub record Ask : Type 0 where
@@ -22,9 +22,18 @@ pub record Ask : Type 0 where
   pub direction : Direction
   pub reach : Reach
 
--- a list of plans; a verdict on the plans in PLANS; so many switches shown
+-- what a list that goes on is asked to be: so many plans of FILE in a mode, found in a direction, after those in PLANS
+pub record Further : Type 0 where
+  pub file : Bytes
+  pub plans : Bytes
+  pub wanted : Wanted
+  pub mode : Mode
+  pub direction : Direction
+
+-- a list of plans; one that goes on from that in PLANS; a verdict on the plans in PLANS; so many switches shown
 pub data Wish : Type 0 where
   lists : Ask → Wish
+  continues : Further → Wish
   checks : Bytes → Bytes → Mode → Wish
   shows : ℕ → Wish
 
@@ -70,8 +79,19 @@ serves Loopless Forward = false
 serves Loopless Bidirectional = false
 serves mode direction = true
 
-abbrev pub lists_if_served : Ask → Option Wish
-lists_if_served ask = if serves ask.mode ask.direction then Some (lists ask) else None
+-- a list that goes on has no greatest cost
+abbrev pub continues_if_all : Reach → Further → Option Wish
+continues_if_all All ask = Some (continues ask)
+continues_if_all (UpTo most) ask = None
+continues_if_all (Percent percent) ask = None
+
+-- a list, or one that goes on from that in a file that is named
+abbrev pub lists_after : Option Bytes → Ask → Option Wish
+lists_after None ask = Some (lists ask)
+lists_after (Some plans) ask = continues_if_all ask.reach (record { file = ask.file; plans = plans; wanted = ask.wanted; mode = ask.mode; direction = ask.direction })
+
+abbrev pub lists_if_served : Option Bytes → Ask → Option Wish
+lists_if_served after ask = if serves ask.mode ask.direction then lists_after after ask else None
 
 -- the list that the texts ask for, once its number, its mode, its direction and its reach are known
 abbrev pub ask_of : PlanTexts → ℕ → Mode → Direction → Reach → Ask
@@ -80,7 +100,7 @@ ask_of t count mode direction reach = record { file = t.file; wanted = record { 
 -- what the texts spell, None where one of them isn't as the usage text says
 unfoldable pub spelled : Texts → Option Wish
 spelled (plan t) =
-    option_and_then (λ count. option_and_then (λ mode. option_and_then (λ direction. option_and_then (λ reach. lists_if_served (ask_of t count mode direction reach))
+    option_and_then (λ count. option_and_then (λ mode. option_and_then (λ direction. option_and_then (λ reach. lists_if_served t.after (ask_of t count mode direction reach))
     (reach_of t.bound t.quality)) (direction_of t.search)) (mode_of t.mode)) (number_within 1 1000000000 t.k)
 spelled (check file plans mode) = option_map (λ m. checks file plans m) (mode_of mode)
 spelled (demo n) = option_map (λ number. shows number) (number_within 1 64 n)
@@ -93,5 +113,6 @@ wish_of words = option_and_then spelled (texts_asked words)
 abbrev pub names_of : Option Wish → List Bytes
 names_of None = []
 names_of (Some (lists ask)) = ask.file ∷ []
+names_of (Some (continues ask)) = ask.file ∷ ask.plans ∷ []
 names_of (Some (checks file plans mode)) = file ∷ plans ∷ []
 names_of (Some (shows number)) = []

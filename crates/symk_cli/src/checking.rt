@@ -1,13 +1,12 @@
 //! The verdict on a list of plans.
 
 ghost use Rattle.std.specs.Prelude.{◌≡◌, ◌++◌, ◌-◌, All, length, IfOk, OnOk};
-ghost use Rattle.symk_cli.specs.Ends.{HasCauses, OrFront, Puts};
+ghost use Rattle.plan_run.specs.Ends.{HasCauses, OrFront, Puts};
 ghost use Rattle.symk_cli.specs.Verdicts.{Verdict, verdict_text, why_text};
 
-use crate::ending::end_with;
 use crate::pieces::{push_cost_after, push_number_after};
-use crate::status::Status;
 use plan_out::{Blocks, Checked, Why, check_list};
+use plan_run::{Status, end_with};
 use std::alloc::Global;
 use symk_io::Sink;
 use symk_task::{Memory, Mode, Task};
@@ -46,9 +45,9 @@ fn good_text(alloc: Global, n: u64) -> Result<Text, Memory>
     Ok(text)
 }
 
-// `bad plan I: WHY`
+/// `bad plan I: WHY`
 #[tactic(auto, unfolding(crate::specs::Verdicts::verdict_text))]
-fn bad_text(alloc: Global, plan: u64, why: Why) -> Result<Text, Memory>
+pub fn bad_text(alloc: Global, plan: u64, why: Why) -> Result<Text, Memory>
     ensures { IfOk result (λ text. text ≡ verdict_text (Checked.Bad plan why)) }
 {
     let mut text = Text::new(alloc);

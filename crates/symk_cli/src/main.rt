@@ -3,24 +3,19 @@
 //! `run` is the whole program over any files and any sink: it opens at most the files that the words name, in their order, and
 //! puts each block, the line that ends a list and every other text as one piece, with one flush. `main` makes those of the
 //! system, calls it and ends with its status. Plans come from an engine of lazy plans over decision diagrams, and whichever it
-//! is, a list is right by the law of such engines alone. It stands on the engines (`reconstruct`, `loopless`), the selectors
-//! (`selectors`), the space (`bdd_space`), and the crates of words, files and texts.
+//! is, a list is right by the law of such engines alone. It stands on `plan_run`, which lists them, and on the crates of words,
+//! files and texts.
 #![tactic(auto)]
 
 mod checking;
-mod choice;
-mod ending;
-mod engines;
+mod continuing;
 mod pieces;
-mod planning;
-mod reaching;
 mod reading;
 mod request;
 mod showing;
-mod status;
 mod top;
 
-pub use status::Status;
+pub use plan_run::Status;
 use std::env;
 use std::process::ExitCode;
 use symk_io::{HostFiles, HostSink};

@@ -2,54 +2,14 @@
 
 ghost use Rattle.std.specs.Prelude.{◌≡◌, ◌≤◌, IfSome, option_map};
 ghost use Rattle.symk_words.specs.Texts.{view_of};
-ghost use Rattle.symk_cli.specs.Wishes.{number_within, mode_named, mode_of, direction_named, direction_of, reach_of, serves, spelled};
-ghost use Rattle.symk_cli.specs.Lists.{asked};
-ghost use Rattle.symk_cli.specs.Requests.{wished, IsNear, IsWithin};
+ghost use Rattle.plan_run.specs.Reaches.{IsNear};
+ghost use Rattle.symk_cli.specs.Wishes.{number_within, mode_named, mode_of, direction_named, direction_of, reach_of, serves, lists_after, spelled};
+ghost use Rattle.symk_cli.specs.Requests.{wished, IsWithin};
 
+use plan_run::{Direction, Reach, Wanted};
 use symk_task::Mode;
 use symk_text::number;
 use symk_words::Asked;
-
-/// Which sides a search settles.
-#[derive(Clone, Copy, Debug, PartialEq, Eq)]
-pub enum Direction {
-    Auto,
-    Forward,
-    Backward,
-    Bidirectional,
-}
-
-/// How many plans are wanted, and whether one more is looked for after them.
-#[derive(Clone, Copy, Debug, PartialEq, Eq)]
-pub struct Wanted {
-    pub count: u64,
-    pub more: bool,
-}
-
-impl Wanted {
-    /// How many plans are asked for.
-    pub fn asked(self) -> u64
-        requires { self.count ≤ 1000000000 }
-        ensures { result ≡ asked self }
-    {
-        if self.more {
-            self.count + 1
-        } else {
-            self.count
-        }
-    }
-}
-
-/// Up to which cost plans are wanted.
-#[derive(Clone, Copy, Debug, PartialEq, Eq)]
-pub enum Reach {
-    /// Up to any.
-    All,
-    /// Up to this one.
-    UpTo(u64),
-    /// Up to so many percent of the least cost of a plan.
-    Percent(u64),
-}
 
 /// A lawful request.
 #[derive(Clone, Copy, Debug, PartialEq, Eq)]
@@ -60,6 +20,13 @@ pub enum Request<'a> {
         mode: Mode,
         direction: Direction,
         reach: Reach,
+    },
+    Further {
+        file: &'a str,
+        plans: &'a str,
+        wanted: Wanted,
+        mode: Mode,
+        direction: Direction,
     },
     Check {
         file: &'a str,
@@ -85,19 +52,14 @@ pub fn request_of<'a>(asked: &Asked<'a>) -> Option<Request<'a>>
             more,
             bound,
             quality,
+            after,
         } => {
             let count = number_within(k, 1, 1_000_000_000)?;
             let mode = mode_of(mode)?;
             let direction = direction_of(search)?;
             let reach = reach_of(bound, quality)?;
             if is_served(mode, direction) {
-                Some(Request::Plan {
-                    file,
-                    wanted: Wanted { count, more },
-                    mode,
-                    direction,
-                    reach,
-                })
+                list_request(file, after, Wanted { count, more }, mode, direction, reach)
             } else {
                 None
             }
@@ -110,6 +72,41 @@ pub fn request_of<'a>(asked: &Asked<'a>) -> Option<Request<'a>>
         Asked::Demo { n } => Some(Request::Demo {
             switches: number_within(n, 1, 64)? as u32,
         }),
+    }
+}
+
+// A list, or one that goes on from that in a file that is named; it has no greatest cost then.
+fn list_request<'a>(
+    file: &'a str,
+    after: Option<&'a str>,
+    wanted: Wanted,
+    mode: Mode,
+    direction: Direction,
+    reach: Reach,
+) -> Option<Request<'a>>
+    requires least { 1 ≤ wanted.count }
+    requires most { wanted.count ≤ 1000000000 }
+    requires near { IsNear reach }
+    ensures wish { option_map wished result ≡ lists_after (option_map (λ s. s.now) after.entry)
+        (record { file = file.now; wanted = wanted; mode = mode; direction = direction; reach = reach }) }
+    ensures within { IfSome result IsWithin }
+{
+    match (after, reach) {
+        (None, _) => Some(Request::Plan {
+            file,
+            wanted,
+            mode,
+            direction,
+            reach,
+        }),
+        (Some(plans), Reach::All) => Some(Request::Further {
+            file,
+            plans,
+            wanted,
+            mode,
+            direction,
+        }),
+        (Some(_), _) => None,
     }
 }
 

@@ -1,30 +1,19 @@
 //! The demonstration: the cheapest plans of a task that is made from a number.
 
-ghost use Rattle.std.specs.Prelude.{◌≡◌, ◌+◌, ◌*◌, ◌^◌, ◌<◌, ◌≤◌, ◌++◌, IfOk, OnOk, None, min, max};
+ghost use Rattle.std.specs.Prelude.{◌≡◌, ◌≤◌, ◌++◌, IfOk, OnOk};
 ghost use Rattle.task_gen.specs.Switches.{switches as switches_task};
-ghost use Rattle.symk_task.specs.declared.parts.Mode.TheVariants.{TopK};
-ghost use Rattle.symk_cli.specs.Ends.{HasCauses, OrFront, Puts};
-ghost use Rattle.symk_cli.specs.Engines.{OwesAll};
-ghost use Rattle.symk_cli.specs.Shown.{HasMore, HasPlans, IsSummary, Summary, counts_line, costs_line, reached_line};
+ghost use Rattle.plan_run.specs.Ends.{HasCauses, OrFront, Puts};
+ghost use Rattle.symk_cli.specs.Shown.{IsSummary, Summary, counts_line, costs_line, reached_line};
 
-use crate::choice::Choice;
-use crate::ending::end_with;
-use crate::engines::top_plans;
 use crate::pieces::{push_cost_after, push_number_after};
-use crate::request::Direction;
-use crate::status::Status;
-use bdd_space::BddSpace;
+use plan_run::{Costs, SHOWN, Status, costs_found, end_with};
 use sas_reader::{ReadFault, read_task};
 use sas_writer::write_task;
-use selectors::{LazyPlans, Limited, Stop};
 use std::alloc::{AllocError, Global};
 use symk_io::Sink;
 use symk_task::{Memory, Task};
 use symk_text::{Text, push_bytes};
 use task_gen::switches;
-
-// How many plans are listed.
-const SHOWN: u64 = 20;
 
 /// Makes the task of that many switches, writes it and reads it back, lists its 20 cheapest plans, and puts a summary.
 pub fn show<K: Sink>(alloc: Global, number: u32, sink: &mut K) -> Status
@@ -48,67 +37,6 @@ fn task_read_back(alloc: Global, number: u32) -> Result<Task, Memory>
         Err(ReadFault::Memory) => Err(AllocError),
         Err(ReadFault::Offence { .. }) => unreachable!(),
     }
-}
-
-// What plans cost: the least and the greatest cost, and the sum.
-#[derive(Clone, Copy, Debug)]
-struct Costs {
-    cheapest: u64,
-    dearest: u64,
-    total: u128,
-}
-
-impl Costs {
-    // Those of one plan more.
-    fn with(self, cost: u64) -> Costs
-        requires { self.total + cost < 2 ^ 128 }
-        ensures cheapest { result.cheapest ≡ min self.cheapest cost }
-        ensures dearest { result.dearest ≡ max self.dearest cost }
-        ensures total { result.total ≡ self.total + cost }
-    {
-        Costs {
-            cheapest: self.cheapest.min(cost),
-            dearest: self.dearest.max(cost),
-            total: self.total + u128::from(cost),
-        }
-    }
-}
-
-// What 20 plans cost of an engine that owes all plans of the task.
-fn costs_of<I: LazyPlans + Drop>(alloc: Global, task: &Task, engine: I) -> Result<Costs, Memory>
-    requires owes { OwesAll I.system I.mode I.most I.pends I.lawful task.now TopK None engine }
-    requires many { HasMore task.now 20 }
-    ensures { IfOk result (λ costs. HasPlans task.now costs.cheapest costs.dearest costs.total) }
-{
-    // A task fits.
-    let _ = task.parts();
-    let mut plans = Limited::new(alloc, engine, SHOWN);
-    let mut costs = Costs {
-        cheapest: u64::MAX,
-        dearest: 0,
-        total: 0,
-    };
-    'plans: for _number in 0..SHOWN {
-        match plans.next() {
-            Some(Ok(plan)) => costs = costs.with(task.plan_cost(&plan) as u64),
-            Some(Err(Stop::Memory)) => return Err(AllocError),
-            Some(Err(Stop::CostRange)) => unreachable!(),
-            None => unreachable!(),
-        }
-    }
-    Ok(costs)
-}
-
-// What the 20 cheapest plans of the task cost, by the engine that the program chooses for itself.
-fn costs_found(alloc: Global, task: &Task) -> Result<Costs, Memory>
-    requires { HasMore task.now 20 }
-    ensures { IfOk result (λ costs. HasPlans task.now costs.cheapest costs.dearest costs.total) }
-{
-    // A task fits, and so its system lists each useful state.
-    let _ = task.parts();
-    let space = BddSpace::of(alloc, task)?;
-    let plans = top_plans(alloc, task, space, Choice::of(Direction::Auto), None)?;
-    costs_of(alloc, task, plans)
 }
 
 fn summary(alloc: Global, number: u32) -> Result<Text, Memory>

@@ -1,9 +1,13 @@
 //! Runs over files and a sink in memory: the worked examples, and each call that fails once.
 
 mod checks;
+mod cuts;
+mod drawn;
+mod earlier;
 mod faults;
 mod files;
 mod further;
+mod large;
 mod memory;
 mod plans;
 mod refusals;
@@ -21,11 +25,13 @@ struct Outcome {
     bytes: Vec<u8>,
 }
 
-// The files of a run, and which of its calls fail.
+// The files of a run, and which of its calls fail. A count of blanks stands in the place of a text.
 #[derive(Clone, Copy)]
 struct World<'a> {
     file: &'a [u8],
     plans: &'a [u8],
+    blank_file: Option<u64>,
+    blank_plans: Option<u64>,
     failing_files: &'a [u64],
     failing_sink: &'a [u64],
     most: usize,
@@ -36,6 +42,8 @@ impl<'a> World<'a> {
         World {
             file,
             plans,
+            blank_file: None,
+            blank_plans: None,
             failing_files: &[],
             failing_sink: &[],
             most: usize::MAX,
@@ -43,10 +51,18 @@ impl<'a> World<'a> {
     }
 }
 
-fn file(alloc: Global, name: &str, text: &[u8]) -> Result<MemFile, AllocError> {
+fn file(
+    alloc: Global,
+    name: &str,
+    text: &[u8],
+    blanks: Option<u64>,
+) -> Result<MemFile, AllocError> {
     Ok(MemFile {
         name: String::from_str(alloc, name)?,
-        text: MemText::Bytes(Vec::from_slice(alloc, text)?),
+        text: match blanks {
+            Some(count) => MemText::Run { byte: b' ', count },
+            None => MemText::Bytes(Vec::from_slice(alloc, text)?),
+        },
     })
 }
 
@@ -58,8 +74,8 @@ fn answer(alloc: Global, world: &World, words: &str) -> Result<Outcome, AllocErr
         given.push(String::from_str(alloc, word)?)?;
     }
     let mut shelf = Vec::new(alloc);
-    shelf.push(file(alloc, "FILE", world.file)?)?;
-    shelf.push(file(alloc, "PLANS", world.plans)?)?;
+    shelf.push(file(alloc, "FILE", world.file, world.blank_file)?)?;
+    shelf.push(file(alloc, "PLANS", world.plans, world.blank_plans)?)?;
     let mut files = MemFiles::new(shelf, Vec::from_slice(alloc, world.failing_files)?);
     let failing = Vec::from_slice(alloc, world.failing_sink)?;
     let mut sink = MemSink::new(alloc, failing, world.most);

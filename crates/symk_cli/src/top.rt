@@ -1,9 +1,10 @@
 //! The top call.
 
 ghost use Rattle.std.specs.Prelude.{◌≡◌, ◌≢◌, ◌≤◌, [], ◌∷◌, Some, None, IfOk, IsErrOf, map, string_bytes};
-ghost use Rattle.symk_cli.specs.Ends.{HasCauses};
-ghost use Rattle.symk_cli.specs.Wishes.{wish_of, names_of, lists, checks};
-ghost use Rattle.symk_cli.specs.Requests.{wished, IsNear, IsWithin};
+ghost use Rattle.plan_run.specs.Ends.{HasCauses};
+ghost use Rattle.plan_run.specs.Reaches.{IsNear};
+ghost use Rattle.symk_cli.specs.Wishes.{wish_of, names_of, lists, continues, checks};
+ghost use Rattle.symk_cli.specs.Requests.{wished, IsWithin};
 ghost use Rattle.symk_cli.specs.LawfulWords.{AreLawful};
 ghost use Rattle.symk_cli.specs.Answer.{Answered, usage_text};
 ghost use Rattle.symk_cli.specs.Opens.{Opens};
@@ -11,12 +12,11 @@ ghost use Rattle.symk_cli.specs.Complete.{Complete};
 ghost use Rattle.symk_cli.specs.Lengths.{Lengths};
 
 use crate::checking::judge;
-use crate::ending::end;
-use crate::reaching::list_reached;
+use crate::continuing::go_on;
 use crate::reading::{plans_of, task_of};
-use crate::request::{Direction, Reach, Request, Wanted, request_of};
+use crate::request::{Request, request_of};
 use crate::showing::show;
-use crate::status::Status;
+use plan_run::{Direction, Reach, Status, Wanted, end, list_reached};
 use std::alloc::Global;
 use symk_io::{Files, NoFaultFiles, NoFaultSink, Sink};
 use symk_task::Mode;
@@ -24,7 +24,7 @@ use symk_words::{WordsFault, read_words};
 
 /// What the program may be asked for.
 pub const USAGE: &[u8] =
-    b"usage: symk plan FILE --k K [--mode topk|loopless|unordered] [--search auto|forward|backward|bidirectional] [--more] [--bound Q | --quality P]\n       symk check FILE PLANS [--mode topk|loopless|unordered]\n       symk demo N\n";
+    b"usage: symk plan FILE --k K [--mode topk|loopless|unordered] [--search auto|forward|backward|bidirectional] [--more] [--bound Q | --quality P] [--after PLANS]\n       symk check FILE PLANS [--mode topk|loopless|unordered]\n       symk demo N\n";
 
 /// Answers the words: lists the plans of a task, checks a list of plans, or shows a task that is made from a number.
 ///
@@ -113,6 +113,13 @@ fn serve<F: Files, K: Sink>(
             direction,
             reach,
         } => plan(alloc, files, sink, file, mode, direction, wanted, reach),
+        Request::Further {
+            file,
+            plans,
+            wanted,
+            mode,
+            direction,
+        } => further(alloc, files, sink, file, plans, mode, direction, wanted),
         Request::Check { file, plans, mode } => check(alloc, files, sink, file, plans, mode),
         Request::Demo { switches } => show(alloc, switches, sink),
     }
@@ -129,6 +136,7 @@ fn plan<F: Files, K: Sink>(
     wanted: Wanted,
     reach: Reach,
 ) -> Status
+    requires least { 1 ≤ wanted.count }
     requires count { wanted.count ≤ 1000000000 }
     requires near { IsNear reach }
     ensures answer { Answered (Some (lists (record { file = file.now; wanted = wanted; mode = mode; direction = direction; reach = reach }))) (F.view files.old).told (K.view sink.old) (K.view sink.new) result }
@@ -137,6 +145,33 @@ fn plan<F: Files, K: Sink>(
 {
     match task_of(alloc, files, sink, file) {
         Ok(task) => list_reached(alloc, &task, mode, direction, wanted, reach, sink),
+        Err(status) => status,
+    }
+}
+
+// `plan` after an earlier list
+fn further<F: Files, K: Sink>(
+    alloc: Global,
+    files: &mut F,
+    sink: &mut K,
+    file: &str,
+    plans: &str,
+    mode: Mode,
+    direction: Direction,
+    wanted: Wanted,
+) -> Status
+    requires least { 1 ≤ wanted.count }
+    requires count { wanted.count ≤ 1000000000 }
+    ensures answer { Answered (Some (continues (record { file = file.now; plans = plans.now; wanted = wanted; mode = mode; direction = direction }))) (F.view files.old).told (K.view sink.old) (K.view sink.new) result }
+    ensures causes { HasCauses result (F.view files.old).faults (F.view files.new).faults (K.view sink.old).faults (K.view sink.new).faults }
+    ensures opened { Opens (file.now ∷ plans.now ∷ []) (F.view files.old).told (F.view files.new).told (K.view sink.old).taken (K.view sink.new).taken result }
+{
+    let task = match task_of(alloc, files, sink, file) {
+        Ok(task) => task,
+        Err(status) => return status,
+    };
+    match plans_of(alloc, files, sink, plans) {
+        Ok(blocks) => go_on(alloc, &task, mode, direction, wanted, &blocks, sink),
         Err(status) => status,
     }
 }

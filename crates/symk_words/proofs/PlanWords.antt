@@ -256,6 +256,17 @@ quality_option = record {
   use_right = λ rows value h. simp h refl;
 }
 
+after_option : IsOption (codes "after") (codes "--after")
+unfolding clap_on_literals
+after_option = record {
+  waits = λ rows pending. refl;
+  right = λ rows pending e. ap (λ k. or_else k []) e;
+  goes = λ rows c cs h. simp h refl;
+  value_right = λ rows c cs h. simp h refl;
+  uses = λ rows value. refl;
+  use_right = λ rows value h. simp h refl;
+}
+
 -- the option without a value
 more_walks : (rows : List Row) (pending : Option (Text × List Text)) → walked leaf.rules [] (idle_at rows pending) (codes "--more")
     ≡ idle_at (with_values (codes "more") AsWritten CommandLine (codes "true" ∷ []) (without (codes "more") (settled_rows leaf.rules pending rows))) None
@@ -355,7 +366,7 @@ abbrev more_rule : Rule
 more_rule = filled (flag (codes "more"))
 
 abbrev later_rules : List Rule
-later_rules = filled_from 3 (wished (codes "bound") ∷ wished (codes "quality") ∷ [])
+later_rules = filled_from 3 (wished (codes "bound") ∷ wished (codes "quality") ∷ wished (codes "after") ∷ [])
 
 rules_are : leaf.rules ≡ first_rules ++ more_rule ∷ later_rules
 unfolding clap_on_literals
@@ -367,7 +378,7 @@ first_have_none = (refl, (refl, (refl, (refl, tt))))
 
 later_have_none : NoDefaults later_rules
 unfolding clap_on_literals
-later_have_none = (refl, (refl, tt))
+later_have_none = (refl, (refl, (refl, tt)))
 
 more_fault : (rows : List Row) (given : Bool) → has_row (codes "more") rows ≡ given → default_fault rows more_rule ≡ []
 unfolding clap_on_literals
@@ -493,8 +504,11 @@ to_bound t = to_more t ++ option_rows (codes "bound") t.bound
 abbrev to_quality : PlanTexts → List Row
 to_quality t = to_bound t ++ option_rows (codes "quality") t.quality
 
+abbrev to_after : PlanTexts → List Row
+to_after t = to_quality t ++ option_rows (codes "after") t.after
+
 abbrev all_rows : PlanTexts → List Row
-all_rows t = to_quality t ++ default_rows_of (codes "more") t.more
+all_rows t = to_after t ++ default_rows_of (codes "more") t.more
 
 -- No row up to an option is that of a later one.
 lacks_to_mode : (id : Text) (t : PlanTexts) → has_row id (least_rows t.file t.k) ≡ false → bytes_eq (codes "mode") id ≡ false → has_row id (to_mode t) ≡ false
@@ -523,19 +537,29 @@ quality_new t =
     let id = codes "quality" in
     lacks_to_bound id t (lacks_to_more id t (lacks_to_search id t (lacks_to_mode id t refl refl) refl) refl) refl
 
-gives_all : (t : PlanTexts) → ArePlain t → Gives ((((((t.file ∷ codes "--k" ∷ t.k ∷ []) ++ option_words (codes "--mode") t.mode) ++ option_words (codes "--search") t.search) ++ flag_words (codes "--more") t.more)
-    ++ option_words (codes "--bound") t.bound) ++ option_words (codes "--quality") t.quality) (to_quality t)
+after_new : (t : PlanTexts) → has_row (codes "after") (to_quality t) ≡ false
+after_new t =
+    let id = codes "after" in
+    let bound = lacks_to_bound id t (lacks_to_more id t (lacks_to_search id t (lacks_to_mode id t refl refl) refl) refl) refl in
+    lacks_both id (to_bound t) _ bound (lacks_option id (codes "quality") t.quality refl)
+
+gives_all : (t : PlanTexts) → ArePlain t → Gives (((((((t.file ∷ codes "--k" ∷ t.k ∷ []) ++ option_words (codes "--mode") t.mode) ++ option_words (codes "--search") t.search) ++ flag_words (codes "--more") t.more)
+    ++ option_words (codes "--bound") t.bound) ++ option_words (codes "--quality") t.quality) ++ option_words (codes "--after") t.after) (to_after t)
 gives_all t p =
     let mode = may_have (codes "mode") (codes "--mode") t.mode _ (least_rows t.file t.k) mode_option p.mode refl (gives_least t.file t.k p.file p.k) in
     let search = may_have (codes "search") (codes "--search") t.search _ (to_mode t) search_option p.search (search_new t) mode in
     let more = may_be_set t.more _ (to_search t) (more_new t) search in
     let bound = may_have (codes "bound") (codes "--bound") t.bound _ (to_more t) bound_option p.bound (bound_new t) more in
-    may_have (codes "quality") (codes "--quality") t.quality _ (to_bound t) quality_option p.quality (quality_new t) bound
+    let quality = may_have (codes "quality") (codes "--quality") t.quality _ (to_bound t) quality_option p.quality (quality_new t) bound in
+    may_have (codes "after") (codes "--after") t.after _ (to_quality t) after_option p.after (after_new t) quality
 
 -- What the rows say of each option: what stands after its row is passed over, and what stands before it.
-past_end : (id : Text) (t : PlanTexts) → bytes_eq (codes "more") id ≡ false → bytes_eq (codes "quality") id ≡ false → first_of id (all_rows t) ≡ first_of id (to_bound t)
-past_end id t m q =
-    first_earlier id (to_quality t) _ (lacks_default id (codes "more") t.more m) ∙ first_earlier id (to_bound t) _ (lacks_option id (codes "quality") t.quality q)
+past_last : (id : Text) (t : PlanTexts) → bytes_eq (codes "more") id ≡ false → bytes_eq (codes "after") id ≡ false → first_of id (all_rows t) ≡ first_of id (to_quality t)
+past_last id t m a =
+    first_earlier id (to_after t) _ (lacks_default id (codes "more") t.more m) ∙ first_earlier id (to_quality t) _ (lacks_option id (codes "after") t.after a)
+
+past_end : (id : Text) (t : PlanTexts) → bytes_eq (codes "more") id ≡ false → bytes_eq (codes "after") id ≡ false → bytes_eq (codes "quality") id ≡ false → first_of id (all_rows t) ≡ first_of id (to_bound t)
+past_end id t m a q = past_last id t m a ∙ first_earlier id (to_bound t) _ (lacks_option id (codes "quality") t.quality q)
 
 past_more : (id : Text) (t : PlanTexts) → bytes_eq (codes "bound") id ≡ false → bytes_eq (codes "more") id ≡ false → first_of id (to_bound t) ≡ first_of id (to_search t)
 past_more id t b m = first_earlier id (to_more t) _ (lacks_option id (codes "bound") t.bound b) ∙ first_earlier id (to_search t) _ (lacks_flag id (codes "more") t.more m)
@@ -543,33 +567,39 @@ past_more id t b m = first_earlier id (to_more t) _ (lacks_option id (codes "bou
 mode_is : (t : PlanTexts) → first_of (codes "mode") (all_rows t) ≡ t.mode
 mode_is t =
     let id = codes "mode" in
-    past_end id t refl refl ∙ past_more id t refl refl ∙ first_earlier id (to_mode t) _ (lacks_option id (codes "search") t.search refl)
+    past_end id t refl refl refl ∙ past_more id t refl refl ∙ first_earlier id (to_mode t) _ (lacks_option id (codes "search") t.search refl)
     ∙ first_later id (least_rows t.file t.k) (option_rows id t.mode) refl ∙ first_option id t.mode refl
 
 search_is : (t : PlanTexts) → first_of (codes "search") (all_rows t) ≡ t.search
 search_is t =
     let id = codes "search" in
-    past_end id t refl refl ∙ past_more id t refl refl ∙ first_later id (to_mode t) (option_rows id t.search) (search_new t) ∙ first_option id t.search refl
+    past_end id t refl refl refl ∙ past_more id t refl refl ∙ first_later id (to_mode t) (option_rows id t.search) (search_new t) ∙ first_option id t.search refl
 
 bound_is : (t : PlanTexts) → first_of (codes "bound") (all_rows t) ≡ t.bound
 bound_is t =
     let id = codes "bound" in
-    past_end id t refl refl ∙ first_later id (to_more t) (option_rows id t.bound) (bound_new t) ∙ first_option id t.bound refl
+    past_end id t refl refl refl ∙ first_later id (to_more t) (option_rows id t.bound) (bound_new t) ∙ first_option id t.bound refl
 
 quality_is : (t : PlanTexts) → first_of (codes "quality") (all_rows t) ≡ t.quality
 quality_is t =
     let id = codes "quality" in
-    first_earlier id (to_quality t) _ (lacks_default id (codes "more") t.more refl) ∙ first_later id (to_bound t) (option_rows id t.quality) (quality_new t) ∙ first_option id t.quality refl
+    past_last id t refl refl ∙ first_later id (to_bound t) (option_rows id t.quality) (quality_new t) ∙ first_option id t.quality refl
+
+after_is : (t : PlanTexts) → first_of (codes "after") (all_rows t) ≡ t.after
+after_is t =
+    let id = codes "after" in
+    first_earlier id (to_after t) _ (lacks_default id (codes "more") t.more refl) ∙ first_later id (to_quality t) (option_rows id t.after) (after_new t) ∙ first_option id t.after refl
 
 -- the option without a value: given, or by default
-given_is : (t : PlanTexts) → has_row (codes "more") (to_quality t) ≡ t.more
+given_is : (t : PlanTexts) → has_row (codes "more") (to_after t) ≡ t.more
 given_is t =
     let id = codes "more" in
     let test = λ (r : Row). bytes_eq r.id id in
+    let last = list_any-append test (to_quality t) _ ∙ ap (λ b. list_any test (to_quality t) || b) (lacks_option id (codes "after") t.after refl) in
     let next = list_any-append test (to_bound t) _ ∙ ap (λ b. list_any test (to_bound t) || b) (lacks_option id (codes "quality") t.quality refl) in
     let third = list_any-append test (to_more t) _ ∙ ap (λ b. list_any test (to_more t) || b) (lacks_option id (codes "bound") t.bound refl) in
     let flag = list_any-append test (to_search t) _ ∙ ap₂ (λ a b. a || b) (more_new t) (has_flag t.more) in
-    next ∙ or_no _ ∙ third ∙ or_no _ ∙ flag
+    last ∙ or_no _ ∙ next ∙ or_no _ ∙ third ∙ or_no _ ∙ flag
 
 -- rows without it are passed over in the middle
 first_around : (id : Text) (xs ys zs : List Row) → has_row id ys ≡ false → first_of id ((xs ++ ys) ++ zs) ≡ first_of id (xs ++ zs)
@@ -583,13 +613,14 @@ more_is : (t : PlanTexts) → is_set (first_of (codes "more") (all_rows t)) ≡ 
 more_is t =
     let id = codes "more" in
     let default = default_rows_of id t.more in
-    let around = first_around id (to_bound t) _ default (lacks_option id (codes "quality") t.quality refl)
+    let around = first_around id (to_quality t) _ default (lacks_option id (codes "after") t.after refl)
+    ∙ first_around id (to_bound t) _ default (lacks_option id (codes "quality") t.quality refl)
     ∙ first_around id (to_more t) _ default (lacks_option id (codes "bound") t.bound refl) in
     let flag = ap (λ r. first_of id r) (append_assoc (to_search t) (flag_rows id t.more) default) ∙ first_later id (to_search t) (flag_rows id t.more ++ default) (more_new t) in
     ap is_set (around ∙ flag) ∙ is_set_given t.more
 
-abbrev texts_with : PlanTexts → Option Text → Option Text → Bool → Option Text → Option Text → PlanTexts
-texts_with t mode search more bound quality = record { file = t.file; k = t.k; mode = mode; search = search; more = more; bound = bound; quality = quality }
+abbrev texts_with : PlanTexts → Option Text → Option Text → Bool → Option Text → Option Text → Option Text → PlanTexts
+texts_with t mode search more bound quality after = record { file = t.file; k = t.k; mode = mode; search = search; more = more; bound = bound; quality = quality; after = after }
 
 texts_are : (t : PlanTexts) → plan_with (all_rows t) t.file t.k ≡ t
 texts_are t =
@@ -597,9 +628,10 @@ texts_are t =
     let more = is_set (first_of (codes "more") rows) in
     let bound = first_of (codes "bound") rows in
     let quality = first_of (codes "quality") rows in
-    ap (λ x. texts_with t x (first_of (codes "search") rows) more bound quality) (mode_is t) ∙ ap (λ x. texts_with t t.mode x more bound quality) (search_is t)
-    ∙ ap (λ x. texts_with t t.mode t.search x bound quality) (more_is t) ∙ ap (λ x. texts_with t t.mode t.search t.more x quality) (bound_is t)
-    ∙ ap (λ x. texts_with t t.mode t.search t.more t.bound x) (quality_is t)
+    let after = first_of (codes "after") rows in
+    ap (λ x. texts_with t x (first_of (codes "search") rows) more bound quality after) (mode_is t) ∙ ap (λ x. texts_with t t.mode x more bound quality after) (search_is t)
+    ∙ ap (λ x. texts_with t t.mode t.search x bound quality after) (more_is t) ∙ ap (λ x. texts_with t t.mode t.search t.more x quality after) (bound_is t)
+    ∙ ap (λ x. texts_with t t.mode t.search t.more t.bound x after) (quality_is t) ∙ ap (λ x. texts_with t t.mode t.search t.more t.bound t.quality x) (after_is t)
 
 pub lawful_plan : (prog : Text) (t : PlanTexts) → ArePlain t → texts_asked (plan_words prog t) ≡ Some (plan t)
 lawful_plan prog t p = given_texts prog _ t.file t.k _ t.more (gives_all t p) (given_is t) ∙ ap (λ x. Some (plan x)) (texts_are t)

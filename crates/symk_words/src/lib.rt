@@ -67,7 +67,7 @@ fn found_command<'a>(alloc: Global) -> Result<Command<'a>, AllocError>
     command.arg(wished(alloc, "search"))
 }
 
-// And with what says how far the list goes.
+// And with what says how far the list goes, and from where on.
 fn plan_command<'a>(alloc: Global) -> Result<Command<'a>, AllocError>
     ensures app { IfOk result (λ c. app_of c ≡ plan_app) }
     ensures local { IfOk result (λ c. (out-Command c).has_globals ≡ false) }
@@ -75,7 +75,8 @@ fn plan_command<'a>(alloc: Global) -> Result<Command<'a>, AllocError>
     let command = found_command(alloc)?;
     let command = command.arg(flag(alloc, "more"))?;
     let command = command.arg(wished(alloc, "bound"))?;
-    command.arg(wished(alloc, "quality"))
+    let command = command.arg(wished(alloc, "quality"))?;
+    command.arg(wished(alloc, "after"))
 }
 
 fn check_command<'a>(alloc: Global) -> Result<Command<'a>, AllocError>
@@ -111,7 +112,7 @@ fn symk_command<'a>(alloc: Global) -> Result<Command<'a>, AllocError>
 /// What the words ask for. Each text is a part of a word, as it stands there: it may be empty, and no number or name.
 #[derive(Clone, Copy, Debug, PartialEq, Eq)]
 pub enum Asked<'a> {
-    /// `plan FILE --k K [--mode M] [--search S] [--more] [--bound Q] [--quality P]`.
+    /// `plan FILE --k K [--mode M] [--search S] [--more] [--bound Q] [--quality P] [--after PLANS]`.
     Plan {
         /// The name of the task file.
         file: &'a str,
@@ -127,6 +128,8 @@ pub enum Asked<'a> {
         bound: Option<&'a str>,
         /// The greatest cost that is wanted, in percent of the least one, if it is named.
         quality: Option<&'a str>,
+        /// The name of the file with the list to go on from, if one is named.
+        after: Option<&'a str>,
     },
     /// `check FILE PLANS [--mode M]`.
     Check {
@@ -179,6 +182,7 @@ fn plan_of<'a>(matches: &ArgMatches<'a>) -> Option<Asked<'a>>
         more: is_given(matches, "more"),
         bound: matches.get_str("bound"),
         quality: matches.get_str("quality"),
+        after: matches.get_str("after"),
     })
 }
 

@@ -22,6 +22,7 @@ fn takes_each_form(rt: HostRuntime) {
         more: false,
         bound: None,
         quality: None,
+        after: None,
     };
     let further = Asked::Plan {
         file: "A",
@@ -31,6 +32,7 @@ fn takes_each_form(rt: HostRuntime) {
         more: true,
         bound: Some("7"),
         quality: Some(""),
+        after: Some("B"),
     };
     for (line, want) in [
         ("plan A --k 3", plan(None, None)),
@@ -39,11 +41,11 @@ fn takes_each_form(rt: HostRuntime) {
         ("plan A --k 3 --mode loopless", plan(Some("loopless"), None)),
         ("plan A --k 3 --search no", plan(None, Some("no"))),
         (
-            "plan A --k 3 --search auto --more --bound 7 --quality=",
+            "plan A --k 3 --search auto --more --bound 7 --quality= --after B",
             further,
         ),
         (
-            "plan --quality= --more --k 3 A --bound 7 --search auto",
+            "plan --quality= --after=B --more --k 3 A --bound 7 --search auto",
             further,
         ),
         (
@@ -82,6 +84,7 @@ fn refuses_all_else(rt: HostRuntime) {
         "plan A --k 3 --mode",
         "plan A --k 3 --bound",
         "plan A --k 3 --bound 7 --bound 7",
+        "plan A --k 3 --after",
         "plan A --k 3 --more 1",
         "plan A --k 3 --more=true",
         "plan A --k 3 --more --more",

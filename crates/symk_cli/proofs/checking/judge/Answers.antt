@@ -1,8 +1,8 @@
 use Rattle.std.proofs.Common.{refl}
 use Rattle.plan_out.specs.declared.check.Checked.TheVariants.{Good, Bad}
-use Rattle.symk_cli.specs.declared.status.Status.TheVariants as status
+use Rattle.plan_run.specs.declared.status.Status.TheVariants as status
 use Rattle.symk_cli.specs.Verdicts.{Verdict, verdict_text}
-use Rattle.symk_cli.proofs.Puts.{text_puts, nothing_puts}
+use Rattle.plan_run.proofs.Puts.{text_puts, nothing_puts}
 use Rattle.symk_cli.proofs.checking.judge.Goals as goal
 
 pub returns-in-Ok-Good-clause-verdict : goal.returns-in-Ok-Good-clause-verdict

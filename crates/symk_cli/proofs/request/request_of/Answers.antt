@@ -29,7 +29,8 @@ returns-in_err-reach-in-Plan-clause-wish c =
 
 pub returns-then-is_served-clause-wish : goal.returns-then-is_served-clause-wish
 returns-then-is_served-clause-wish c =
-    sym (ap (λ a. spelled (view_of a)) c.in-Plan.is
+    c.list_request.ensures.wish
+    ∙ sym (ap (λ a. spelled (view_of a)) c.in-Plan.is
     ∙ plan_spelled _ c.in_ok-count-in-Plan.count c.in_ok-mode-in-Plan.mode c.in_ok-direction-in-Plan.direction c.in_ok-reach-in-Plan.reach _ (sym c.in_ok-count-in-Plan.ensures.number) (sym c.in_ok-mode-in-Plan.ensures) (sym c.in_ok-direction-in-Plan.ensures) (sym c.in_ok-reach-in-Plan.ensures.reach) (sym c.if-is_served.ensures))
 
 pub returns-else-is_served-clause-wish : goal.returns-else-is_served-clause-wish

@@ -1,6 +1,6 @@
 use Rattle.std.proofs.Common.{◌<◌, sym, subst, arith}
 use Rattle.symk_task.specs.declared.parts.TaskParts.{TaskParts}
-use Rattle.symk_cli.specs.Shown.{HasMore}
+use Rattle.plan_run.specs.Costs.{HasMore}
 use Rattle.symk_cli.proofs.Switched.{switches_have_more}
 use Rattle.symk_cli.proofs.showing.summary.Goals as goal
 

@@ -1,0 +1,10 @@
+pub mod Causes
+pub mod Took
+pub mod Puts
+pub mod Given
+pub mod Going
+pub mod Serving
+pub mod Listed
+pub mod Ended
+pub mod Reached
+pub mod Costed

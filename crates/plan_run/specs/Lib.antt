@@ -1,0 +1,9 @@
+pub mod Codes
+pub mod Listable
+pub mod Sent
+pub mod Ends
+pub mod Earlier
+pub mod Lists
+pub mod Reaches
+pub mod Engines
+pub mod Costs

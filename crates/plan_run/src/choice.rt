@@ -1,0 +1,61 @@
+//! Which side of a search goes on, by the direction that is asked for.
+
+use crate::asking::Direction;
+use bidirectional::{Choice, Choose, Lighter};
+
+/// How many steps one side takes in a row before the other has one, where the side isn't asked for.
+const PATIENCE: u32 = 1000;
+
+/// A choice by which no side waits for ever: one type for all directions, so that there is one engine.
+///
+/// A light side, or one that is known below a low cost, could go on cost by cost for ever where the other would soon be shut.
+#[derive(Clone, Copy, Debug)]
+pub struct Patient {
+    choice: Choice,
+    // The side of the last step, and how many it has taken in a row.
+    forward: bool,
+    steps: u32,
+}
+
+impl Patient {
+    /// The choice of a direction. The program's own is the side whose last step made less.
+    pub fn of(direction: Direction) -> Patient {
+        let choice = match direction {
+            Direction::Auto => Choice::Lighter(Lighter::new()),
+            Direction::Forward => Choice::Forward,
+            Direction::Backward => Choice::Backward,
+            Direction::Bidirectional => Choice::Lower,
+        };
+        Patient {
+            choice,
+            forward: false,
+            steps: 0,
+        }
+    }
+}
+
+impl Choose for Patient {
+    fn forward_next(&mut self, f: u128, b: u128) -> bool {
+        let forward = self.choice.forward_next(f, b);
+        match self.choice {
+            // A side that is asked for goes on alone.
+            Choice::Forward | Choice::Backward => forward,
+            Choice::Lower | Choice::Lighter(_) => {
+                if self.steps < PATIENCE {
+                    forward
+                } else {
+                    !self.forward
+                }
+            }
+        }
+    }
+
+    fn note_step(&mut self, forward: bool, nodes: usize) {
+        self.choice.note_step(forward, nodes);
+        if self.forward != forward {
+            self.forward = forward;
+            self.steps = 0;
+        }
+        self.steps = self.steps.saturating_add(1);
+    }
+}

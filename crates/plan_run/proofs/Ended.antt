@@ -11,14 +11,14 @@ use Rattle.lazy_plans.specs.declared.stop.Stop.TheVariants.{CostRange}
 use Rattle.plan_out.specs.declared.end.End.{End}
 use Rattle.plan_out.specs.declared.end.End.TheVariants as end
 use Rattle.plan_out.specs.Texts.{block, end_line}
-use Rattle.plan_run.specs.Sent.{TookPiece, TookFront}
-use Rattle.plan_run.specs.Ends.{Ends, Puts}
+use Rattle.run_status.specs.Sent.{TookPiece, TookFront}
+use Rattle.run_status.specs.Ends.{Ends, Puts}
 use Rattle.plan_run.specs.Earlier.{Misses}
 use Rattle.plan_run.specs.Lists.{Aim, aim_after, OrPart, IsEndOf, all_end, asked, end_status, gap_text}
 use Rattle.plan_run.specs.declared.asking.Wanted.{Wanted}
 use Rattle.plan_run.specs.declared.earlier.Earlier.{Earlier}
-use Rattle.plan_run.specs.declared.status.Status.{Status}
-use Rattle.plan_run.specs.declared.status.Status.TheVariants as status
+use Rattle.run_status.specs.declared.status.Status.{Status}
+use Rattle.run_status.specs.declared.status.Status.TheVariants as status
 use Rattle.plan_run.proofs.Given.{IsHeld, list_reached, list_goes_on, list_exhausted, list_in_range}
 use Rattle.plan_run.proofs.Going.{Owed, Joined, IsFurther, joined_some, joined_gave, joined_end, joined_range, further_more, misses}
 use Rattle.plan_run.proofs.Listed.{Listed, next_number, listed_as, listed_more, none_stops, listed_stops, block_stops, list_ends, gap_ends}

@@ -1,6 +1,3 @@
-pub mod Causes
-pub mod Took
-pub mod Puts
 pub mod Given
 pub mod Going
 pub mod Serving

@@ -7,12 +7,12 @@ use Rattle.plan_out.specs.declared.end.End.{End}
 use Rattle.plan_out.specs.declared.end.End.TheVariants as end
 use Rattle.plan_out.specs.Texts.{block, end_line}
 use Rattle.plan_run.specs.Earlier.{Misses}
-use Rattle.plan_run.specs.Sent.{Sent, nothing, Took, TookPiece, TookFront, IsFront}
-use Rattle.plan_run.specs.Ends.{Ends, FrontOf, Puts}
+use Rattle.run_status.specs.Sent.{Sent, nothing, Took, TookPiece, TookFront, IsFront}
+use Rattle.run_status.specs.Ends.{Ends, FrontOf, Puts}
 use Rattle.plan_run.specs.Lists.{Aim, blocks_from, list_pieces, IsListOf, IsEndOf, end_status, gap_text, Listing, MayCome, PartListing, OrPart}
-use Rattle.plan_run.specs.declared.status.Status.{Status}
-use Rattle.plan_run.specs.declared.status.Status.TheVariants as status
-use Rattle.plan_run.proofs.Took.{all_of, took_nothing, took_piece, took_front, took_after, front_of_all, front_of_last}
+use Rattle.run_status.specs.declared.status.Status.{Status}
+use Rattle.run_status.specs.declared.status.Status.TheVariants as status
+use Rattle.run_status.proofs.Took.{all_of, took_nothing, took_piece, took_front, took_after, front_of_all, front_of_last}
 
 -- What went out so far are the blocks of a list of so many plans, each a piece, of which this holds.
 pub record Listed (a : Aim) (Holds : List (List ℕ) → Type 0) (old new : SinkView) (count : ℕ) : Type 0 where

@@ -18,14 +18,14 @@ use Rattle.plan_out.specs.Texts.{end_line}
 use Rattle.plan_run.specs.declared.asking.Wanted.{Wanted}
 use Rattle.plan_run.specs.declared.asking.Reach.{Reach}
 use Rattle.plan_run.specs.declared.asking.Reach.TheVariants.{Percent}
-use Rattle.plan_run.specs.declared.status.Status.{Status}
-use Rattle.plan_run.specs.declared.status.Status.TheVariants as status
-use Rattle.plan_run.specs.Sent.{Sent, nothing, TookFront}
-use Rattle.plan_run.specs.Ends.{Ends, FrontOf, Puts}
+use Rattle.run_status.specs.declared.status.Status.{Status}
+use Rattle.run_status.specs.declared.status.Status.TheVariants as status
+use Rattle.run_status.specs.Sent.{Sent, nothing, TookFront}
+use Rattle.run_status.specs.Ends.{Ends, FrontOf, Puts}
 use Rattle.plan_run.specs.Lists.{aim, end_status, Listing, MayCome, PartListing, WholeOrPart, OrPart}
 use Rattle.plan_run.specs.Reaches.{IsLeastCost, AllDear, NoPlan, IsLimit, IsEndOfNone, MayList, MayPart, OrReached}
 use Rattle.plan_run.proofs.Given.{IsGiven}
-use Rattle.plan_run.proofs.Took.{all_of, took_nothing, took_piece, took_front, front_of_last}
+use Rattle.run_status.proofs.Took.{all_of, took_nothing, took_piece, took_front, front_of_last}
 
 -- Parts of one kind are parts of another.
 fronts : (Whole Other : Status → List Bytes → Type 0) → ((result : Status) (pieces : List Bytes) → Whole result pieces → Other result pieces) → (out : Sent) → FrontOf Whole out → FrontOf Other out
@@ -44,10 +44,14 @@ module _ (Whole Other : Status → List Bytes → Type 0) (Part Rest : Sent → 
   whole_or_part status.MoreLeft out m = (also status.MoreLeft out.pieces m.0, m.1)
   whole_or_part status.Good out m = (also status.Good out.pieces m.0, m.1)
   whole_or_part status.Shown out m = (also status.Shown out.pieces m.0, m.1)
+  whole_or_part status.Proved out m = (also status.Proved out.pieces m.0, m.1)
+  whole_or_part status.Refuted out m = (also status.Refuted out.pieces m.0, m.1)
   whole_or_part status.Exhausted out m = (also status.Exhausted out.pieces m.0, m.1)
   whole_or_part status.BadList out m = (also status.BadList out.pieces m.0, m.1)
   whole_or_part status.Bounded out m = (also status.Bounded out.pieces m.0, m.1)
   whole_or_part status.Gap out m = (also status.Gap out.pieces m.0, m.1)
+  whole_or_part status.HasPlan out m = (also status.HasPlan out.pieces m.0, m.1)
+  whole_or_part status.NotShown out m = (also status.NotShown out.pieces m.0, m.1)
   whole_or_part status.Offending out m = (also status.Offending out.pieces m.0, m.1)
   whole_or_part status.Usage out m = (also status.Usage out.pieces m.0, m.1)
   whole_or_part status.TooLong out m = (also status.TooLong out.pieces m.0, m.1)

@@ -1,7 +1,4 @@
-pub mod Codes
 pub mod Listable
-pub mod Sent
-pub mod Ends
 pub mod Earlier
 pub mod Lists
 pub mod Reaches

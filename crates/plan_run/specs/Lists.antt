@@ -8,12 +8,12 @@ use Rattle.plan_out.specs.declared.end.End.{End}
 use Rattle.plan_out.specs.declared.end.End.TheVariants as end
 use Rattle.plan_out.specs.Texts.{block, end_line}
 use Rattle.plan_run.specs.Earlier.{Misses}
-use Rattle.plan_run.specs.Ends.{FrontOf}
-use Rattle.plan_run.specs.Sent.{Sent, IsWhole, IsFront}
+use Rattle.run_status.specs.Ends.{FrontOf}
+use Rattle.run_status.specs.Sent.{Sent, IsWhole, IsFront}
 use Rattle.plan_run.specs.Listable.{IsListable}
 use Rattle.plan_run.specs.declared.asking.Wanted.{Wanted}
-use Rattle.plan_run.specs.declared.status.Status.{Status}
-use Rattle.plan_run.specs.declared.status.Status.TheVariants as status
+use Rattle.run_status.specs.declared.status.Status.{Status}
+use Rattle.run_status.specs.declared.status.Status.TheVariants as status
 
 -- the blocks of the plans, numbered from i
 abbrev pub blocks_from : TaskParts → ℕ → List (List ℕ) → List Bytes

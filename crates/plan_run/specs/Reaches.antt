@@ -12,8 +12,8 @@ use Rattle.plan_run.specs.declared.reaching.Least.TheVariants.{Costs, Dear, Neve
 use Rattle.plan_run.specs.declared.asking.Wanted.{Wanted}
 use Rattle.plan_run.specs.declared.asking.Reach.{Reach}
 use Rattle.plan_run.specs.declared.asking.Reach.TheVariants.{All, UpTo, Percent}
-use Rattle.plan_run.specs.declared.status.Status.{Status}
-use Rattle.plan_run.specs.Sent.{Sent}
+use Rattle.run_status.specs.declared.status.Status.{Status}
+use Rattle.run_status.specs.Sent.{Sent}
 use Rattle.plan_run.specs.Lists.{aim, end_status, Listing, PartListing, WholeOrPart}
 
 -- 64 bits hold the greatest cost, or it is at most 100 times the least one

@@ -12,6 +12,15 @@ pub enum Direction {
     Bidirectional,
 }
 
+/// How plans are searched for, which changes no list.
+#[derive(Clone, Copy, Debug, PartialEq, Eq)]
+pub struct Search {
+    /// Which sides are settled.
+    pub direction: Direction,
+    /// Whether the stated mutex groups that are shown inductive cut the search backward.
+    pub mutex: bool,
+}
+
 /// How many plans are wanted, and whether one more is looked for after them.
 #[derive(Clone, Copy, Debug, PartialEq, Eq)]
 pub struct Wanted {

@@ -4,34 +4,34 @@ ghost use Rattle.std.specs.Prelude.{◌≡◌, ◌≢◌, ◌≤◌, ◌<◌, �
 ghost use Rattle.symk_task.specs.declared.parts.Mode.TheVariants.{TopK, Loopless};
 ghost use Rattle.task_system.specs.Computed.{system_of};
 ghost use Rattle.space_api.specs.View.{View};
-ghost use Rattle.plan_run.specs.Ends.{HasCauses, Puts};
+ghost use Rattle.run_status.specs.Ends.{HasCauses, Puts};
 ghost use Rattle.plan_run.specs.Engines.{OwesAll};
 ghost use Rattle.plan_run.specs.Earlier.{IsEarlier};
 ghost use Rattle.plan_run.specs.Lists.{OrPart, aim_after};
 
-use crate::asking::{Direction, Wanted};
+use crate::asking::{Search, Wanted};
 use crate::choice::Patient;
 use crate::earlier::Earlier;
 use crate::planning::list_plans;
-use crate::status::Status;
 use bdd_space::BddSpace;
 use loopless::LooplessPlans;
 use reconstruct::TopPlans;
+use run_status::Status;
 use selectors::{After, LazyPlans, Unordered};
 use space_api::Space;
 use std::alloc::Global;
 use symk_io::Sink;
 use symk_task::{Memory, Mode, Task};
 
-/// Lists as many plans of the task in the mode as are wanted, up to a greatest cost where there is one, found in the direction
-/// that is asked for, and after an earlier list, which is empty where none is gone on from.
+/// Lists as many plans of the task in the mode as are wanted, up to a greatest cost where there is one, searched for as is
+/// asked, and after an earlier list, which is empty where none is gone on from.
 ///
 /// Where the earlier list misses a plan, nothing is listed, and the text says what the cheapest such plan costs.
 pub fn list_found<K: Sink>(
     alloc: Global,
     task: &Task,
     mode: Mode,
-    direction: Direction,
+    search: Search,
     wanted: Wanted,
     limit: Option<u64>,
     earlier: &Earlier,
@@ -51,7 +51,7 @@ pub fn list_found<K: Sink>(
     if mode == Mode::Loopless {
         return list_loopless(alloc, task, wanted, limit, earlier, space, sink);
     }
-    let choose = Patient::of(direction);
+    let choose = Patient::of(search.direction);
     list_by(
         alloc, task, mode, wanted, limit, earlier, space, choose, sink,
     )

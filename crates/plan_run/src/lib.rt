@@ -13,16 +13,12 @@ mod asking;
 mod choice;
 mod costs;
 mod earlier;
-mod ending;
 mod engines;
 mod planning;
 mod reaching;
-mod status;
 
-pub use asking::{Direction, Reach, Wanted};
+pub use asking::{Direction, Reach, Search, Wanted};
 pub use costs::{Costs, SHOWN, costs_found};
 pub use earlier::Earlier;
-pub use ending::{end, end_with};
 pub use engines::list_found;
 pub use reaching::list_reached;
-pub use status::Status;

@@ -3,18 +3,17 @@
 ghost use Rattle.std.specs.Prelude.{◌≡◌, ◌≤◌, ◌<◌, ◌^◌, ◌⊎◌, ◌↔◌, IfSome, IfOk, IfErr, IsTrue, OnOk, OnErr};
 ghost use Rattle.symk_task.specs.Plans.{IsUnit, cost_of};
 ghost use Rattle.plan_out.specs.Texts.{block as block_text, end_line as end_text};
-ghost use Rattle.plan_run.specs.Ends.{Ends, HasCauses, Puts};
+ghost use Rattle.run_status.specs.Ends.{Ends, HasCauses, Puts};
 ghost use Rattle.plan_run.specs.Earlier.{IsEarlier};
 ghost use Rattle.plan_run.specs.Engines.{OwesRest};
-ghost use Rattle.plan_run.specs.Sent.{TookPiece, TookFront};
+ghost use Rattle.run_status.specs.Sent.{TookPiece, TookFront};
 ghost use Rattle.plan_run.specs.Listable.{IsListable};
 ghost use Rattle.plan_run.specs.Lists.{OrPart, aim_after, all_end, end_status, gap_text};
 
 use crate::asking::Wanted;
 use crate::earlier::Earlier;
-use crate::ending::{end, end_with, status_of};
-use crate::status::Status;
 use plan_out::{End, block_with_cost, end_line};
+use run_status::{Status, end, end_with, status_of};
 use selectors::{LazyPlans, Limited, Stop};
 use std::alloc::Global;
 use symk_io::{Sink, put};

@@ -2,19 +2,19 @@
 
 ghost use Rattle.std.specs.Prelude.{◌≡◌, ◌≤◌, ◌<◌, ◌^◌, IfOk, IfSome};
 ghost use Rattle.symk_task.specs.declared.parts.Mode.TheVariants.{TopK};
-ghost use Rattle.plan_run.specs.Ends.{HasCauses, Puts};
+ghost use Rattle.run_status.specs.Ends.{HasCauses, Puts};
 ghost use Rattle.plan_run.specs.Engines.{OwesAll};
 ghost use Rattle.plan_run.specs.Lists.{OrPart, aim};
 ghost use Rattle.plan_run.specs.Reaches.{OrReached, HasLeast, IsNear, share};
 
-use crate::asking::{Direction, Reach, Wanted};
+use crate::asking::{Reach, Search, Wanted};
 use crate::choice::Patient;
 use crate::earlier::Earlier;
 use crate::engines::{list_found, top_plans};
 use crate::planning::end_list;
-use crate::status::Status;
 use bdd_space::BddSpace;
 use plan_out::End;
+use run_status::Status;
 use selectors::{LazyPlans, Limited, Stop};
 use std::alloc::{AllocError, Global};
 use symk_io::Sink;
@@ -36,7 +36,7 @@ pub fn list_reached<K: Sink>(
     alloc: Global,
     task: &Task,
     mode: Mode,
-    direction: Direction,
+    search: Search,
     wanted: Wanted,
     reach: Reach,
     sink: &mut K,
@@ -48,12 +48,12 @@ pub fn list_reached<K: Sink>(
     ensures causes { HasCauses result 0 0 (K.view sink.old).faults (K.view sink.new).faults }
 {
     match reach {
-        Reach::All => list_first(alloc, task, mode, direction, wanted, None, sink),
-        Reach::UpTo(most) => list_first(alloc, task, mode, direction, wanted, Some(most), sink),
-        Reach::Percent(percent) => match least_cost(alloc, task, direction) {
+        Reach::All => list_first(alloc, task, mode, search, wanted, None, sink),
+        Reach::UpTo(most) => list_first(alloc, task, mode, search, wanted, Some(most), sink),
+        Reach::Percent(percent) => match least_cost(alloc, task, search) {
             Ok(Least::Costs(cost)) => {
                 let most = share(cost, percent);
-                list_first(alloc, task, mode, direction, wanted, Some(most), sink)
+                list_first(alloc, task, mode, search, wanted, Some(most), sink)
             }
             Ok(Least::Dear) => end_list(alloc, sink, End::CostRange),
             Ok(Least::Never) => end_list(alloc, sink, End::Exhausted { n: 0 }),
@@ -67,7 +67,7 @@ fn list_first<K: Sink>(
     alloc: Global,
     task: &Task,
     mode: Mode,
-    direction: Direction,
+    search: Search,
     wanted: Wanted,
     limit: Option<u64>,
     sink: &mut K,
@@ -79,7 +79,7 @@ fn list_first<K: Sink>(
     ensures causes { HasCauses result 0 0 (K.view sink.old).faults (K.view sink.new).faults }
 {
     let earlier = Earlier::none(alloc);
-    list_found(alloc, task, mode, direction, wanted, limit, &earlier, sink)
+    list_found(alloc, task, mode, search, wanted, limit, &earlier, sink)
 }
 
 // So many percent of a cost, the whole part, or the greatest cost, if that is less.
@@ -93,13 +93,13 @@ fn share(cost: u64, percent: u64) -> u64
 
 // What the cheapest plan of the task costs. In each mode that is what the cheapest plan of the mode costs: leaving out a circle
 // makes no plan dearer, so that a cheapest one may be taken to be loopless.
-fn least_cost(alloc: Global, task: &Task, direction: Direction) -> Result<Least, Memory>
+fn least_cost(alloc: Global, task: &Task, search: Search) -> Result<Least, Memory>
     ensures { IfOk result (HasLeast task.now) }
 {
     // A task fits, and so its system lists each useful state.
     let _ = task.parts();
     let space = BddSpace::of(alloc, task)?;
-    let plans = top_plans(alloc, task, space, Patient::of(direction), None)?;
+    let plans = top_plans(alloc, task, space, Patient::of(search.direction), None)?;
     cheapest_of(alloc, task, plans)
 }
 

@@ -11,10 +11,10 @@ use Rattle.plan_out.specs.declared.check.Checked.TheVariants as checked
 use Rattle.symk_cli.specs.declared.top.TheConstants.{USAGE}
 use Rattle.plan_run.specs.declared.asking.Reach.{Reach}
 use Rattle.plan_run.specs.declared.asking.Reach.TheVariants.{All, UpTo, Percent}
-use Rattle.plan_run.specs.declared.status.Status.{Status}
-use Rattle.plan_run.specs.declared.status.Status.TheVariants as status
-use Rattle.plan_run.specs.Sent.{Sent, nothing, IsOne}
-use Rattle.plan_run.specs.Ends.{Ends, FrontOf, AsOne, OrFront, Puts}
+use Rattle.run_status.specs.declared.status.Status.{Status}
+use Rattle.run_status.specs.declared.status.Status.TheVariants as status
+use Rattle.run_status.specs.Sent.{Sent, nothing, IsOne}
+use Rattle.run_status.specs.Ends.{Ends, FrontOf, AsOne, OrFront, Puts}
 use Rattle.symk_cli.specs.Wishes.{Ask, Further, Wish, lists, continues, checks, shows}
 use Rattle.symk_cli.specs.Refusals.{IsTaskText, FileRefused}
 use Rattle.plan_run.specs.Lists.{Aim, aim, Listing, MayCome, end_status}
@@ -24,8 +24,8 @@ use Rattle.symk_cli.specs.Plans.{IsPlansText, PlansRefused}
 use Rattle.symk_cli.specs.Goes.{AreGood, aim_from, MayGoOn, MayGoPart, OrGoesOn}
 use Rattle.symk_cli.specs.Named.{HasText, HasRead}
 use Rattle.symk_cli.specs.Answer.{Whole, Part, Answer, AreTexts, Answered, usage_text}
-use Rattle.plan_run.proofs.Took.{took_nothing}
-use Rattle.plan_run.proofs.Puts.{end_puts}
+use Rattle.run_status.proofs.Took.{took_nothing}
+use Rattle.run_status.proofs.Puts.{end_puts}
 
 -- a text, or a front of one, answers where each that may come does, as one piece
 front_answers : (wish : Option Wish) (F P : Option Bytes) (May : Status → Bytes → Type 0) → ((result : Status) (pieces : List Bytes) → AsOne May result pieces → Whole wish F P result pieces) → (result : Status) (out : Sent) → OrFront May result out → Answer wish F P result out

@@ -10,9 +10,9 @@ use Rattle.plan_out.specs.declared.blocks.ReadBlock.{ReadBlock}
 use Rattle.plan_out.specs.Plans.{IsPlansOf}
 use Rattle.symk_text.specs.Lines.{lines}
 use Rattle.symk_cli.specs.declared.TheConstants.{LIMIT}
-use Rattle.plan_run.specs.declared.status.Status.{Status}
-use Rattle.plan_run.specs.declared.status.Status.TheVariants as status
-use Rattle.plan_run.specs.Ends.{HasCauses}
+use Rattle.run_status.specs.declared.status.Status.{Status}
+use Rattle.run_status.specs.declared.status.Status.TheVariants as status
+use Rattle.run_status.specs.Ends.{HasCauses}
 use Rattle.symk_cli.specs.Wishes.{Ask, Further, Wish, lists, continues, checks, shows, wish_of}
 use Rattle.symk_cli.specs.LawfulWords.{AreLawful}
 use Rattle.symk_cli.specs.Named.{IsToldText}

@@ -16,13 +16,13 @@ use Rattle.plan_out.proofs.GoodList.{good}
 use Rattle.plan_out.proofs.Noting.{get_push}
 use Rattle.plan_run.specs.declared.asking.Wanted.{Wanted}
 use Rattle.plan_run.specs.declared.earlier.Earlier.{Earlier}
-use Rattle.plan_run.specs.declared.status.Status.{Status}
-use Rattle.plan_run.specs.declared.status.Status.TheVariants as status
-use Rattle.plan_run.specs.Sent.{Sent, nothing}
-use Rattle.plan_run.specs.Ends.{AsOne, FrontOf, OrFront, Puts}
+use Rattle.run_status.specs.declared.status.Status.{Status}
+use Rattle.run_status.specs.declared.status.Status.TheVariants as status
+use Rattle.run_status.specs.Sent.{Sent, nothing}
+use Rattle.run_status.specs.Ends.{AsOne, FrontOf, OrFront, Puts}
 use Rattle.plan_run.specs.Earlier.{IsEarlier}
 use Rattle.plan_run.specs.Lists.{OrPart, MayCome, PartListing, aim_after}
-use Rattle.plan_run.proofs.Took.{took_nothing}
+use Rattle.run_status.proofs.Took.{took_nothing}
 use Rattle.plan_run.proofs.Reached.{whole_or_part}
 use Rattle.symk_cli.specs.Goes.{AreGood, IsBad, MayGoOn, MayGoPart, OrGoesOn, aim_from, last_stated}
 

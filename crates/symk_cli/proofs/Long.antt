@@ -4,8 +4,8 @@ use Rattle.symk_io.specs.View.{Bytes, SinkView, Told}
 use Rattle.symk_task.specs.declared.parts.Mode.{Mode}
 use Rattle.symk_task.specs.declared.parts.TaskParts.{TaskParts}
 use Rattle.plan_out.specs.declared.blocks.ReadBlock.{ReadBlock}
-use Rattle.plan_run.specs.declared.status.Status.{Status}
-use Rattle.plan_run.specs.declared.status.Status.TheVariants as status
+use Rattle.run_status.specs.declared.status.Status.{Status}
+use Rattle.run_status.specs.declared.status.Status.TheVariants as status
 use Rattle.symk_cli.specs.Wishes.{Ask, Further, Wish, lists, continues, checks, shows}
 use Rattle.symk_cli.specs.Named.{IsToldText, HasText}
 use Rattle.symk_cli.specs.Refusals.{IsTaskText, IsTask, FileOffence}

@@ -6,9 +6,9 @@ use Rattle.symk_io.specs.Told.{Opened}
 use Rattle.symk_io.specs.Causes.{Rose}
 use Rattle.symk_cli.specs.declared.reading.Named.{Named}
 use Rattle.symk_cli.specs.declared.reading.Named.TheVariants.{File, Plans}
-use Rattle.plan_run.specs.declared.status.Status.{Status}
-use Rattle.plan_run.specs.declared.status.Status.TheVariants as status
-use Rattle.plan_run.specs.Ends.{HasCauses, OrFront, Puts}
+use Rattle.run_status.specs.declared.status.Status.{Status}
+use Rattle.run_status.specs.declared.status.Status.TheVariants as status
+use Rattle.run_status.specs.Ends.{HasCauses, OrFront, Puts}
 use Rattle.symk_cli.specs.Plans.{PlansRefused}
 use Rattle.symk_cli.specs.Named.{IsToldText, HasText, HasRead, StopsAt}
 use Rattle.symk_cli.specs.Opens.{Opens}

@@ -13,13 +13,13 @@ use Rattle.plan_out.specs.Refused.{PlansRefusedAt}
 use Rattle.symk_cli.specs.declared.TheConstants.{LIMIT}
 use Rattle.symk_cli.specs.declared.reading.Named.{Named}
 use Rattle.symk_cli.specs.declared.reading.Named.TheVariants as named
-use Rattle.plan_run.specs.declared.status.Status.{Status}
-use Rattle.plan_run.specs.declared.status.Status.TheVariants as status
-use Rattle.plan_run.specs.Ends.{Ends, AsOne, OrFront, Puts}
+use Rattle.run_status.specs.declared.status.Status.{Status}
+use Rattle.run_status.specs.declared.status.Status.TheVariants as status
+use Rattle.run_status.specs.Ends.{Ends, AsOne, OrFront, Puts}
 use Rattle.symk_cli.specs.Refusals.{TextRefused, FileRefused, unreadable_text, too_long_text, offence_text, plans_offence_text}
 use Rattle.symk_cli.specs.Plans.{PlansRefused}
 use Rattle.symk_cli.specs.Named.{IsToldText, HasRead}
-use Rattle.plan_run.proofs.Puts.{or_fronts, end_puts, nothing_puts, text_puts}
+use Rattle.run_status.proofs.Puts.{or_fronts, end_puts, nothing_puts, text_puts}
 
 named_some : (o : Option Bytes) (text : Bytes) → IfSome o (λ t. t ≡ text) → IsSome o → o ≡ Some text
 named_some None text is some = absurd (cc)

@@ -9,12 +9,12 @@ use Rattle.symk_cli.specs.Named.{IsToldText}
 use Rattle.symk_cli.specs.Refusals.{IsTaskText, IsTask, FileRefused}
 use Rattle.symk_cli.specs.Plans.{IsPlansText, PlansRefused, Judged}
 use Rattle.symk_cli.specs.Goes.{AreGood, aim_from}
-use Rattle.plan_run.specs.Sent.{Sent, nothing, Took, IsWhole, IsOne, IsFront}
+use Rattle.run_status.specs.Sent.{Sent, nothing, Took, IsWhole, IsOne, IsFront}
 use Rattle.plan_run.specs.Lists.{MayCome, PartListing}
 use Rattle.plan_run.specs.Reaches.{MayList, MayPart}
 use Rattle.symk_cli.specs.Shown.{IsSummary}
-use Rattle.plan_run.specs.declared.status.Status.{Status}
-use Rattle.plan_run.specs.declared.status.Status.TheVariants as status
+use Rattle.run_status.specs.declared.status.Status.{Status}
+use Rattle.run_status.specs.declared.status.Status.TheVariants as status
 
 -- what the program may be asked for
 unfoldable pub usage_text : Bytes

@@ -6,8 +6,8 @@ use Rattle.plan_out.specs.declared.blocks.ReadBlock.{ReadBlock}
 use Rattle.symk_cli.specs.Wishes.{Wish, lists, continues, checks, shows}
 use Rattle.symk_cli.specs.Refusals.{IsTaskText}
 use Rattle.symk_cli.specs.Plans.{IsPlansText}
-use Rattle.plan_run.specs.declared.status.Status.{Status}
-use Rattle.plan_run.specs.declared.status.Status.TheVariants.{Reached, MoreLeft, Bounded, Exhausted, CostRange, Gap, Good, BadList, Shown, Memory}
+use Rattle.run_status.specs.declared.status.Status.{Status}
+use Rattle.run_status.specs.declared.status.Status.TheVariants.{Reached, MoreLeft, Bounded, Exhausted, CostRange, Gap, Good, BadList, Shown, Memory}
 
 -- the text of the name is told, and is this one
 abbrev pub TellsText : Option Told → Bytes → Bytes → Type 0

@@ -8,11 +8,11 @@ use Rattle.plan_out.specs.declared.blocks.ReadBlock.{ReadBlock}
 use Rattle.plan_out.specs.declared.check.Checked.TheVariants.{Good}
 use Rattle.plan_out.specs.Fails.{Finds}
 use Rattle.plan_out.specs.Lists.{plans_of}
-use Rattle.plan_run.specs.Sent.{Sent, IsOne}
+use Rattle.run_status.specs.Sent.{Sent, IsOne}
 use Rattle.plan_run.specs.Lists.{Aim, aim_after, MayCome, PartListing, WholeOrPart}
 use Rattle.plan_run.specs.declared.asking.Wanted.{Wanted}
-use Rattle.plan_run.specs.declared.status.Status.{Status}
-use Rattle.plan_run.specs.declared.status.Status.TheVariants.{BadList}
+use Rattle.run_status.specs.declared.status.Status.{Status}
+use Rattle.run_status.specs.declared.status.Status.TheVariants.{BadList}
 use Rattle.symk_cli.specs.Verdicts.{Verdict}
 
 -- no block fails

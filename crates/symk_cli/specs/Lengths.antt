@@ -5,8 +5,8 @@ use Rattle.symk_cli.specs.Wishes.{Wish, lists, continues, checks, shows}
 use Rattle.symk_cli.specs.Named.{HasText}
 use Rattle.symk_cli.specs.Refusals.{FileOffence}
 use Rattle.symk_cli.specs.declared.TheConstants.{LIMIT}
-use Rattle.plan_run.specs.declared.status.Status.{Status}
-use Rattle.plan_run.specs.declared.status.Status.TheVariants as status
+use Rattle.run_status.specs.declared.status.Status.{Status}
+use Rattle.run_status.specs.declared.status.Status.TheVariants as status
 
 -- the text of the name has at most 268,435,456 bytes
 abbrev pub IsShort : Option Told → Bytes → Type 0

@@ -4,8 +4,8 @@ use Rattle.symk_io.specs.View.{Bytes, Tells, Grew, Told}
 use Rattle.symk_io.specs.Told.{Opened, MayOpen}
 use Rattle.symk_cli.specs.Refusals.{unreadable_text}
 use Rattle.symk_cli.specs.declared.reading.Named.{Named}
-use Rattle.plan_run.specs.declared.status.Status.{Status}
-use Rattle.plan_run.specs.declared.status.Status.TheVariants.{Unreadable}
+use Rattle.run_status.specs.declared.status.Status.{Status}
+use Rattle.run_status.specs.declared.status.Status.TheVariants.{Unreadable}
 
 -- the text is the one that is told of the name, where texts are told
 abbrev pub IsToldText : Option Told → Bytes → Bytes → Type 0

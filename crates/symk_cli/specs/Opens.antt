@@ -3,8 +3,8 @@ use Rattle.std.specs.Prelude.{◌≡◌, ℕ, ◌≤◌, ◌⊎◌, ◌++◌, Li
 use Rattle.symk_io.specs.View.{Bytes, Tells, Grew, Told}
 use Rattle.symk_cli.specs.Refusals.{unreadable_text}
 use Rattle.symk_cli.specs.declared.reading.Named.TheVariants.{File, Plans}
-use Rattle.plan_run.specs.declared.status.Status.{Status}
-use Rattle.plan_run.specs.declared.status.Status.TheVariants.{Unreadable}
+use Rattle.run_status.specs.declared.status.Status.{Status}
+use Rattle.run_status.specs.declared.status.Status.TheVariants.{Unreadable}
 
 -- the texts stay, and the first so many of these names were opened, in this order
 pub record OpensFirst (count : ℕ) (names : List Bytes) (old new : Told) : Type 0 where

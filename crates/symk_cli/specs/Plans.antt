@@ -12,8 +12,8 @@ use Rattle.symk_cli.specs.Refusals.{TextRefused, plans_offence_text}
 use Rattle.symk_cli.specs.Verdicts.{Verdict}
 use Rattle.symk_cli.specs.declared.TheConstants.{LIMIT}
 use Rattle.symk_cli.specs.declared.reading.Named.TheVariants as named
-use Rattle.plan_run.specs.declared.status.Status.{Status}
-use Rattle.plan_run.specs.declared.status.Status.TheVariants as status
+use Rattle.run_status.specs.declared.status.Status.{Status}
+use Rattle.run_status.specs.declared.status.Status.TheVariants as status
 
 -- The text is a plan text that states these blocks, of lawful length.
 pub record IsPlansText (P : Bytes) (blocks : List ReadBlock) : Type 0 where

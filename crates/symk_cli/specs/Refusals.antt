@@ -11,8 +11,8 @@ use Rattle.sas_reader.specs.Printed.{printed}
 use Rattle.symk_cli.specs.declared.TheConstants.{LIMIT}
 use Rattle.symk_cli.specs.declared.reading.Named.{Named}
 use Rattle.symk_cli.specs.declared.reading.Named.TheVariants.{File, Plans}
-use Rattle.plan_run.specs.declared.status.Status.{Status}
-use Rattle.plan_run.specs.declared.status.Status.TheVariants as status
+use Rattle.run_status.specs.declared.status.Status.{Status}
+use Rattle.run_status.specs.declared.status.Status.TheVariants as status
 
 -- The text is a file of the task, of lawful length.
 pub record IsTaskText (F : Bytes) (task : TaskParts) : Type 0 where

@@ -4,8 +4,8 @@ use Rattle.symk_io.specs.View.{Bytes}
 use Rattle.symk_task.specs.declared.parts.TaskParts.{TaskParts}
 use Rattle.task_gen.specs.Switches.{switches}
 use Rattle.plan_run.specs.Costs.{HasPlans}
-use Rattle.plan_run.specs.declared.status.Status.{Status}
-use Rattle.plan_run.specs.declared.status.Status.TheVariants.{Shown}
+use Rattle.run_status.specs.declared.status.Status.{Status}
+use Rattle.run_status.specs.declared.status.Status.TheVariants.{Shown}
 
 -- how many variables, operators and rules there are
 unfoldable pub counts_line : ℕ → ℕ → ℕ → ℕ → Bytes

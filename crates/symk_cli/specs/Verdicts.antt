@@ -9,8 +9,8 @@ use Rattle.plan_out.specs.declared.check.Why.TheVariants.{NoSuchOperator, WrongN
 use Rattle.plan_out.specs.declared.check.Checked.{Checked}
 use Rattle.plan_out.specs.declared.check.Checked.TheVariants as checked
 use Rattle.plan_out.specs.Fails.{Finds}
-use Rattle.plan_run.specs.declared.status.Status.{Status}
-use Rattle.plan_run.specs.declared.status.Status.TheVariants as status
+use Rattle.run_status.specs.declared.status.Status.{Status}
+use Rattle.run_status.specs.declared.status.Status.TheVariants as status
 
 -- why the block of this number fails
 unfoldable pub why_text : ℕ → Why → Bytes

@@ -1,12 +1,12 @@
 //! The verdict on a list of plans.
 
 ghost use Rattle.std.specs.Prelude.{◌≡◌, ◌++◌, ◌-◌, All, length, IfOk, OnOk};
-ghost use Rattle.plan_run.specs.Ends.{HasCauses, OrFront, Puts};
+ghost use Rattle.run_status.specs.Ends.{HasCauses, OrFront, Puts};
 ghost use Rattle.symk_cli.specs.Verdicts.{Verdict, verdict_text, why_text};
 
 use crate::pieces::{push_cost_after, push_number_after};
 use plan_out::{Blocks, Checked, Why, check_list};
-use plan_run::{Status, end_with};
+use run_status::{Status, end_with};
 use std::alloc::Global;
 use symk_io::Sink;
 use symk_task::{Memory, Mode, Task};

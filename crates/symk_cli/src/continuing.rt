@@ -2,12 +2,13 @@
 
 ghost use Rattle.std.specs.Prelude.{◌≡◌, ◌≤◌, ◌<◌, ◌^◌, All, length, IfOk};
 ghost use Rattle.plan_out.specs.Lists.{plans_of};
-ghost use Rattle.plan_run.specs.Ends.{HasCauses, Puts};
+ghost use Rattle.run_status.specs.Ends.{HasCauses, Puts};
 ghost use Rattle.symk_cli.specs.Goes.{OrGoesOn, last_stated};
 
 use crate::checking::bad_text;
 use plan_out::{Blocks, Checked, check_list};
-use plan_run::{Direction, Earlier, Status, Wanted, end_with, list_found};
+use plan_run::{Direction, Earlier, Wanted, list_found};
+use run_status::{Status, end_with};
 use std::alloc::Global;
 use symk_io::Sink;
 use symk_task::{List, Memory, Mode, Task};

@@ -15,7 +15,7 @@ mod request;
 mod showing;
 mod top;
 
-pub use plan_run::Status;
+pub use run_status::Status;
 use std::env;
 use std::process::ExitCode;
 use symk_io::{HostFiles, HostSink};

@@ -3,14 +3,14 @@
 ghost use Rattle.std.specs.Prelude.{◌≡◌, ◌≤◌, All, length, IfOk, IfErr, OnOk};
 ghost use Rattle.symk_io.specs.View.{Tells};
 ghost use Rattle.symk_io.specs.Told.{Opened};
-ghost use Rattle.plan_run.specs.Ends.{HasCauses, OrFront, Puts};
+ghost use Rattle.run_status.specs.Ends.{HasCauses, OrFront, Puts};
 ghost use Rattle.symk_cli.specs.Refusals.{IsTaskText, TextRefused, FileRefused, unreadable_text, too_long_text, offence_text, plans_offence_text};
 ghost use Rattle.symk_cli.specs.Plans.{IsPlansText, PlansRefused};
 ghost use Rattle.symk_cli.specs.Named.{IsToldText, HasText, HasRead, StopsAt};
 
 use crate::LIMIT;
 use plan_out::{Blocks, PlansFault, read_plans};
-use plan_run::{Status, end, end_with};
+use run_status::{Status, end, end_with};
 use sas_reader::{ReadFault, Shape, read_task};
 use std::alloc::Global;
 use symk_io::{Files, ReadStop, Sink, read_all};

@@ -2,11 +2,12 @@
 
 ghost use Rattle.std.specs.Prelude.{◌≡◌, ◌≤◌, ◌++◌, IfOk, OnOk};
 ghost use Rattle.task_gen.specs.Switches.{switches as switches_task};
-ghost use Rattle.plan_run.specs.Ends.{HasCauses, OrFront, Puts};
+ghost use Rattle.run_status.specs.Ends.{HasCauses, OrFront, Puts};
 ghost use Rattle.symk_cli.specs.Shown.{IsSummary, Summary, counts_line, costs_line, reached_line};
 
 use crate::pieces::{push_cost_after, push_number_after};
-use plan_run::{Costs, SHOWN, Status, costs_found, end_with};
+use plan_run::{Costs, SHOWN, costs_found};
+use run_status::{Status, end_with};
 use sas_reader::{ReadFault, read_task};
 use sas_writer::write_task;
 use std::alloc::{AllocError, Global};

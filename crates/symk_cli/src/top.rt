@@ -1,7 +1,7 @@
 //! The top call.
 
 ghost use Rattle.std.specs.Prelude.{◌≡◌, ◌≢◌, ◌≤◌, [], ◌∷◌, Some, None, IfOk, IsErrOf, map, string_bytes};
-ghost use Rattle.plan_run.specs.Ends.{HasCauses};
+ghost use Rattle.run_status.specs.Ends.{HasCauses};
 ghost use Rattle.plan_run.specs.Reaches.{IsNear};
 ghost use Rattle.symk_cli.specs.Wishes.{wish_of, names_of, lists, continues, checks};
 ghost use Rattle.symk_cli.specs.Requests.{wished, IsWithin};
@@ -16,7 +16,8 @@ use crate::continuing::go_on;
 use crate::reading::{plans_of, task_of};
 use crate::request::{Request, request_of};
 use crate::showing::show;
-use plan_run::{Direction, Reach, Status, Wanted, end, list_reached};
+use plan_run::{Direction, Reach, Wanted, list_reached};
+use run_status::{Status, end};
 use std::alloc::Global;
 use symk_io::{Files, NoFaultFiles, NoFaultSink, Sink};
 use symk_task::Mode;

@@ -2,7 +2,7 @@ use Rattle.std.proofs.Common.{◌≡◌, sym, subst, rules}
 use Rattle.symk_task.specs.declared.parts.Mode.{Mode}
 use Rattle.symk_task.specs.declared.parts.Mode.TheVariants.{Loopless}
 use Rattle.plan_run.specs.Earlier.{IsEarlier}
-use Rattle.plan_run.specs.Ends.{Puts}
+use Rattle.run_status.specs.Ends.{Puts}
 use Rattle.plan_run.specs.Lists.{OrPart, aim_after}
 use Rattle.plan_run.proofs.Listed.{memory_lists}
 use Rattle.plan_run.proofs.engines.list_found.Goals as goal

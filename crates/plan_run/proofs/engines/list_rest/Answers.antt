@@ -3,7 +3,7 @@ use Rattle.symk_task.specs.declared.parts.Mode.{Mode}
 use Rattle.task_system.specs.System.{System, cost_of}
 use Rattle.lazy_plans.specs.Law.{top}
 use Rattle.plan_run.specs.Earlier.{IsEarlier}
-use Rattle.plan_run.specs.Ends.{Puts}
+use Rattle.run_status.specs.Ends.{Puts}
 use Rattle.plan_run.specs.Lists.{OrPart, aim_after}
 use Rattle.plan_run.proofs.Going.{cheap_of}
 use Rattle.plan_run.proofs.Listed.{memory_lists}

@@ -3,9 +3,9 @@ use Rattle.symk_task.specs.Plans.{cost_of}
 use Rattle.lazy_plans.specs.declared.stop.Stop.TheVariants.{CostRange}
 use Rattle.plan_out.specs.declared.end.End.TheVariants as end
 use Rattle.plan_out.specs.Texts.{block, end_line}
-use Rattle.plan_run.specs.Ends.{Ends}
-use Rattle.plan_run.specs.Sent.{TookPiece, TookFront}
-use Rattle.plan_run.specs.declared.status.Status.TheVariants as status
+use Rattle.run_status.specs.Ends.{Ends}
+use Rattle.run_status.specs.Sent.{TookPiece, TookFront}
+use Rattle.run_status.specs.declared.status.Status.TheVariants as status
 use Rattle.plan_run.specs.Lists.{aim_after, all_end, asked}
 use Rattle.plan_run.proofs.Given.{held, listable_plan}
 use Rattle.plan_run.proofs.Going.{Owed, owed_plan}

@@ -1,7 +1,7 @@
 use Rattle.std.proofs.Common.{sym, subst}
 use Rattle.plan_run.specs.declared.earlier.Earlier.{Earlier}
 use Rattle.plan_run.specs.Earlier.{IsEarlier}
-use Rattle.plan_run.specs.Ends.{Puts}
+use Rattle.run_status.specs.Ends.{Puts}
 use Rattle.plan_run.specs.Lists.{OrPart, aim_after}
 use Rattle.plan_run.proofs.Going.{none_earlier}
 use Rattle.plan_run.proofs.reaching.list_first.Goals as goal

@@ -3,7 +3,7 @@ use Rattle.plan_out.specs.declared.end.End.TheVariants.{Exhausted, CostRange}
 use Rattle.plan_run.specs.declared.asking.Reach.{Reach}
 use Rattle.plan_run.specs.declared.asking.Reach.TheVariants.{All, UpTo, Percent}
 use Rattle.plan_run.specs.declared.reaching.Least.{Least}
-use Rattle.plan_run.specs.Ends.{Puts}
+use Rattle.run_status.specs.Ends.{Puts}
 use Rattle.plan_run.specs.Reaches.{OrReached, HasLeast}
 use Rattle.plan_run.proofs.Reached.{limited_lists, none_lists, memory_reaches}
 use Rattle.plan_run.proofs.reaching.list_reached.Goals as goal

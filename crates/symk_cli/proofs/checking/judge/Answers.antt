@@ -1,8 +1,8 @@
 use Rattle.std.proofs.Common.{refl}
 use Rattle.plan_out.specs.declared.check.Checked.TheVariants.{Good, Bad}
-use Rattle.plan_run.specs.declared.status.Status.TheVariants as status
+use Rattle.run_status.specs.declared.status.Status.TheVariants as status
 use Rattle.symk_cli.specs.Verdicts.{Verdict, verdict_text}
-use Rattle.plan_run.proofs.Puts.{text_puts, nothing_puts}
+use Rattle.run_status.proofs.Puts.{text_puts, nothing_puts}
 use Rattle.symk_cli.proofs.checking.judge.Goals as goal
 
 pub returns-in-Ok-Good-clause-verdict : goal.returns-in-Ok-Good-clause-verdict

@@ -1,9 +1,9 @@
 use Rattle.std.proofs.Common.{refl}
 use Rattle.plan_out.specs.declared.check.Checked.TheVariants.{Bad}
-use Rattle.plan_run.specs.declared.status.Status.TheVariants as status
+use Rattle.run_status.specs.declared.status.Status.TheVariants as status
 use Rattle.symk_cli.specs.Goes.{IsBad}
 use Rattle.symk_cli.specs.Verdicts.{verdict_text}
-use Rattle.plan_run.proofs.Puts.{text_puts}
+use Rattle.run_status.proofs.Puts.{text_puts}
 use Rattle.symk_cli.proofs.Continued.{earlier_is, list_goes, bad_goes, memory_goes}
 use Rattle.symk_cli.proofs.continuing.go_on.Goals as goal
 

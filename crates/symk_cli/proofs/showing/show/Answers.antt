@@ -1,6 +1,6 @@
-use Rattle.plan_run.specs.declared.status.Status.TheVariants.{Shown}
+use Rattle.run_status.specs.declared.status.Status.TheVariants.{Shown}
 use Rattle.symk_cli.specs.Shown.{IsSummary}
-use Rattle.plan_run.proofs.Puts.{made_puts}
+use Rattle.run_status.proofs.Puts.{made_puts}
 use Rattle.symk_cli.proofs.showing.show.Goals as goal
 
 pub returns-clause-shows : goal.returns-clause-shows

@@ -1,9 +1,9 @@
 use Rattle.std.proofs.Common.{[], ◌∷◌, ◌∙◌}
 use Rattle.symk_cli.specs.declared.reading.Named.TheVariants.{Plans}
-use Rattle.plan_run.specs.Ends.{OrFront}
+use Rattle.run_status.specs.Ends.{OrFront}
 use Rattle.symk_cli.specs.Plans.{IsPlansText}
 use Rattle.symk_cli.specs.Verdicts.{Verdict}
-use Rattle.plan_run.proofs.Puts.{puts_after}
+use Rattle.run_status.proofs.Puts.{puts_after}
 use Rattle.symk_cli.proofs.Answering.{checks_refused, plans_refused, checks_answered}
 use Rattle.symk_cli.proofs.Opening.{text_of_before, stops_after, file_stops, plans_stop, both_opened, sink_readable, plans_refused_before}
 use Rattle.symk_cli.proofs.top.check.Goals as goal

@@ -2,7 +2,7 @@ use Rattle.std.proofs.Common.{[], ◌∷◌, ◌∙◌}
 use Rattle.symk_cli.specs.declared.reading.Named.TheVariants.{Plans}
 use Rattle.symk_cli.specs.Plans.{IsPlansText}
 use Rattle.symk_cli.specs.Goes.{OrGoesOn}
-use Rattle.plan_run.proofs.Puts.{puts_after}
+use Rattle.run_status.proofs.Puts.{puts_after}
 use Rattle.symk_cli.proofs.Answering.{continues_refused, earlier_refused, continues_answered}
 use Rattle.symk_cli.proofs.Opening.{text_of_before, stops_after, file_stops, plans_stop, both_opened, sink_readable, plans_refused_before}
 use Rattle.symk_cli.proofs.top.further.Goals as goal

@@ -1,6 +1,6 @@
 use Rattle.std.proofs.Common.{[]}
 use Rattle.plan_run.specs.Reaches.{OrReached}
-use Rattle.plan_run.proofs.Puts.{puts_after}
+use Rattle.run_status.proofs.Puts.{puts_after}
 use Rattle.symk_cli.proofs.Answering.{lists_refused, lists_answered}
 use Rattle.symk_cli.proofs.Opening.{file_opened, file_stops, sink_readable}
 use Rattle.symk_cli.proofs.top.plan.Goals as goal

@@ -1,6 +1,6 @@
 use Rattle.std.proofs.Common.{refl}
-use Rattle.plan_run.proofs.Causes.{causes_of_end}
-use Rattle.plan_run.proofs.ending.end_with.Goals as goal
+use Rattle.run_status.proofs.Causes.{causes_of_end}
+use Rattle.run_status.proofs.ending.end_with.Goals as goal
 
 pub returns-in-Ok-clause-causes : goal.returns-in-Ok-clause-causes
 returns-in-Ok-clause-causes g c =

@@ -2,9 +2,9 @@
 use Rattle.std.specs.Prelude.{◌≡◌, ℕ, ◌⊎◌, List}
 use Rattle.symk_io.specs.View.{Bytes, SinkView}
 use Rattle.symk_io.specs.Causes.{Rose}
-use Rattle.plan_run.specs.Sent.{Sent, nothing, Took, TookPiece, TookFront, IsWhole, IsOne, IsFront}
-use Rattle.plan_run.specs.declared.status.Status.{Status}
-use Rattle.plan_run.specs.declared.status.Status.TheVariants.{Unreadable, WriteFault, Memory}
+use Rattle.run_status.specs.Sent.{Sent, nothing, Took, TookPiece, TookFront, IsWhole, IsOne, IsFront}
+use Rattle.run_status.specs.declared.status.Status.{Status}
+use Rattle.run_status.specs.declared.status.Status.TheVariants.{Unreadable, WriteFault, Memory}
 
 -- The whole text went out as one piece under its status, or a part of it and then the status says why.
 abbrev pub Ends : Status → Bytes → SinkView → SinkView → Status → Type 0

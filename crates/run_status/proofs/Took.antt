@@ -4,7 +4,7 @@ use Rattle.std.specs.List.{concat}
 use Rattle.std.proofs.lemmas.List.{append-nil, length-append}
 use Rattle.std.proofs.lemmas.List.Folds.{concat-append}
 use Rattle.symk_io.specs.View.{Bytes, Tells, Grew, GrewByPart, SinkView}
-use Rattle.plan_run.specs.Sent.{Sent, nothing, Took, TookPiece, TookFront, IsFront}
+use Rattle.run_status.specs.Sent.{Sent, nothing, Took, TookPiece, TookFront, IsFront}
 
 -- whole pieces
 abbrev pub all_of : List Bytes → Sent

@@ -1,7 +1,7 @@
 //! The texts that end a run.
 
 ghost use Rattle.std.specs.Prelude.{◌≡◌, MatchResult};
-ghost use Rattle.plan_run.specs.Ends.{Ends, HasCauses};
+ghost use Rattle.run_status.specs.Ends.{Ends, HasCauses};
 
 use crate::status::Status;
 use symk_io::{IoFault, Sink, put};

@@ -1,11 +1,11 @@
 -- Texts that go out as one piece, whole or in part.
 use Rattle.std.proofs.Common.{◌≡◌, refl, sym, subst, inl, inr, ◌⊎◌, List, [], ◌∷◌, take, Result, Ok, Err, MatchResult, IfOk}
 use Rattle.symk_io.specs.View.{Bytes, SinkView}
-use Rattle.plan_run.specs.Sent.{Sent, nothing, TookFront}
-use Rattle.plan_run.specs.Ends.{Ends, FrontOf, AsOne, OrFront, Puts}
-use Rattle.plan_run.specs.declared.status.Status.{Status}
-use Rattle.plan_run.specs.declared.status.Status.TheVariants.{Reached, MoreLeft, Good, Shown, Exhausted, BadList, Bounded, Gap, Offending, Usage, TooLong, Unreadable, WriteFault, CostRange, Memory}
-use Rattle.plan_run.proofs.Took.{all_of, took_nothing, took_piece, took_front, front_of_all, front_of_last}
+use Rattle.run_status.specs.Sent.{Sent, nothing, TookFront}
+use Rattle.run_status.specs.Ends.{Ends, FrontOf, AsOne, OrFront, Puts}
+use Rattle.run_status.specs.declared.status.Status.{Status}
+use Rattle.run_status.specs.declared.status.Status.TheVariants.{Reached, MoreLeft, Good, Shown, Proved, Refuted, Exhausted, BadList, Bounded, Gap, HasPlan, NotShown, Offending, Usage, TooLong, Unreadable, WriteFault, CostRange, Memory}
+use Rattle.run_status.proofs.Took.{all_of, took_nothing, took_piece, took_front, front_of_all, front_of_last}
 
 -- a text that may come with a status
 pub or_front : (May : Status → Bytes → Type 0) (status : Status) (text : Bytes) → May status text → OrFront May status (all_of (text ∷ []))
@@ -13,10 +13,14 @@ or_front May Reached text m = ((text, refl, m), refl)
 or_front May MoreLeft text m = ((text, refl, m), refl)
 or_front May Good text m = ((text, refl, m), refl)
 or_front May Shown text m = ((text, refl, m), refl)
+or_front May Proved text m = ((text, refl, m), refl)
+or_front May Refuted text m = ((text, refl, m), refl)
 or_front May Exhausted text m = ((text, refl, m), refl)
 or_front May BadList text m = ((text, refl, m), refl)
 or_front May Bounded text m = ((text, refl, m), refl)
 or_front May Gap text m = ((text, refl, m), refl)
+or_front May HasPlan text m = ((text, refl, m), refl)
+or_front May NotShown text m = ((text, refl, m), refl)
 or_front May Offending text m = ((text, refl, m), refl)
 or_front May Usage text m = ((text, refl, m), refl)
 or_front May TooLong text m = ((text, refl, m), refl)
@@ -37,10 +41,14 @@ or_fronts May Other also Reached out m = (also Reached out.pieces m.0, m.1)
 or_fronts May Other also MoreLeft out m = (also MoreLeft out.pieces m.0, m.1)
 or_fronts May Other also Good out m = (also Good out.pieces m.0, m.1)
 or_fronts May Other also Shown out m = (also Shown out.pieces m.0, m.1)
+or_fronts May Other also Proved out m = (also Proved out.pieces m.0, m.1)
+or_fronts May Other also Refuted out m = (also Refuted out.pieces m.0, m.1)
 or_fronts May Other also Exhausted out m = (also Exhausted out.pieces m.0, m.1)
 or_fronts May Other also BadList out m = (also BadList out.pieces m.0, m.1)
 or_fronts May Other also Bounded out m = (also Bounded out.pieces m.0, m.1)
 or_fronts May Other also Gap out m = (also Gap out.pieces m.0, m.1)
+or_fronts May Other also HasPlan out m = (also HasPlan out.pieces m.0, m.1)
+or_fronts May Other also NotShown out m = (also NotShown out.pieces m.0, m.1)
 or_fronts May Other also Offending out m = (also Offending out.pieces m.0, m.1)
 or_fronts May Other also Usage out m = (also Usage out.pieces m.0, m.1)
 or_fronts May Other also TooLong out m = (also TooLong out.pieces m.0, m.1)

@@ -1,7 +1,7 @@
 //! How a run ends.
 
 ghost use Rattle.std.specs.Prelude.{◌≡◌, pos};
-ghost use Rattle.plan_run.specs.Codes.{code_of};
+ghost use Rattle.run_status.specs.Codes.{code_of};
 
 /// How a run ended, which is the program's status.
 #[derive(Clone, Copy, Debug, PartialEq, Eq)]
@@ -14,6 +14,10 @@ pub enum Status {
     Good,
     /// The summary of a demonstration was written.
     Shown,
+    /// A certificate was written that no plan exists.
+    Proved,
+    /// A certificate shows that no plan exists.
+    Refuted,
     /// All plans were listed: fewer than were asked for or, where one more was looked for, no more.
     Exhausted,
     /// A block of the list fails.
@@ -23,6 +27,10 @@ pub enum Status {
     Bounded,
     /// The list that was to be gone on from misses a plan.
     Gap,
+    /// There is a plan, so that no certificate was written.
+    HasPlan,
+    /// A certificate doesn't show that no plan exists.
+    NotShown,
     /// A line of a text offends.
     Offending,
     /// The words aren't those of the usage text.
@@ -47,10 +55,13 @@ impl Status {
     {
         match self {
             Status::Reached | Status::MoreLeft | Status::Good | Status::Shown => 0,
+            Status::Proved | Status::Refuted => 0,
             Status::Exhausted => 10,
             Status::BadList => 11,
             Status::Bounded => 13,
             Status::Gap => 14,
+            Status::HasPlan => 15,
+            Status::NotShown => 16,
             Status::Offending => 20,
             Status::Usage => 21,
             Status::TooLong => 22,

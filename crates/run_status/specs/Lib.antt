@@ -1,0 +1,3 @@
+pub mod Codes
+pub mod Sent
+pub mod Ends

@@ -43,10 +43,13 @@ unfoldable pub no_plan_text : Bytes
 no_plan_text = codes "no plan\n"
 
 -- the part of being inductive that fails
+unfoldable pub part_text : CertPart → Bytes
+part_text Initial = codes "initial state"
+part_text (Step op) = codes "operator " ++ decimal op
+part_text Goal = codes "goal"
+
 unfoldable pub not_shown_text : CertPart → Bytes
-not_shown_text Initial = codes "not shown: initial state\n"
-not_shown_text (Step op) = codes "not shown: operator " ++ decimal op ++ codes "\n"
-not_shown_text Goal = codes "not shown: goal\n"
+not_shown_text part = codes "not shown: " ++ part_text part ++ codes "\n"
 
 -- the line that offends
 unfoldable pub cert_offence_text : ℕ → Bytes

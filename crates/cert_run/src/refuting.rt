@@ -1,8 +1,8 @@
 //! A certificate is checked, and what it shows is put.
 
-ghost use Rattle.std.specs.Prelude.{◌≡◌, IfOk};
+ghost use Rattle.std.specs.Prelude.{◌≡◌, ◌++◌, IfOk, OnOk};
 ghost use Rattle.run_status.specs.Ends.{HasCauses, OrFront, Puts};
-ghost use Rattle.cert_run.specs.Proofs.{IsUnsolvable, Refutes, cert_offence_text, no_plan_text, not_shown_text};
+ghost use Rattle.cert_run.specs.Proofs.{IsUnsolvable, Refutes, cert_offence_text, no_plan_text, not_shown_text, part_text};
 
 use cert_check::{CertFault, CertPart, CertVerdict, check_cert};
 use run_status::{Status, end, end_with};
@@ -44,16 +44,24 @@ fn not_shown(alloc: Global, part: CertPart) -> Result<Text, Memory>
     ensures { IfOk result (λ text. text ≡ not_shown_text part) }
 {
     let mut text = Text::new(alloc);
-    match part {
-        CertPart::Initial => push_bytes(&mut text, b"not shown: initial state\n")?,
-        CertPart::Step { op } => {
-            push_bytes(&mut text, b"not shown: operator ")?;
-            push_number(&mut text, u64::from(op))?;
-            push_bytes(&mut text, b"\n")?;
-        }
-        CertPart::Goal => push_bytes(&mut text, b"not shown: goal\n")?,
-    }
+    push_bytes(&mut text, b"not shown: ")?;
+    push_part(&mut text, part)?;
+    push_bytes(&mut text, b"\n")?;
     Ok(text)
+}
+
+#[tactic(auto, unfolding(crate::specs::Proofs::part_text))]
+fn push_part(text: &mut Text, part: CertPart) -> Result<(), Memory>
+    ensures { OnOk result (text.new ≡ text.old ++ part_text part) }
+{
+    match part {
+        CertPart::Initial => push_bytes(text, b"initial state"),
+        CertPart::Step { op } => {
+            push_bytes(text, b"operator ")?;
+            push_number(text, u64::from(op))
+        }
+        CertPart::Goal => push_bytes(text, b"goal"),
+    }
 }
 
 // `cert line N`

@@ -1,24 +1,24 @@
 -- The children by one operator after the other.
-use Rattle.std.proofs.Common.{◌≡◌, ℕ, zero, suc, ◌+◌, ◌<◌, ◌≤◌, List, [], ◌∷◌, ◌++◌, take, get_or, length, Option, Some, None, MatchOption, refl, sym, ◌∙◌, ap, subst, arith}
+use Rattle.std.proofs.Common.{◌≡◌, ℕ, zero, suc, ◌+◌, ◌<◌, ◌≤◌, List, [], ◌∷◌, ◌++◌, take, get_or, length, Option, Some, None, MatchOption, sym, ◌∙◌, ap, subst, arith}
 use Rattle.std.specs.List.{AllByRecursion}
 use Rattle.std.proofs.lemmas.List.{take_more, take_all}
 use Rattle.task_system.specs.System.{State, System, Leads}
-use Rattle.space_api.specs.View.{View, Valid, Has}
-use Rattle.space_api.specs.Frames.{Kept, Stays}
+use Rattle.space_api.specs.View.{View, Valid}
+use Rattle.space_api.specs.Frames.{Kept}
 use Rattle.space_api.proofs.Keeping.{kept_trans}
 use Rattle.cost_layers.specs.Layers.{rings_at, whole_at, Held}
 use Rattle.cost_layers.specs.declared.layers.Layers.{Layers}
 use Rattle.cost_layers.proofs.Holding.{whole_valid}
 use Rattle.entry_laws.specs.Entries.{Plain}
-use Rattle.entry_laws.specs.Growing.{Added, Sofar, Gathered, IsOrder}
+use Rattle.entry_laws.specs.Growing.{Added, Sofar, IsOrder}
 use Rattle.entry_laws.proofs.Adding.{sofar_none, sofar_more, gathered}
-use Rattle.entry_turns.specs.Entries.{set_in, plain, plains, EntryOk, Makes, member_in, Ready}
+use Rattle.entry_turns.specs.Entries.{set_in, plain, plains, EntryOk, member_in, Ready}
 use Rattle.entry_turns.specs.Ways.{Joins, IsWay, IsWayTo, side_for}
-use Rattle.entry_turns.specs.Grown.{MakesOn, AddsChild, Gathers}
+use Rattle.entry_turns.specs.Grown.{AddsChild, Gathers}
 use Rattle.entry_turns.specs.declared.entries.Entry.{Entry}
 use Rattle.entry_turns.specs.declared.entries.Entry.TheVariants.{Before, After}
 use Rattle.entry_turns.specs.declared.ways.Way.{Way}
-use Rattle.entry_turns.proofs.Sets.{all_split, all_kept, ok_kept, ok_valid}
+use Rattle.entry_turns.proofs.Sets.{all_split, all_kept, ok_valid}
 use Rattle.entry_turns.proofs.Kept.{member_kept, plain_kept, plains_kept, ready_kept}
 
 -- the operator at a place is one

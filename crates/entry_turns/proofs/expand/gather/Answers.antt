@@ -1,4 +1,4 @@
-use Rattle.std.proofs.Common.{ℕ, ◌<◌, List, get_or, arith, refl, ◌∙◌, sym, subst, ◌++◌}
+use Rattle.std.proofs.Common.{ℕ, ◌<◌, List, get_or, arith, refl, sym, subst, ◌++◌}
 use Rattle.std.specs.List.{Contains}
 use Rattle.std.proofs.lemmas.List.{get_or_default}
 use Rattle.std.specs.List.Sorted.{IsStrictlyIncreasing}
@@ -6,7 +6,7 @@ use Rattle.task_system.specs.System.{System}
 use Rattle.space_api.proofs.Trading.{valid_clash}
 use Rattle.cost_layers.specs.Layers.{rings_at, whole_at}
 use Rattle.cost_layers.proofs.Holding.{holds_kept}
-use Rattle.space_api.proofs.Keeping.{kept_refl, kept_trans, stays_refl}
+use Rattle.space_api.proofs.Keeping.{kept_refl, kept_trans}
 use Rattle.entry_turns.proofs.Sets.{makes_stays, ok_valid, ok_kept}
 use Rattle.entry_turns.proofs.Leading.{leading_rises, not_leading}
 use Rattle.entry_turns.proofs.Adding.{none_added}

@@ -1,2 +1,1 @@
-pub mod Reaching
-pub mod Rounds
+pub mod Goal

@@ -3,20 +3,16 @@
 //! The words name a space and a task file (SAS, version 3): `explicit FILE` or `diagrams FILE`. The output says how many rounds
 //! found a state, which is how many operators it takes at most to reach one, and whether a goal state is reached; standard
 //! error says the time and how much the space holds. `bench/images.sh` runs it beside a program on BuDDy that does the same.
-//! The search is written over any `Space`, and its answer is exact: the states to which runs of operators lead from the initial
-//! state, in a new set (`reach`). It stands on `space_api`, on the spaces, and for the file on `symk_io` and `sas_reader`.
+//! What it says is exact, over any `Space`. It stands on `reached_states` for the search, on the spaces, and for the file on
+//! `symk_io` and `sas_reader`.
 #![tactic(auto)]
 
 mod exploring;
-mod images;
-mod reaching;
 mod reading;
-mod rounds;
 
 use bdd_space::BddSpace;
 use explicit_space::ExplicitSpace;
 use exploring::explore;
-pub use reaching::{Reached, reach};
 use reading::task_of;
 use space_api::Space;
 use std::time::Instant;

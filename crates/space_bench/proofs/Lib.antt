@@ -1,4 +1,0 @@
-pub mod Imaging
-pub mod Steps
-pub mod Rounding
-pub mod Searching

@@ -1,5 +1,5 @@
 -- A space whose one set is that to which a search backward is kept.
-use Rattle.std.proofs.Common.{◌≡◌, IsFalse, Some, inl, inr, subst}
+use Rattle.std.proofs.Common.{IsFalse, Some, inl, inr, subst}
 use Rattle.symk_task.specs.declared.parts.TaskParts.{TaskParts}
 use Rattle.task_system.specs.System.{State, System}
 use Rattle.run_graph.specs.Reached.{Useful}

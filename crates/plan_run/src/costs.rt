@@ -78,8 +78,6 @@ pub fn costs_found(alloc: Global, task: &Task) -> Result<Costs, Memory>
     requires { HasMore task.now 20 }
     ensures { IfOk result (λ costs. HasPlans task.now costs.cheapest costs.dearest costs.total) }
 {
-    // A task fits, and so its system lists each useful state.
-    let _ = task.parts();
     let space = BddSpace::of(alloc, task)?;
     let plans = top_plans(alloc, task, UNASKED, space, None)?;
     costs_of(alloc, task, plans)

@@ -96,8 +96,6 @@ fn share(cost: u64, percent: u64) -> u64
 fn least_cost(alloc: Global, task: &Task, search: Search) -> Result<Least, Memory>
     ensures { IfOk result (HasLeast task.now) }
 {
-    // A task fits, and so its system lists each useful state.
-    let _ = task.parts();
     let space = BddSpace::of(alloc, task)?;
     let plans = top_plans(alloc, task, search, space, None)?;
     cheapest_of(alloc, task, plans)

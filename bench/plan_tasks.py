@@ -15,7 +15,7 @@ switches N       N switches, each of which one operator turns over, and a rule t
 import random
 import sys
 
-from image_tasks import gripper, operator, psr, switches, task, variable
+from image_tasks import gripper, group, operator, psr, switches, task, variable
 
 
 def neighbours(width, height):
@@ -36,7 +36,7 @@ def hanoi(discs):
 
 
 def board(width, height, moves):
-    """The cell of each tile, and last that of the blank."""
+    """The cell of each tile, and last that of the blank. In each cell there is one of them."""
     near, draw = neighbours(width, height), random.Random(0)
     cells = list(near)
     number, blank = {cell: i for i, cell in enumerate(cells)}, cells[-1]
@@ -55,7 +55,8 @@ def board(width, height, moves):
                  [((), i, number[a], number[b]), ((), tiles, number[b], number[a])])
         for i in range(tiles) for a in cells for b in near[a]
     ]
-    return task(variables, initial, [(i, i) for i in range(tiles)], operators, [])
+    groups = [group([(i, at) for i in range(tiles + 1)]) for at in range(len(cells))]
+    return task(variables, initial, [(i, i) for i in range(tiles)], operators, [], groups)
 
 
 def towers(count, draw):
@@ -69,7 +70,10 @@ def towers(count, draw):
 
 
 def blocks(count):
-    """Whether the hand is full, where each block is, and whether each is clear. Place 0 is the table, 1 the hand."""
+    """Whether the hand is full, where each block is, and whether each is clear. Place 0 is the table, 1 the hand.
+
+    The hand is empty or holds one block. A block is clear, or it is in the hand, or one block stands on it.
+    """
     draw = random.Random(0)
     first, wanted = towers(count, draw), towers(count, draw)
     hand, place, clear = 0, range(1, count + 1), range(count + 1, 2 * count + 1)
@@ -89,11 +93,17 @@ def blocks(count):
             if c != b:
                 operators.append(operator(f"stack {b} {c}", [], [*lay, ((), place[b], 1, on(b, c)), ((), clear[c], 1, 0)]))
                 operators.append(operator(f"unstack {b} {c}", [], [*lift, ((), place[b], on(b, c), 1), ((), clear[c], -1, 1)]))
-    return task(variables, initial, [(place[b], on(b, c)) for b, c in wanted.items() if c is not None], operators, [])
+    groups = [group([(hand, 0), *[(place[b], 1) for b in range(count)]])]
+    groups += [group([(clear[c], 1), (place[c], 1), *[(place[b], on(b, c)) for b in range(count) if b != c]]) for c in range(count)]
+    goal = [(place[b], on(b, c)) for b, c in wanted.items() if c is not None]
+    return task(variables, initial, goal, operators, [], groups)
 
 
 def logistics(cities, places, packages):
-    """Where each truck, the plane and each package is. The first place of a city has the airport."""
+    """Where each truck, the plane and each package is. The first place of a city has the airport.
+
+    Each of them is at one place: the groups are the variables themselves.
+    """
     draw = random.Random(0)
     sites = [(c, p) for c in range(cities) for p in range(places)]
     plane, package = cities, range(cities + 1, cities + 1 + packages)
@@ -115,7 +125,9 @@ def logistics(cities, places, packages):
             for name, where, inside in rides:
                 operators.append(operator(f"load {i} {name} {names[at]}", [where], [((), var, at, inside)]))
                 operators.append(operator(f"unload {i} {name} {names[at]}", [where], [((), var, inside, at)]))
-    return task(variables, initial, goal, operators, [])
+    sizes = [places] * cities + [cities] + [len(names)] * packages
+    groups = [group([(var, val) for val in range(size)]) for var, size in enumerate(sizes)]
+    return task(variables, initial, goal, operators, [], groups)
 
 
 def visitall(width, height):

@@ -137,7 +137,19 @@ fn least_at<S: Space>(
     }
 }
 
-/// The least cost from `low` on and below `high` at which layers of both sides meet; `high` where there is none.
+/// The greatest cost of an operator, 0 where there is none.
+fn dearest<S: Space>(space: &S) -> u64
+    ensures { (op : ℕ) → op < (S.view space.now).system.operators → (S.view space.now).system.cost op ≤ result }
+{
+    let mut most = 0;
+    'costs: for i in 0..space.costs() {
+        most = most.max(space.cost_at(i));
+    }
+    most
+}
+
+/// The least cost from `low` on and below `high` at which layers of both sides meet; `high` where there is none. An operator crosses
+/// into no layer that even the dearest one leaves below `b`.
 pub(crate) fn least_cross<S: Space>(
     space: &mut S,
     front: &Layers<S::Set>,
@@ -153,7 +165,7 @@ pub(crate) fn least_cross<S: Space>(
     ensures ok { IfOk result (IsLeastOf (CrossIn (S.view space.old).system (Stands (S.view space.old) front.now) (Stands (S.view space.old) back.now) b) low high) }
 {
     let mut least = high;
-    let mut next = cost_from(back, 0);
+    let mut next = cost_from(back, b.saturating_sub(dearest(space) as u128));
     'costs: while let Some(z) = next {
         least = least_at(space, front, back, b, z, low, least)?;
         next = cost_after(back, z);

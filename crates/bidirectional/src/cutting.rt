@@ -9,6 +9,7 @@ ghost use Rattle.cost_layers.specs.Layers.{whole_at, Held, Stands};
 ghost use Rattle.bidirectional.specs.Cutting.{LeadsInto, CutsBy, CutsInto, IsFirstOp, IsFirstCut, HasEach};
 
 use crate::crossing::{cost_from, layer_meets};
+use crate::landing::landing;
 use cost_layers::Layers;
 use cost_search::cost_after;
 use space_api::{Space, SpaceFault};
@@ -54,7 +55,7 @@ fn layer_leads<S: Space>(
 }
 
 /// The cost before an operator of cost `w`, where what is left is `z`; None where the sums are not those of a cut.
-fn cost_before(cost: u64, b: u128, w: u64, z: u64) -> Option<u64>
+pub(crate) fn cost_before(cost: u64, b: u128, w: u64, z: u64) -> Option<u64>
     ensures { MatchOption result ((x : ℕ) → x + w + z ≡ cost → b ≤ z + w → ⊥) (λ x. (x + w + z ≡ cost) × (b ≤ z + w)) }
 {
     let part = w as u128 + z as u128;
@@ -139,7 +140,7 @@ fn op_cuts<S: Space>(
 }
 
 /// The first operator from this one on that crosses into the set at this cost; none is tried that leads into no state of it.
-fn first_op<S: Space>(
+fn first_among<S: Space>(
     alloc: Global,
     space: &mut S,
     front: &Layers<S::Set>,
@@ -162,6 +163,51 @@ fn first_op<S: Space>(
         }
     }
     Ok(None)
+}
+
+/// The same; no operator is asked for where the set has no state.
+fn first_landed<S: Space>(
+    alloc: Global,
+    space: &mut S,
+    front: &Layers<S::Set>,
+    cost: u64,
+    b: u128,
+    z: u64,
+    from: u64,
+    to: S::Set,
+) -> Result<Option<u32>, SpaceFault>
+    requires front { Held (S.view space.old) front.now }
+    requires to { Valid (S.view space.old) to }
+    ensures stays { Stays (S.view space.old) (S.view space.new) }
+    ensures ok { IfOk result (IsFirstOp (S.view space.old).system (Stands (S.view space.old) front.now) (Has (S.view space.old) to) cost b z from) }
+{
+    if space.is_empty(to) {
+        return Ok(None);
+    }
+    first_among(alloc, space, front, cost, b, z, from, to)
+}
+
+/// The first operator from this one on that crosses into the set at this cost. It is looked for among those that lead into the
+/// states of the set into which some operator crosses, which are few.
+fn first_op<S: Space>(
+    alloc: Global,
+    space: &mut S,
+    front: &Layers<S::Set>,
+    cost: u64,
+    b: u128,
+    z: u64,
+    from: u64,
+    to: S::Set,
+) -> Result<Option<u32>, SpaceFault>
+    requires front { Held (S.view space.old) front.now }
+    requires to { Valid (S.view space.old) to }
+    ensures stays { Stays (S.view space.old) (S.view space.new) }
+    ensures ok { IfOk result (IsFirstOp (S.view space.old).system (Stands (S.view space.old) front.now) (Has (S.view space.old) to) cost b z from) }
+{
+    let landed = landing(space, front, cost, b, z, to)?;
+    let first = first_landed(alloc, space, front, cost, b, z, from, landed);
+    space.forget(landed);
+    first
 }
 
 /// The same, into the backward layer of this cost.

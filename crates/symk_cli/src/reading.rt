@@ -22,6 +22,7 @@ use symk_text::{Text, push_bytes, push_number};
 pub enum Named {
     File,
     Plans,
+    Cert,
 }
 
 impl Named {
@@ -32,6 +33,7 @@ impl Named {
         match self {
             Named::File => b"file unreadable\n",
             Named::Plans => b"plans unreadable\n",
+            Named::Cert => b"cert unreadable\n",
         }
     }
 
@@ -42,6 +44,7 @@ impl Named {
         match self {
             Named::File => b"file too long\n",
             Named::Plans => b"plans too long\n",
+            Named::Cert => b"cert too long\n",
         }
     }
 }

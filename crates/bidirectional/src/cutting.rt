@@ -46,7 +46,8 @@ fn layer_leads<S: Space>(
     requires to { Valid (S.view space.old) to }
     requires op { op < (S.view space.old).system.operators }
     ensures stays { Stays (S.view space.old) (S.view space.new) }
-    ensures ok { IfOk result (λ r. IsTrue r ↔ LeadsInto (S.view space.old).system (Stands (S.view space.old) front.now) (Has (S.view space.old) to) x op) }
+    ensures ok { IfOk result (λ r. IsTrue r ↔ LeadsInto (S.view space.old).system
+        (Stands (S.view space.old) front.now) (Has (S.view space.old) to) x op) }
 {
     match front.layer(x) {
         Some(whole) => Ok(leads_into(space, whole, op, to)?),
@@ -78,7 +79,9 @@ fn cost_meets<S: Space>(
     requires front { Held (S.view space.old) front.now }
     requires to { Valid (S.view space.old) to }
     ensures stays { Stays (S.view space.old) (S.view space.new) }
-    ensures ok { IfOk result (λ r. (op : ℕ) → (S.view space.old).system.cost op ≡ w → CutsBy (S.view space.old).system (Stands (S.view space.old) front.now) (Has (S.view space.old) to) cost b z op → IsTrue r) }
+    ensures ok { IfOk result (λ r. (op : ℕ) → (S.view space.old).system.cost op ≡ w
+        → CutsBy (S.view space.old).system (Stands (S.view space.old) front.now) (Has (S.view space.old) to)
+        cost b z op → IsTrue r) }
 {
     match cost_before(cost, b, w, z) {
         Some(x) => layer_meets(space, front, x, w, to),
@@ -99,7 +102,8 @@ fn meeting_costs<S: Space>(
     requires front { Held (S.view space.old) front.now }
     requires to { Valid (S.view space.old) to }
     ensures stays { Stays (S.view space.old) (S.view space.new) }
-    ensures ok { IfOk result (λ costs. HasEach (S.view space.old).system (Stands (S.view space.old) front.now) (Has (S.view space.old) to) cost b z costs.items) }
+    ensures ok { IfOk result (λ costs. HasEach (S.view space.old).system (Stands (S.view space.old) front.now)
+        (Has (S.view space.old) to) cost b z costs.items) }
 {
     let mut costs = Vec::new(alloc);
     'costs: for i in 0..space.costs() {
@@ -125,9 +129,11 @@ fn op_cuts<S: Space>(
     requires front { Held (S.view space.old) front.now }
     requires to { Valid (S.view space.old) to }
     requires op { op < (S.view space.old).system.operators }
-    requires costs { HasEach (S.view space.old).system (Stands (S.view space.old) front.now) (Has (S.view space.old) to) cost b z costs.now }
+    requires costs { HasEach (S.view space.old).system (Stands (S.view space.old) front.now)
+        (Has (S.view space.old) to) cost b z costs.now }
     ensures stays { Stays (S.view space.old) (S.view space.new) }
-    ensures ok { IfOk result (λ r. IsTrue r ↔ CutsBy (S.view space.old).system (Stands (S.view space.old) front.now) (Has (S.view space.old) to) cost b z op) }
+    ensures ok { IfOk result (λ r. IsTrue r ↔ CutsBy (S.view space.old).system
+        (Stands (S.view space.old) front.now) (Has (S.view space.old) to) cost b z op) }
 {
     let w = space.cost_of(op);
     if !costs.contains(&w) {
@@ -153,7 +159,8 @@ fn first_among<S: Space>(
     requires front { Held (S.view space.old) front.now }
     requires to { Valid (S.view space.old) to }
     ensures stays { Stays (S.view space.old) (S.view space.new) }
-    ensures ok { IfOk result (IsFirstOp (S.view space.old).system (Stands (S.view space.old) front.now) (Has (S.view space.old) to) cost b z from) }
+    ensures ok { IfOk result (IsFirstOp (S.view space.old).system (Stands (S.view space.old) front.now)
+        (Has (S.view space.old) to) cost b z from) }
 {
     let costs = meeting_costs(alloc, space, front, cost, b, z, to)?;
     let ops = space.operators_into(alloc, to)?;
@@ -179,7 +186,8 @@ fn first_landed<S: Space>(
     requires front { Held (S.view space.old) front.now }
     requires to { Valid (S.view space.old) to }
     ensures stays { Stays (S.view space.old) (S.view space.new) }
-    ensures ok { IfOk result (IsFirstOp (S.view space.old).system (Stands (S.view space.old) front.now) (Has (S.view space.old) to) cost b z from) }
+    ensures ok { IfOk result (IsFirstOp (S.view space.old).system (Stands (S.view space.old) front.now)
+        (Has (S.view space.old) to) cost b z from) }
 {
     if space.is_empty(to) {
         return Ok(None);
@@ -202,7 +210,8 @@ fn first_op<S: Space>(
     requires front { Held (S.view space.old) front.now }
     requires to { Valid (S.view space.old) to }
     ensures stays { Stays (S.view space.old) (S.view space.new) }
-    ensures ok { IfOk result (IsFirstOp (S.view space.old).system (Stands (S.view space.old) front.now) (Has (S.view space.old) to) cost b z from) }
+    ensures ok { IfOk result (IsFirstOp (S.view space.old).system (Stands (S.view space.old) front.now)
+        (Has (S.view space.old) to) cost b z from) }
 {
     let landed = landing(space, front, cost, b, z, to)?;
     let first = first_landed(alloc, space, front, cost, b, z, from, landed);
@@ -224,7 +233,8 @@ fn first_into<S: Space>(
     requires front { Held (S.view space.old) front.now }
     requires back { Held (S.view space.old) back.now }
     ensures stays { Stays (S.view space.old) (S.view space.new) }
-    ensures ok { IfOk result (IsFirstOp (S.view space.old).system (Stands (S.view space.old) front.now) (InLayer (Stands (S.view space.old) back.now) z) cost b z from) }
+    ensures ok { IfOk result (IsFirstOp (S.view space.old).system (Stands (S.view space.old) front.now)
+        (InLayer (Stands (S.view space.old) back.now) z) cost b z from) }
 {
     match back.layer(z) {
         Some(whole) => first_op(alloc, space, front, cost, b, z, from, whole),
@@ -253,7 +263,8 @@ pub(crate) fn first_cross<S: Space>(
     requires front { Held (S.view space.old) front.now }
     requires back { Held (S.view space.old) back.now }
     ensures stays { Stays (S.view space.old) (S.view space.new) }
-    ensures ok { IfOk result (IsFirstCut (S.view space.old).system (Stands (S.view space.old) front.now) (Stands (S.view space.old) back.now) cost b first from) }
+    ensures ok { IfOk result (IsFirstCut (S.view space.old).system (Stands (S.view space.old) front.now)
+        (Stands (S.view space.old) back.now) cost b first from) }
 {
     let mut next = cost_from(back, first as u128);
     'costs: while let Some(z) = next {

@@ -31,7 +31,8 @@ fn land_from<S: Space>(
     requires to { Valid (S.view space.old) to }
     requires landed { Valid (S.view space.old) landed }
     ensures kept { Kept (S.view space.old) (S.view space.new) }
-    ensures ok { IfOk result (Gives (S.view space.old) (S.view space.new) (λ s. Has (S.view space.old) landed s ⊎ AlongIn (ahead (S.view space.old).system) (S.view space.old) w from to s)) }
+    ensures ok { IfOk result (Gives (S.view space.old) (S.view space.new) (λ s. Has (S.view space.old) landed
+        s ⊎ AlongIn (ahead (S.view space.old).system) (S.view space.old) w from to s)) }
     ensures err { OnErr result (NoMore (S.view space.old) (S.view space.new)) }
 {
     let before = space.pre_cost(w, to, from)?;
@@ -51,7 +52,8 @@ fn add_from<S: Space>(
     requires from { Valid (S.view space.old) from }
     requires to { Valid (S.view space.old) to }
     requires landed { Valid (S.view space.old) landed }
-    ensures ok { IfOk result (Joins (S.view space.old) (S.view space.new) landed (AlongIn (ahead (S.view space.old).system) (S.view space.old) w from to)) }
+    ensures ok { IfOk result (Joins (S.view space.old) (S.view space.new) landed
+        (AlongIn (ahead (S.view space.old).system) (S.view space.old) w from to)) }
     ensures err { OnErr result (Trades (S.view space.old) (S.view space.new) (λ a. a ≡ landed) (λ a. ⊥)) }
 {
     let more = land_from(space, from, w, to, landed);
@@ -73,7 +75,9 @@ fn add_landing<S: Space>(
     requires front { Held (S.view space.old) front.now }
     requires to { Valid (S.view space.old) to }
     requires landed { Valid (S.view space.old) landed }
-    ensures ok { IfOk result (Joins (S.view space.old) (S.view space.new) landed (LandsBy (S.view space.old).system (Stands (S.view space.old) front.now) (Has (S.view space.old) to) cost b z w)) }
+    ensures ok { IfOk result (Joins (S.view space.old) (S.view space.new) landed
+        (LandsBy (S.view space.old).system (Stands (S.view space.old) front.now) (Has (S.view space.old) to)
+        cost b z w)) }
     ensures err { OnErr result (Trades (S.view space.old) (S.view space.new) (λ a. a ≡ landed) (λ a. ⊥)) }
 {
     match cost_before(cost, b, w, z) {
@@ -97,7 +101,8 @@ pub(crate) fn landing<S: Space>(
     requires front { Held (S.view space.old) front.now }
     requires to { Valid (S.view space.old) to }
     ensures kept { Kept (S.view space.old) (S.view space.new) }
-    ensures ok { IfOk result (Gives (S.view space.old) (S.view space.new) (Lands (S.view space.old).system (Stands (S.view space.old) front.now) (Has (S.view space.old) to) cost b z)) }
+    ensures ok { IfOk result (Gives (S.view space.old) (S.view space.new) (Lands (S.view space.old).system
+        (Stands (S.view space.old) front.now) (Has (S.view space.old) to) cost b z)) }
     ensures err { OnErr result (NoMore (S.view space.old) (S.view space.new)) }
 {
     let mut landed = space.empty()?;

@@ -32,8 +32,10 @@ fn gather<S: Space>(
     requires order { IsOrder (S.view space.old).system.operators order.now }
     requires level { children.old.level.items ≡ [] }
     requires falling { children.old.falling.items ≡ [] }
-    ensures makes { Makes (S.view space.old) (S.view space.new) (children.new.level.items ++ children.new.falling.items) }
-    ensures ok { OnOk result (Gathers (S.view space.old) (S.view space.new) front.now back.now entry.now children.new.level.items children.new.falling.items) }
+    ensures makes { Makes (S.view space.old) (S.view space.new)
+        (children.new.level.items ++ children.new.falling.items) }
+    ensures ok { OnOk result (Gathers (S.view space.old) (S.view space.new) front.now back.now entry.now
+        children.new.level.items children.new.falling.items) }
 {
     let ops = leading(alloc, space, entry)?;
     'operators: for op in order {
@@ -54,7 +56,8 @@ fn join<S: Space>(
     requires { (u : View S.Set) × Makes u (S.view space.old) (children.level.items ++ children.falling.items) }
     ensures ok { IfOk result (λ es. es.items ≡ children.level.items ++ children.falling.items) }
     ensures stays { IfOk result (λ es. S.view space.new ≡ S.view space.old) }
-    ensures back { OnErr result ((u : View S.Set) → Makes u (S.view space.old) (children.level.items ++ children.falling.items) → Stays u (S.view space.new)) }
+    ensures back { OnErr result ((u : View S.Set) → Makes u (S.view space.old)
+        (children.level.items ++ children.falling.items) → Stays u (S.view space.new)) }
 {
     let mut children = children;
     match children.level.append(&mut children.falling) {
@@ -79,7 +82,8 @@ pub(crate) fn expand<S: Space>(
     requires back { Held (S.view space.old) back.now }
     requires entry { EntryOk (S.view space.old) entry.now }
     requires order { IsOrder (S.view space.old).system.operators order.now }
-    ensures ok { IfOk result (λ es. Expands (S.view space.old) (S.view space.new) front.now back.now entry.now es.items) }
+    ensures ok { IfOk result (λ es. Expands (S.view space.old) (S.view space.new) front.now back.now entry.now
+        es.items) }
     ensures err { OnErr result (Stays (S.view space.old) (S.view space.new)) }
 {
     let mut children = Children::new(alloc);

@@ -48,7 +48,8 @@ pub fn top_plans<S: Space + Drop>(
     requires task { (S.view space).task ≡ task.now }
     requires system { (S.view space).system ≡ system_of task.now }
     requires none { (a : S.Set) → IsFalse ((S.view space).valid a) }
-    ensures { IfOk result (OwesAll ⟦<TopPlans<S, Patient> as LazyPlans>⟧.system ⟦<TopPlans<S, Patient> as LazyPlans>⟧.mode
+    ensures { IfOk result (OwesAll ⟦<TopPlans<S, Patient> as LazyPlans>⟧.system
+        ⟦<TopPlans<S, Patient> as LazyPlans>⟧.mode
         ⟦<TopPlans<S, Patient> as LazyPlans>⟧.most ⟦<TopPlans<S, Patient> as LazyPlans>⟧.pends
         ⟦<TopPlans<S, Patient> as LazyPlans>⟧.lawful task.now TopK limit) }
 {

@@ -41,19 +41,25 @@ pub fn run<F: Files, K: Sink>(
     sink: &mut K,
 ) -> Status
     // The bytes and the status answer the words, for the texts of the files, with one flush for each piece.
-    ensures answer { Answered (wish_of (map (λ w. string_bytes w) words.now)) (F.view files.old).told (K.view sink.old) (K.view sink.new) result }
+    ensures answer { Answered (wish_of (map (λ w. string_bytes w) words.now)) (F.view files.old).told
+        (K.view sink.old) (K.view sink.new) result }
     // A fault is answered only where one was counted, and where one was, no other status comes but want of memory.
-    ensures causes { HasCauses result (F.view files.old).faults (F.view files.new).faults (K.view sink.old).faults (K.view sink.new).faults }
+    ensures causes { HasCauses result (F.view files.old).faults (F.view files.new).faults
+        (K.view sink.old).faults (K.view sink.new).faults }
     // The files are opened in their order, and none but those asked for, each at most once.
-    ensures opened { Opens (files_of (wish_of (map (λ w. string_bytes w) words.now))) (F.view files.old).told (F.view files.new).told (K.view sink.old).taken (K.view sink.new).taken result }
+    ensures opened { Opens (files_of (wish_of (map (λ w. string_bytes w) words.now))) (F.view files.old).told
+        (F.view files.new).told (K.view sink.old).taken (K.view sink.new).taken result }
     // Usage comes of no lawful words, and too long of no text that isn't.
     ensures lawful { AreLawful (map (λ w. string_bytes w) words.now) → result ≢ Status.Usage }
     ensures lengths { Lengths (wish_of (map (λ w. string_bytes w) words.now)) (F.view files.old).told result }
     // A certificate goes out, and one is taken, only where the task has no plan, whoever wrote it.
-    ensures proved { result ≡ Status.Proved → IsSettled (wish_of (map (λ w. string_bytes w) words.now)) (F.view files.old).told }
-    ensures refuted { result ≡ Status.Refuted → IsSettled (wish_of (map (λ w. string_bytes w) words.now)) (F.view files.old).told }
+    ensures proved { result ≡ Status.Proved → IsSettled (wish_of (map (λ w. string_bytes w) words.now))
+        (F.view files.old).told }
+    ensures refuted { result ≡ Status.Refuted → IsSettled (wish_of (map (λ w. string_bytes w) words.now))
+        (F.view files.old).told }
     // Where nothing stands against it, what is asked for comes, unless memory is wanting.
-    ensures complete { Complete (wish_of (map (λ w. string_bytes w) words.now)) (F.view files.old) (F.view files.new) (K.view sink.old) (K.view sink.new) result }
+    ensures complete { Complete (wish_of (map (λ w. string_bytes w) words.now)) (F.view files.old)
+        (F.view files.new) (K.view sink.old) (K.view sink.new) result }
 {
     answer(alloc, words, files, sink)
 }
@@ -73,9 +79,12 @@ pub fn run_in_memory(
 
 // Answers the words.
 fn answer<F: Files, K: Sink>(alloc: Global, words: &[String], files: &mut F, sink: &mut K) -> Status
-    ensures answer { Answered (wish_of (map (λ w. string_bytes w) words.now)) (F.view files.old).told (K.view sink.old) (K.view sink.new) result }
-    ensures causes { HasCauses result (F.view files.old).faults (F.view files.new).faults (K.view sink.old).faults (K.view sink.new).faults }
-    ensures opened { Opens (files_of (wish_of (map (λ w. string_bytes w) words.now))) (F.view files.old).told (F.view files.new).told (K.view sink.old).taken (K.view sink.new).taken result }
+    ensures answer { Answered (wish_of (map (λ w. string_bytes w) words.now)) (F.view files.old).told
+        (K.view sink.old) (K.view sink.new) result }
+    ensures causes { HasCauses result (F.view files.old).faults (F.view files.new).faults
+        (K.view sink.old).faults (K.view sink.new).faults }
+    ensures opened { Opens (files_of (wish_of (map (λ w. string_bytes w) words.now))) (F.view files.old).told
+        (F.view files.new).told (K.view sink.old).taken (K.view sink.new).taken result }
 {
     match request_in(alloc, words) {
         Ok(request) => serve(alloc, request, files, sink),
@@ -107,9 +116,12 @@ fn serve<F: Files, K: Sink>(
     sink: &mut K,
 ) -> Status
     requires { IsWithin request }
-    ensures answer { Answered (Some (wished request.entry)) (F.view files.old).told (K.view sink.old) (K.view sink.new) result }
-    ensures causes { HasCauses result (F.view files.old).faults (F.view files.new).faults (K.view sink.old).faults (K.view sink.new).faults }
-    ensures opened { Opens (files_of (Some (wished request.entry))) (F.view files.old).told (F.view files.new).told (K.view sink.old).taken (K.view sink.new).taken result }
+    ensures answer { Answered (Some (wished request.entry)) (F.view files.old).told (K.view sink.old)
+        (K.view sink.new) result }
+    ensures causes { HasCauses result (F.view files.old).faults (F.view files.new).faults
+        (K.view sink.old).faults (K.view sink.new).faults }
+    ensures opened { Opens (files_of (Some (wished request.entry))) (F.view files.old).told
+        (F.view files.new).told (K.view sink.old).taken (K.view sink.new).taken result }
 {
     match request {
         Request::Plan {
@@ -147,9 +159,13 @@ fn plan<F: Files, K: Sink>(
     requires least { 1 ≤ wanted.count }
     requires count { wanted.count ≤ 1000000000 }
     requires near { IsNear reach }
-    ensures answer { Answered (Some (lists (record { file = file.now; wanted = wanted; mode = mode; search = search; reach = reach }))) (F.view files.old).told (K.view sink.old) (K.view sink.new) result }
-    ensures causes { HasCauses result (F.view files.old).faults (F.view files.new).faults (K.view sink.old).faults (K.view sink.new).faults }
-    ensures opened { Opens ((Named.File, file.now) ∷ []) (F.view files.old).told (F.view files.new).told (K.view sink.old).taken (K.view sink.new).taken result }
+    ensures answer { Answered (Some
+        (lists (record { file = file.now; wanted = wanted; mode = mode; search = search; reach = reach })))
+        (F.view files.old).told (K.view sink.old) (K.view sink.new) result }
+    ensures causes { HasCauses result (F.view files.old).faults (F.view files.new).faults
+        (K.view sink.old).faults (K.view sink.new).faults }
+    ensures opened { Opens ((Named.File, file.now) ∷ []) (F.view files.old).told (F.view files.new).told
+        (K.view sink.old).taken (K.view sink.new).taken result }
 {
     match task_of(alloc, files, sink, file) {
         Ok(task) => list_reached(alloc, &task, mode, search, wanted, reach, sink),
@@ -170,9 +186,13 @@ fn further<F: Files, K: Sink>(
 ) -> Status
     requires least { 1 ≤ wanted.count }
     requires count { wanted.count ≤ 1000000000 }
-    ensures answer { Answered (Some (continues (record { file = file.now; plans = plans.now; wanted = wanted; mode = mode; search = search }))) (F.view files.old).told (K.view sink.old) (K.view sink.new) result }
-    ensures causes { HasCauses result (F.view files.old).faults (F.view files.new).faults (K.view sink.old).faults (K.view sink.new).faults }
-    ensures opened { Opens ((Named.File, file.now) ∷ (Named.Plans, plans.now) ∷ []) (F.view files.old).told (F.view files.new).told (K.view sink.old).taken (K.view sink.new).taken result }
+    ensures answer { Answered (Some
+        (continues (record { file = file.now; plans = plans.now; wanted = wanted; mode = mode; search =
+        search }))) (F.view files.old).told (K.view sink.old) (K.view sink.new) result }
+    ensures causes { HasCauses result (F.view files.old).faults (F.view files.new).faults
+        (K.view sink.old).faults (K.view sink.new).faults }
+    ensures opened { Opens ((Named.File, file.now) ∷ (Named.Plans, plans.now) ∷ []) (F.view files.old).told
+        (F.view files.new).told (K.view sink.old).taken (K.view sink.new).taken result }
 {
     let task = match task_of(alloc, files, sink, file) {
         Ok(task) => task,
@@ -193,9 +213,12 @@ fn check<F: Files, K: Sink>(
     plans: &str,
     mode: Mode,
 ) -> Status
-    ensures answer { Answered (Some (checks file.now plans.now mode)) (F.view files.old).told (K.view sink.old) (K.view sink.new) result }
-    ensures causes { HasCauses result (F.view files.old).faults (F.view files.new).faults (K.view sink.old).faults (K.view sink.new).faults }
-    ensures opened { Opens ((Named.File, file.now) ∷ (Named.Plans, plans.now) ∷ []) (F.view files.old).told (F.view files.new).told (K.view sink.old).taken (K.view sink.new).taken result }
+    ensures answer { Answered (Some (checks file.now plans.now mode)) (F.view files.old).told
+        (K.view sink.old) (K.view sink.new) result }
+    ensures causes { HasCauses result (F.view files.old).faults (F.view files.new).faults
+        (K.view sink.old).faults (K.view sink.new).faults }
+    ensures opened { Opens ((Named.File, file.now) ∷ (Named.Plans, plans.now) ∷ []) (F.view files.old).told
+        (F.view files.new).told (K.view sink.old).taken (K.view sink.new).taken result }
 {
     let task = match task_of(alloc, files, sink, file) {
         Ok(task) => task,
@@ -209,9 +232,12 @@ fn check<F: Files, K: Sink>(
 
 // `prove`
 fn prove<F: Files, K: Sink>(alloc: Global, files: &mut F, sink: &mut K, file: &str) -> Status
-    ensures answer { Answered (Some (proves file.now)) (F.view files.old).told (K.view sink.old) (K.view sink.new) result }
-    ensures causes { HasCauses result (F.view files.old).faults (F.view files.new).faults (K.view sink.old).faults (K.view sink.new).faults }
-    ensures opened { Opens ((Named.File, file.now) ∷ []) (F.view files.old).told (F.view files.new).told (K.view sink.old).taken (K.view sink.new).taken result }
+    ensures answer { Answered (Some (proves file.now)) (F.view files.old).told (K.view sink.old)
+        (K.view sink.new) result }
+    ensures causes { HasCauses result (F.view files.old).faults (F.view files.new).faults
+        (K.view sink.old).faults (K.view sink.new).faults }
+    ensures opened { Opens ((Named.File, file.now) ∷ []) (F.view files.old).told (F.view files.new).told
+        (K.view sink.old).taken (K.view sink.new).taken result }
 {
     match task_of(alloc, files, sink, file) {
         Ok(task) => cert_run::prove(alloc, &task, sink),
@@ -227,9 +253,12 @@ fn refute<F: Files, K: Sink>(
     file: &str,
     cert: &str,
 ) -> Status
-    ensures answer { Answered (Some (refutes file.now cert.now)) (F.view files.old).told (K.view sink.old) (K.view sink.new) result }
-    ensures causes { HasCauses result (F.view files.old).faults (F.view files.new).faults (K.view sink.old).faults (K.view sink.new).faults }
-    ensures opened { Opens ((Named.File, file.now) ∷ (Named.Cert, cert.now) ∷ []) (F.view files.old).told (F.view files.new).told (K.view sink.old).taken (K.view sink.new).taken result }
+    ensures answer { Answered (Some (refutes file.now cert.now)) (F.view files.old).told (K.view sink.old)
+        (K.view sink.new) result }
+    ensures causes { HasCauses result (F.view files.old).faults (F.view files.new).faults
+        (K.view sink.old).faults (K.view sink.new).faults }
+    ensures opened { Opens ((Named.File, file.now) ∷ (Named.Cert, cert.now) ∷ []) (F.view files.old).told
+        (F.view files.new).told (K.view sink.old).taken (K.view sink.new).taken result }
 {
     let task = match task_of(alloc, files, sink, file) {
         Ok(task) => task,

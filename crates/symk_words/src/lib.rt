@@ -317,7 +317,8 @@ pub fn read_words<'a>(alloc: Global, words: &'a [String]) -> Result<Asked<'a>, W
 /// No text of theirs is empty or begins with `-`.
 pub fn lawful_words()
     ensures plan { (prog : Text) (t : PlanTexts) → ArePlain t → texts_asked (plan_words prog t) ≡ Some (plan t) }
-    ensures check { (prog F P : Text) (mode : Option Text) → Plain F → Plain P → PlainIfSome mode → texts_asked (check_words prog F P mode) ≡ Some (check F P mode) }
+    ensures check { (prog F P : Text) (mode : Option Text) → Plain F → Plain P → PlainIfSome mode
+        → texts_asked (check_words prog F P mode) ≡ Some (check F P mode) }
     ensures demo { (prog N : Text) → Plain N → texts_asked (demo_words prog N) ≡ Some (demo N) }
     ensures prove { (prog F : Text) → Plain F → texts_asked (prove_words prog F) ≡ Some (prove F) }
     ensures refute { (prog F C : Text) → Plain F → Plain C → texts_asked (refute_words prog F C) ≡ Some (refute F C) }

@@ -113,9 +113,6 @@ module _ {S T : Type 0} {v v2 : View S} {w w2 : View T} {old new : List (Pair S 
   pub start_moves : Moves v v2 w w2 [] new
   start_moves = compares_moves (none_kept v w) first_pair (λ h. listed_alike v.system w.system h.system)
 
-  pub start_yes : v.system ≡ w.system → IsTrue told
-  start_yes e = compares_yes (none_kept v w) first_pair (λ h. listed_alike v.system w.system h.system) (record { system = e; each = tt })
-
   one : length new ≡ 1
   one = ap length first_pair.kept
 

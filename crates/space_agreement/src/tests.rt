@@ -1,5 +1,7 @@
 //! The space over ordered sets of states and the space over decision diagrams, on tasks that are drawn.
 
+mod facts;
+
 use crate::agree;
 use bdd_space::BddSpace;
 use explicit_space::ExplicitSpace;

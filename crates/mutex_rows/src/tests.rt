@@ -1,6 +1,7 @@
 //! Rows.
 
-ghost use Rattle.std.specs.Prelude.{◌≡◌};
+ghost use Rattle.std.specs.Prelude.{◌≡◌, IsTrue};
+ghost use Rattle.symk_task.specs.Variables.{IsBase};
 
 use bdd_space::BddSpace;
 use explicit_space::{ExplicitSpace, FuseSpace};
@@ -10,7 +11,7 @@ use space_api::{Space, SpaceFault};
 use std::alloc::{AllocError, Global};
 use std::process::Abort;
 use std::test::Fail;
-use symk_task::{Memory, Task};
+use symk_task::{Fact, Memory, Task};
 
 /// One of two lamps is on, and an operator makes the other one be on. Of its groups the third fails at the start.
 const MOVED: &[u8] = b"begin_version\n3\nend_version\nbegin_metric\n0\nend_metric\n2
@@ -62,6 +63,42 @@ fn groups_that_hold_are_found_and_no_others(rt: HostRuntime) -> Result<(), Fail>
         assert_eq!(rt; by_states.as_slice(), groups);
         assert_eq!(rt; by_diagrams.as_slice(), groups);
     }
+    Ok(())
+}
+
+/// Whether the first variable is there and has no layer.
+fn begins_with_base(task: &Task) -> bool
+    ensures { IsTrue result → IsBase task.now 0 }
+{
+    match task.parts().variables.as_slice().first() {
+        Some(variable) => variable.layer.is_none(),
+        None => false,
+    }
+}
+
+/// Whether the states where the first variable has the value 1 are the initial one and a goal state, and where it has the value
+/// 0 are all others.
+fn splits_by_a_fact<S: Space + Drop>(space: S) -> Result<bool, SpaceFault>
+    requires { IsBase (S.view space).task 0 }
+{
+    let mut space = space;
+    let all = space.all()?;
+    let on = space.fact_in(Fact { var: 0, val: 1 }, all)?;
+    let off = space.fact_in(Fact { var: 0, val: 0 }, all)?;
+    let init = space.init()?;
+    let goals = space.goal_in(on)?;
+    let known = space.unite(init, goals)?;
+    let others = space.minus(all, on)?;
+    Ok(space.same(on, known) && !space.is_empty(goals) && space.same(off, others))
+}
+
+#[test]
+fn a_fact_of_the_first_lamp_holds_whatever_the_second_is(rt: HostRuntime) -> Result<(), Fail> {
+    let alloc = rt.alloc();
+    let task = task_of(&rt, alloc, MOVED)?;
+    assert!(rt; begins_with_base(&task));
+    assert!(rt; splits_by_a_fact(ExplicitSpace::of(alloc, &task)?)?);
+    assert!(rt; splits_by_a_fact(BddSpace::of(alloc, &task)?)?);
     Ok(())
 }
 

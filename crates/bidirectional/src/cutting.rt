@@ -81,7 +81,7 @@ fn cost_meets<S: Space>(
     ensures ok { IfOk result (λ r. (op : ℕ) → (S.view space.old).system.cost op ≡ w → CutsBy (S.view space.old).system (Stands (S.view space.old) front.now) (Has (S.view space.old) to) cost b z op → IsTrue r) }
 {
     match cost_before(cost, b, w, z) {
-        Some(x) => layer_meets(space, front, x, w, to),
+        Some(x) => layer_meets(space, front, x, w, to, false),
         None => Ok(false),
     }
 }
@@ -188,7 +188,7 @@ fn first_landed<S: Space>(
 }
 
 /// The first operator from this one on that crosses into the set at this cost. It is looked for among those that lead into the
-/// states of the set into which some operator crosses, which are few.
+/// states of the set into which some operator crosses, which are few; these are found by steps ahead, or else by steps back.
 fn first_op<S: Space>(
     alloc: Global,
     space: &mut S,
@@ -198,13 +198,14 @@ fn first_op<S: Space>(
     z: u64,
     from: u64,
     to: S::Set,
+    ahead: bool,
 ) -> Result<Option<u32>, SpaceFault>
     requires front { Held (S.view space.old) front.now }
     requires to { Valid (S.view space.old) to }
     ensures stays { Stays (S.view space.old) (S.view space.new) }
     ensures ok { IfOk result (IsFirstOp (S.view space.old).system (Stands (S.view space.old) front.now) (Has (S.view space.old) to) cost b z from) }
 {
-    let landed = landing(space, front, cost, b, z, to)?;
+    let landed = landing(space, front, cost, b, z, to, ahead)?;
     let first = first_landed(alloc, space, front, cost, b, z, from, landed);
     space.forget(landed);
     first
@@ -220,6 +221,7 @@ fn first_into<S: Space>(
     b: u128,
     z: u64,
     from: u64,
+    ahead: bool,
 ) -> Result<Option<u32>, SpaceFault>
     requires front { Held (S.view space.old) front.now }
     requires back { Held (S.view space.old) back.now }
@@ -227,7 +229,7 @@ fn first_into<S: Space>(
     ensures ok { IfOk result (IsFirstOp (S.view space.old).system (Stands (S.view space.old) front.now) (InLayer (Stands (S.view space.old) back.now) z) cost b z from) }
 {
     match back.layer(z) {
-        Some(whole) => first_op(alloc, space, front, cost, b, z, from, whole),
+        Some(whole) => first_op(alloc, space, front, cost, b, z, from, whole, ahead),
         None => Ok(None),
     }
 }
@@ -249,6 +251,7 @@ pub(crate) fn first_cross<S: Space>(
     b: u128,
     first: u64,
     from: u64,
+    ahead: bool,
 ) -> Result<Option<(u32, u64)>, SpaceFault>
     requires front { Held (S.view space.old) front.now }
     requires back { Held (S.view space.old) back.now }
@@ -266,6 +269,7 @@ pub(crate) fn first_cross<S: Space>(
             b,
             z,
             first_from(z, first, from),
+            ahead,
         )? {
             return Ok(Some((op, z)));
         }

@@ -7,7 +7,8 @@ use Rattle.space_api.specs.Owned.{Trades}
 use Rattle.space_api.specs.Costs.{costs_of}
 use Rattle.space_api.proofs.CostList.{are_costs}
 use Rattle.space_api.proofs.Trading.{trades_trans, trades_gives, gives_made, kept_made}
-use Rattle.run_graph.specs.Graph.{ahead}
+use Rattle.run_graph.specs.Graph.{seen_from}
+use Rattle.run_graph.specs.declared.Side.TheVariants.{Ahead}
 use Rattle.run_graph.specs.Layering.{At}
 use Rattle.cost_layers.specs.Layers.{Held, Stands, rings_at, whole_at}
 use Rattle.cost_layers.specs.declared.layers.Layers.{Layers}
@@ -20,7 +21,7 @@ use Rattle.bidirectional.proofs.Firsts.{cuts_as}
 
 -- from the one layer that the sum allows
 module _ {Set : Type 0} (v w : View Set) (front : Layers Set) (to landed : Set) (cost b z c : ℕ) (held : Held v front) where
-  pub lands_layer : (x : ℕ) (whole r : Set) → (x + c + z ≡ cost) × (b ≤ z + c) → whole_at front x ≡ Some whole → Joins v w landed (AlongIn (ahead v.system) v c whole to) r → Joins v w landed (LandsBy v.system (Stands v front) (Has v to) cost b z c) r
+  pub lands_layer : (x : ℕ) (whole r : Set) → (x + c + z ≡ cost) × (b ≤ z + c) → whole_at front x ≡ Some whole → Joins v w landed (AlongIn (seen_from Ahead v.system) v c whole to) r → Joins v w landed (LandsBy v.system (Stands v front) (Has v to) cost b z c) r
   lands_layer x whole r sums is j =
       let l = layer_at v (rings_at front x) (whole_at front x) whole is (held.each x) in
       record {
@@ -47,7 +48,7 @@ module _ {Set : Type 0} (v w : View Set) (front : Layers Set) (to landed : Set) 
                 let m = a.2.meets in
                 let e : a.2.x ≡ x = omega (arith, a.2.sum, a.1, sums.0) in
                 let member = subst (λ (n : ℕ). (i : ℕ) × Stands v front n i m.from) e m.member in
-                (j.means s).1 (inr ((a.0, a.1, (m.from, (l.parts m.from).1 member, subst (λ (t : State). (ahead v.system).arc a.0 m.from t) m.inside.0 m.leads)), subst (Has v to) m.inside.0 m.inside.1))
+                (j.means s).1 (inr ((a.0, a.1, (m.from, (l.parts m.from).1 member, subst (λ (t : State). (seen_from Ahead v.system).arc a.0 m.from t) m.inside.0 m.leads)), subst (Has v to) m.inside.0 m.inside.1))
           ]),
         );
       }

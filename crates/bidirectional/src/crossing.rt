@@ -10,7 +10,7 @@ ghost use Rattle.bidirectional.specs.Crossing.{MeetsBy, CrossAt, CrossBy, CrossI
 
 use cost_layers::Layers;
 use cost_search::cost_after;
-use space_api::{Space, SpaceFault};
+use space_api::{Space, SpaceFault, meets};
 
 /// The first cost from this bound on that has a layer.
 pub(crate) fn cost_from<T: Copy>(layers: &Layers<T>, bound: u128) -> Option<u64>
@@ -24,8 +24,8 @@ pub(crate) fn cost_from<T: Copy>(layers: &Layers<T>, bound: u128) -> Option<u64>
     }
 }
 
-/// Whether an operator of cost `w` leads from one set into the other.
-fn meets_by<S: Space>(space: &mut S, from: S::Set, w: u64, to: S::Set) -> Result<bool, SpaceFault>
+/// Whether an operator of cost `w` leads from one set into the other, by what leads into it.
+fn meets_back<S: Space>(space: &mut S, from: S::Set, w: u64, to: S::Set) -> Result<bool, SpaceFault>
     requires from { Valid (S.view space.old) from }
     requires to { Valid (S.view space.old) to }
     ensures stays { Stays (S.view space.old) (S.view space.new) }
@@ -37,13 +37,52 @@ fn meets_by<S: Space>(space: &mut S, from: S::Set, w: u64, to: S::Set) -> Result
     Ok(!empty)
 }
 
-/// Whether an operator of cost `w` leads from layer `x` into the set.
+/// Whether an operator of cost `w` leads from one set into the other, by what it leads to.
+fn meets_ahead<S: Space>(
+    space: &mut S,
+    from: S::Set,
+    w: u64,
+    to: S::Set,
+) -> Result<bool, SpaceFault>
+    requires from { Valid (S.view space.old) from }
+    requires to { Valid (S.view space.old) to }
+    ensures stays { Stays (S.view space.old) (S.view space.new) }
+    ensures ok { IfOk result (λ r. IsTrue r ↔ ((s : State) × CostPreimage (S.view space.old) w to from s)) }
+{
+    let image = space.image_cost(w, from)?;
+    let some = meets(space, image, to);
+    space.forget(image);
+    some
+}
+
+/// Whether an operator of cost `w` leads from one set into the other, by a step ahead or by one back.
+fn meets_by<S: Space>(
+    space: &mut S,
+    from: S::Set,
+    w: u64,
+    to: S::Set,
+    ahead: bool,
+) -> Result<bool, SpaceFault>
+    requires from { Valid (S.view space.old) from }
+    requires to { Valid (S.view space.old) to }
+    ensures stays { Stays (S.view space.old) (S.view space.new) }
+    ensures ok { IfOk result (λ r. IsTrue r ↔ ((s : State) × CostPreimage (S.view space.old) w to from s)) }
+{
+    if ahead {
+        meets_ahead(space, from, w, to)
+    } else {
+        meets_back(space, from, w, to)
+    }
+}
+
+/// Whether an operator of cost `w` leads from layer `x` into the set, by a step ahead or by one back.
 pub(crate) fn layer_meets<S: Space>(
     space: &mut S,
     front: &Layers<S::Set>,
     x: u64,
     w: u64,
     to: S::Set,
+    ahead: bool,
 ) -> Result<bool, SpaceFault>
     requires front { Held (S.view space.old) front.now }
     requires to { Valid (S.view space.old) to }
@@ -52,13 +91,13 @@ pub(crate) fn layer_meets<S: Space>(
         (Stands (S.view space.old) front.now) (Has (S.view space.old) to) x w) }
 {
     match front.layer(x) {
-        Some(whole) => Ok(meets_by(space, whole, w, to)?),
+        Some(whole) => Ok(meets_by(space, whole, w, to, ahead)?),
         None => Ok(false),
     }
 }
 
 /// The least cost from `low` on and below `high` at which a forward layer meets the set by an operator of cost `w`, if what
-/// is left would no longer be below `b` with it; `high` where there is none.
+/// is left would no longer be below `b` with it; `high` where there is none. Layers are tried by steps ahead, or else by steps back.
 fn least_by<S: Space>(
     space: &mut S,
     front: &Layers<S::Set>,
@@ -68,6 +107,7 @@ fn least_by<S: Space>(
     to: S::Set,
     low: u128,
     high: u128,
+    ahead: bool,
 ) -> Result<u128, SpaceFault>
     requires front { Held (S.view space.old) front.now }
     requires to { Valid (S.view space.old) to }
@@ -86,7 +126,7 @@ fn least_by<S: Space>(
         if high <= cost {
             return Ok(high);
         }
-        if layer_meets(space, front, x, w, to)? {
+        if layer_meets(space, front, x, w, to, ahead)? {
             return Ok(cost);
         }
         next = cost_after(front, x);
@@ -103,6 +143,7 @@ fn least_into<S: Space>(
     to: S::Set,
     low: u128,
     high: u128,
+    ahead: bool,
 ) -> Result<u128, SpaceFault>
     requires front { Held (S.view space.old) front.now }
     requires to { Valid (S.view space.old) to }
@@ -114,7 +155,7 @@ fn least_into<S: Space>(
     let mut least = high;
     'costs: for i in 0..space.costs() {
         let w = space.cost_at(i);
-        least = least_by(space, front, b, z, w, to, low, least)?;
+        least = least_by(space, front, b, z, w, to, low, least, ahead)?;
     }
     Ok(least)
 }
@@ -128,6 +169,7 @@ fn least_at<S: Space>(
     z: u64,
     low: u128,
     high: u128,
+    ahead: bool,
 ) -> Result<u128, SpaceFault>
     requires front { Held (S.view space.old) front.now }
     requires back { Held (S.view space.old) back.now }
@@ -137,7 +179,7 @@ fn least_at<S: Space>(
         (Stands (S.view space.old) front.now) (InLayer (Stands (S.view space.old) back.now) z) b z) low high) }
 {
     match back.layer(z) {
-        Some(whole) => least_into(space, front, b, z, whole, low, high),
+        Some(whole) => least_into(space, front, b, z, whole, low, high, ahead),
         None => Ok(high),
     }
 }
@@ -162,6 +204,7 @@ pub(crate) fn least_cross<S: Space>(
     b: u128,
     low: u128,
     high: u128,
+    ahead: bool,
 ) -> Result<u128, SpaceFault>
     requires front { Held (S.view space.old) front.now }
     requires back { Held (S.view space.old) back.now }
@@ -173,7 +216,7 @@ pub(crate) fn least_cross<S: Space>(
     let mut least = high;
     let mut next = cost_from(back, b.saturating_sub(dearest(space) as u128));
     'costs: while let Some(z) = next {
-        least = least_at(space, front, back, b, z, low, least)?;
+        least = least_at(space, front, back, b, z, low, least, ahead)?;
         next = cost_after(back, z);
     }
     Ok(least)

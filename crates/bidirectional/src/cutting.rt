@@ -84,7 +84,7 @@ fn cost_meets<S: Space>(
         cost b z op → IsTrue r) }
 {
     match cost_before(cost, b, w, z) {
-        Some(x) => layer_meets(space, front, x, w, to),
+        Some(x) => layer_meets(space, front, x, w, to, false),
         None => Ok(false),
     }
 }
@@ -196,7 +196,7 @@ fn first_landed<S: Space>(
 }
 
 /// The first operator from this one on that crosses into the set at this cost. It is looked for among those that lead into the
-/// states of the set into which some operator crosses, which are few.
+/// states of the set into which some operator crosses, which are few; these are found by steps ahead, or else by steps back.
 fn first_op<S: Space>(
     alloc: Global,
     space: &mut S,
@@ -206,6 +206,7 @@ fn first_op<S: Space>(
     z: u64,
     from: u64,
     to: S::Set,
+    ahead: bool,
 ) -> Result<Option<u32>, SpaceFault>
     requires front { Held (S.view space.old) front.now }
     requires to { Valid (S.view space.old) to }
@@ -213,7 +214,7 @@ fn first_op<S: Space>(
     ensures ok { IfOk result (IsFirstOp (S.view space.old).system (Stands (S.view space.old) front.now)
         (Has (S.view space.old) to) cost b z from) }
 {
-    let landed = landing(space, front, cost, b, z, to)?;
+    let landed = landing(space, front, cost, b, z, to, ahead)?;
     let first = first_landed(alloc, space, front, cost, b, z, from, landed);
     space.forget(landed);
     first
@@ -229,6 +230,7 @@ fn first_into<S: Space>(
     b: u128,
     z: u64,
     from: u64,
+    ahead: bool,
 ) -> Result<Option<u32>, SpaceFault>
     requires front { Held (S.view space.old) front.now }
     requires back { Held (S.view space.old) back.now }
@@ -237,7 +239,7 @@ fn first_into<S: Space>(
         (InLayer (Stands (S.view space.old) back.now) z) cost b z from) }
 {
     match back.layer(z) {
-        Some(whole) => first_op(alloc, space, front, cost, b, z, from, whole),
+        Some(whole) => first_op(alloc, space, front, cost, b, z, from, whole, ahead),
         None => Ok(None),
     }
 }
@@ -259,6 +261,7 @@ pub(crate) fn first_cross<S: Space>(
     b: u128,
     first: u64,
     from: u64,
+    ahead: bool,
 ) -> Result<Option<(u32, u64)>, SpaceFault>
     requires front { Held (S.view space.old) front.now }
     requires back { Held (S.view space.old) back.now }
@@ -277,6 +280,7 @@ pub(crate) fn first_cross<S: Space>(
             b,
             z,
             first_from(z, first, from),
+            ahead,
         )? {
             return Ok(Some((op, z)));
         }

@@ -5,7 +5,8 @@ ghost use Rattle.task_system.specs.System.{State};
 ghost use Rattle.space_api.specs.View.{View, Valid, Has};
 ghost use Rattle.space_api.specs.Frames.{Kept, NoMore, Gives};
 ghost use Rattle.space_api.specs.Owned.{Trades};
-ghost use Rattle.run_graph.specs.Graph.{ahead};
+ghost use Rattle.run_graph.specs.Graph.{seen_from};
+ghost use Rattle.run_graph.specs.declared.Side.TheVariants.{Ahead};
 ghost use Rattle.cost_layers.specs.Layers.{Held, Stands};
 ghost use Rattle.layer_steps.specs.Arcs.{AlongIn};
 ghost use Rattle.layer_steps.specs.Gathered.{Joins};
@@ -17,10 +18,9 @@ use layer_steps::join_along;
 use run_graph::Side;
 use space_api::{Space, SpaceFault};
 
-/// The states of a set, and those of `to` into which operators of cost `w` lead from the other set.
-///
-/// The states from which they lead into `to` come first: they are few, and so is what they lead to.
-fn land_from<S: Space>(
+/// The states of a set, and those of `to` into which operators of cost `w` lead from the other set. The states from which they lead
+/// into `to` come first: they are few, and so is what they lead to.
+fn land_back<S: Space>(
     space: &mut S,
     from: S::Set,
     w: u64,
@@ -31,14 +31,36 @@ fn land_from<S: Space>(
     requires to { Valid (S.view space.old) to }
     requires landed { Valid (S.view space.old) landed }
     ensures kept { Kept (S.view space.old) (S.view space.new) }
-    ensures ok { IfOk result (Gives (S.view space.old) (S.view space.new) (λ s. Has (S.view space.old) landed
-        s ⊎ AlongIn (ahead (S.view space.old).system) (S.view space.old) w from to s)) }
+    ensures ok { IfOk result (Gives (S.view space.old) (S.view space.new) (λ s. Has (S.view space.old) landed s ⊎ AlongIn (seen_from Ahead (S.view space.old).system) (S.view space.old) w from to s)) }
     ensures err { OnErr result (NoMore (S.view space.old) (S.view space.new)) }
 {
     let before = space.pre_cost(w, to, from)?;
     let more = join_along(space, Side::Ahead, to, landed, w, before);
     space.forget(before);
     more
+}
+
+/// The same, by a step ahead or by one back.
+fn land_from<S: Space>(
+    space: &mut S,
+    from: S::Set,
+    w: u64,
+    to: S::Set,
+    landed: S::Set,
+    ahead: bool,
+) -> Result<S::Set, SpaceFault>
+    requires from { Valid (S.view space.old) from }
+    requires to { Valid (S.view space.old) to }
+    requires landed { Valid (S.view space.old) landed }
+    ensures kept { Kept (S.view space.old) (S.view space.new) }
+    ensures ok { IfOk result (Gives (S.view space.old) (S.view space.new) (λ s. Has (S.view space.old) landed s ⊎ AlongIn (seen_from Ahead (S.view space.old).system) (S.view space.old) w from to s)) }
+    ensures err { OnErr result (NoMore (S.view space.old) (S.view space.new)) }
+{
+    if ahead {
+        join_along(space, Side::Ahead, to, landed, w, from)
+    } else {
+        land_back(space, from, w, to, landed)
+    }
 }
 
 /// The same in place of the set, which is given back, also where want of memory refuses it.
@@ -48,15 +70,15 @@ fn add_from<S: Space>(
     w: u64,
     to: S::Set,
     landed: S::Set,
+    ahead: bool,
 ) -> Result<S::Set, SpaceFault>
     requires from { Valid (S.view space.old) from }
     requires to { Valid (S.view space.old) to }
     requires landed { Valid (S.view space.old) landed }
-    ensures ok { IfOk result (Joins (S.view space.old) (S.view space.new) landed
-        (AlongIn (ahead (S.view space.old).system) (S.view space.old) w from to)) }
+    ensures ok { IfOk result (Joins (S.view space.old) (S.view space.new) landed (AlongIn (seen_from Ahead (S.view space.old).system) (S.view space.old) w from to)) }
     ensures err { OnErr result (Trades (S.view space.old) (S.view space.new) (λ a. a ≡ landed) (λ a. ⊥)) }
 {
-    let more = land_from(space, from, w, to, landed);
+    let more = land_from(space, from, w, to, landed, ahead);
     space.forget(landed);
     more
 }
@@ -71,6 +93,7 @@ fn add_landing<S: Space>(
     w: u64,
     to: S::Set,
     landed: S::Set,
+    ahead: bool,
 ) -> Result<S::Set, SpaceFault>
     requires front { Held (S.view space.old) front.now }
     requires to { Valid (S.view space.old) to }
@@ -82,14 +105,14 @@ fn add_landing<S: Space>(
 {
     match cost_before(cost, b, w, z) {
         Some(x) => match front.layer(x) {
-            Some(whole) => add_from(space, whole, w, to, landed),
+            Some(whole) => add_from(space, whole, w, to, landed, ahead),
             None => Ok(landed),
         },
         None => Ok(landed),
     }
 }
 
-/// The states of `to` into which operators cross at this cost, as a new set.
+/// The states of `to` into which operators cross at this cost, as a new set; by steps ahead, or else by steps back.
 pub(crate) fn landing<S: Space>(
     space: &mut S,
     front: &Layers<S::Set>,
@@ -97,6 +120,7 @@ pub(crate) fn landing<S: Space>(
     b: u128,
     z: u64,
     to: S::Set,
+    ahead: bool,
 ) -> Result<S::Set, SpaceFault>
     requires front { Held (S.view space.old) front.now }
     requires to { Valid (S.view space.old) to }
@@ -108,7 +132,7 @@ pub(crate) fn landing<S: Space>(
     let mut landed = space.empty()?;
     'costs: for i in 0..space.costs() {
         let w = space.cost_at(i);
-        landed = add_landing(space, front, cost, b, z, w, to, landed)?;
+        landed = add_landing(space, front, cost, b, z, w, to, landed, ahead)?;
     }
     Ok(landed)
 }

@@ -27,11 +27,19 @@ def rule(conds, var):
     return ["begin_rule", str(len(conds)), *[f"{v} {val}" for v, val in conds], f"{var} 0 1", "end_rule"]
 
 
-def task(variables, initial, goal, operators, rules):
+def group(facts):
+    """A mutex group: facts (variable, value) of which at most one holds in each state that is reached."""
+    return ["begin_mutex_group", str(len(facts)), *[f"{var} {val}" for var, val in facts], "end_mutex_group"]
+
+
+def task(variables, initial, goal, operators, rules, groups=()):
     lines = ["begin_version", "3", "end_version", "begin_metric", "1", "end_metric", str(len(variables))]
     for one in variables:
         lines += one
-    lines += ["0", "begin_state", *map(str, initial), "end_state"]
+    lines.append(str(len(groups)))
+    for one in groups:
+        lines += one
+    lines += ["begin_state", *map(str, initial), "end_state"]
     lines += ["begin_goal", str(len(goal)), *[f"{var} {val}" for var, val in goal], "end_goal", str(len(operators))]
     for one in operators:
         lines += one
@@ -42,7 +50,10 @@ def task(variables, initial, goal, operators, rules):
 
 
 def gripper(balls):
-    """The robot's room, whether each gripper is free, and where each ball is: room a, room b, left or right gripper."""
+    """The robot's room, whether each gripper is free, and where each ball is: room a, room b, left or right gripper.
+
+    A gripper is free or holds one ball.
+    """
     rooms, hands = ["a", "b"], ["left", "right"]
     robot, free, ball = 0, (1, 2), range(3, balls + 3)
     variables = [variable("robot", -1, [f"Atom at-robby(room{r})" for r in rooms])]
@@ -58,11 +69,15 @@ def gripper(balls):
                 drop = [((), free[h], 1, 0), ((), ball[i], 2 + h, r)]
                 operators.append(operator(f"pick ball{i} room{rooms[r]} {hands[h]}", [(robot, r)], pick))
                 operators.append(operator(f"drop ball{i} room{rooms[r]} {hands[h]}", [(robot, r)], drop))
-    return task(variables, [0] * (balls + 3), [(b, 1) for b in ball], operators, [])
+    groups = [group([(free[h], 0), *[(b, 2 + h) for b in ball]]) for h in (0, 1)]
+    return task(variables, [0] * (balls + 3), [(b, 1) for b in ball], operators, [], groups)
 
 
 def tiles(side):
-    """The square of the blank (variable 0) and of each tile. At first the tiles lie backwards, the blank first."""
+    """The square of the blank (variable 0) and of each tile. At first the tiles lie backwards, the blank first.
+
+    On each square there is one of them.
+    """
     squares = side * side
     names = ["blank"] + [f"tile{i}" for i in range(1, squares)]
     variables = [variable(name, -1, [f"Atom at({name}, square{s})" for s in range(squares)]) for name in names]
@@ -76,7 +91,8 @@ def tiles(side):
                     effects = [((), 0, to, at), ((), tile, at, to)]
                     operators.append(operator(f"move tile{tile} square{at} square{to}", [], effects))
     initial = [0] + [squares - tile for tile in range(1, squares)]
-    return task(variables, initial, [(tile, tile - 1) for tile in range(1, squares)], operators, [])
+    groups = [group([(i, square) for i in range(squares)]) for square in range(squares)]
+    return task(variables, initial, [(tile, tile - 1) for tile in range(1, squares)], operators, [], groups)
 
 
 def psr(devices_wanted):

@@ -1,27 +1,25 @@
 #!/usr/bin/env bash
-# How long whole runs of the program take, and in how much memory: it reads a task, lists its cheapest plans and says why the list
-# ends. The tasks are the six larger examples and ten that bench/plan_tasks.py makes; each is listed by every search. The program is
-# built first, then each run is made five times (`bash bench/plan.sh TIMES` for another number), all tasks in turn, with at most 60
-# seconds for each; a run that takes longer is made once. The time is that of the processor, the memory the most that a run had in
-# use. The costs of a task must be the same by each search, and the list is checked by `symk check`; else the script ends. Each line
-# has the status, the number of plans, the cost of the first and the last, and the medians; `-` stands for a run that took longer
-# or wanted more memory than 4 GB. The last line is `plan tasks N solved S seconds T`: how many runs of a task by a search there
-# were, how many ended, and the sum of their medians.
+# How long whole runs take, and in how much memory, beside a planner of the same kind on BuDDy, bench/peer. The tasks are those of
+# bench/plan_list.txt, which bench/plan_tasks.py makes. Both programs are built first (BuDDy is Debian's libbdd-dev, installed where it
+# isn't there), then run in turn, five times each (`bash bench/plan.sh TIMES` for another number, `bash bench/plan.sh TIMES SET..` for
+# these sets of the list in place of `main large`), with at most 60 seconds and 6 GB for a run; a side that needs more isn't run again.
+# Where both list, the costs of the plans and why the list ends must be the same; else the script ends. The time is that of the
+# processor for a whole run, the memory the most that a run had in use. Each line has the medians and the ratio of the times, and `-`
+# for a side that didn't end. The last but one has the tasks that the peer solved and the greatest ratio of memory, the last is
+# `plan tasks N solved S ratio R worst W`: how many tasks there are and how many we solve, and over the tasks that both solve the
+# geometric mean and the greatest of the ratios, our time by the peer's.
 set -eu
 top=$(cd "$(dirname "$0")/.." && pwd)
-work=$(mktemp -d)
-trap 'rm -rf "$work"' EXIT
+. "$top/bench/buddy.sh"
 "$top/symk" demo 1 >/dev/null # builds the program, where it isn't built
-python3 - "$top" "$work" "${1:-5}" <<'PYTHON'
-import os, re, resource, signal, statistics, subprocess, sys
+g++ -std=c++17 -O3 -o "$work/peer" "$top/bench/peer/peer.cpp" -lbdd
+g++ -std=c++17 -O3 -o "$work/measure" "$top/bench/measure.cpp"
+python3 - "$top" "$work" "${1:-5}" "${@:2}" <<'PYTHON'
+import math, os, re, resource, statistics, subprocess, sys
 
-top, work, times = sys.argv[1], sys.argv[2], int(sys.argv[3])
-program = os.path.join(top, ".symk", "symk")
-LIMIT, MEMORY = 60, 4_000_000_000
-EXAMPLES = (("blocks", 10), ("gripper", 10), ("hanoi", 10), ("logistics", 10), ("psr", 10), ("tiles", 10))
-MADE = (("gripper 20", 10), ("hanoi 10", 10), ("board 3 3 200", 10), ("blocks 8", 10), ("logistics 3 3 4", 10),
-        ("visitall 5 5", 10), ("psr 40", 20), ("lights 6 6 10", 100), ("roads 18 6", 100), ("switches 40", 1000))
-SEARCHES = ("auto", "forward", "backward", "bidirectional")
+top, work, times, sets = sys.argv[1], sys.argv[2], int(sys.argv[3]), sys.argv[4:] or ["main", "large"]
+SIDES = {"symk": os.path.join(top, ".symk", "symk"), "peer": os.path.join(work, "peer")}
+LIMIT, MEMORY = 60, 6_000_000_000
 COST = re.compile(rb"^; cost = (\d+) ", re.MULTILINE)
 
 
@@ -30,66 +28,62 @@ def bound():
     resource.setrlimit(resource.RLIMIT_AS, (MEMORY, MEMORY))
 
 
-def run(task, k, search):
-    """The status, what was printed, the seconds of the processor and the megabytes at most; None past the limits."""
-    words = [program, "plan", task, "--k", str(k), "--search", search]
-    with open(os.path.join(work, "list"), "wb") as out:
-        child = subprocess.Popen(words, stdout=out, stderr=subprocess.DEVNULL, preexec_fn=bound)
-        _, status, usage = os.wait4(child.pid, 0)
-    child.returncode = os.waitstatus_to_exitcode(status)
-    if child.returncode in (-signal.SIGKILL, -signal.SIGXCPU, 40):
+def run(side, path, k, mode):
+    """What is listed, the seconds of the processor and the megabytes at most; None past the limits."""
+    used, listed = os.path.join(work, "used"), os.path.join(work, "list")
+    words = [os.path.join(work, "measure"), used, SIDES[side], "plan", path, "--k", k, "--mode", mode]
+    with open(listed, "wb") as out:
+        subprocess.run(words, stdout=out, stderr=subprocess.DEVNULL, preexec_fn=bound, check=True)
+    with open(used) as it:
+        status, seconds, kilobytes = it.read().split()
+    if status not in ("0", "10"):
         return None
-    if child.returncode not in (0, 10, 31):
-        sys.exit(f"{words}: status {child.returncode}")
-    with open(os.path.join(work, "list"), "rb") as it:
+    with open(listed, "rb") as it:
         printed = it.read()
-    return child.returncode, printed, usage.ru_utime + usage.ru_stime, usage.ru_maxrss * 1024 / 1e6
-
-
-def costs_of(task, printed):
-    """The costs of the plans, once `symk check` has called the list good."""
     costs = [int(cost) for cost in COST.findall(printed)]
-    done = subprocess.run([program, "check", task, os.path.join(work, "list")], stdout=subprocess.PIPE)
-    if done.stdout != b"good %d\n" % len(costs):
-        sys.exit(f"{task}: {done.stdout.decode()}")
-    return costs
+    return (status, costs), float(seconds), int(kilobytes) * 1024 / 1e6
 
 
-tasks = [(f"{name} (example)", os.path.join(top, "examples", f"{name}.sas"), k) for name, k in EXAMPLES]
-for made, k in MADE:
-    path = os.path.join(work, made.replace(" ", "-") + ".sas")
-    with open(path, "wb") as out:
-        subprocess.run([sys.executable, os.path.join(top, "bench", "plan_tasks.py"), *made.split()], stdout=out, check=True)
-    tasks.append((made, path, k))
-took, most, told, costs, lost = {}, {}, {}, {}, set()
-for turn in range(times):
-    for name, path, k in tasks:
-        for search in SEARCHES:
-            key = name, search
-            done = None if key in lost else run(path, k, search)
+def listed_tasks():
+    """Of each task its name, its file, the number of plans and the mode."""
+    with open(os.path.join(top, "bench", "plan_list.txt")) as it:
+        rows = [[cell.strip() for cell in line.split("|")] for line in it if not line.startswith("#")]
+    for part, made, k, mode in rows:
+        if part in sets:
+            path = os.path.join(work, made.replace(" ", "-") + ".sas")
+            with open(path, "wb") as out:
+                subprocess.run([sys.executable, os.path.join(top, "bench", "plan_tasks.py"), *made.split()], stdout=out, check=True)
+            yield made, path, k, mode
+
+
+tasks, runs, told, lost = list(listed_tasks()), {}, {}, set()
+for _ in range(times):
+    for task in tasks:
+        for side in SIDES:
+            done = None if (task, side) in lost else run(side, *task[1:])
             if done is None:
-                lost.add(key)
-                continue
-            status, printed, seconds, megabytes = done
-            if turn == 0:
-                listed = costs_of(path, printed)
-                if costs.setdefault(name, (status, listed)) != (status, listed):
-                    sys.exit(f"{name}: {search} lists other costs")
-                told[key] = status, len(listed), *(listed[:1] + listed[-1:] or ["-", "-"])
-            took.setdefault(key, []).append(seconds)
-            most.setdefault(key, []).append(megabytes)
-total = 0.0
-print("| task | k | search | status | plans | first | last | seconds | megabytes |\n|---|---|---|---|---|---|---|---|---|")
-for name, _, k in tasks:
-    for search in SEARCHES:
-        key = name, search
-        if key in lost:
-            print(f"| {name} | {k} | {search} | - | - | - | - | - | - |")
-            continue
-        seconds = statistics.median(took[key])
-        total += seconds
-        row = [name, k, search, *told[key], f"{seconds:.2f}", f"{statistics.median(most[key]):.0f}"]
-        print("| " + " | ".join(map(str, row)) + " |")
-runs = len(tasks) * len(SEARCHES)
-print(f"plan tasks {runs} solved {runs - len(lost)} seconds {total:.1f}")
+                lost.add((task, side))
+            elif told.setdefault(task, done[0]) != done[0]:
+                sys.exit(f"{task[0]}: {side} lists other costs, or ends otherwise")
+            else:
+                runs.setdefault((task, side), []).append(done[1:])
+print("| task | k | mode | plans | first and last cost | symk | peer | ratio | symk MB | peer MB |")
+print("|---|---|---|---|---|---|---|---|---|---|")
+ratios, memory = [], [0]
+for task in tasks:
+    name, _, k, mode = task
+    _, costs = told.get(task, (None, []))
+    most = {side: [statistics.median(of) for of in zip(*runs[task, side])] for side in SIDES if (task, side) not in lost}
+    ratio = "-"
+    if len(most) == 2:
+        ratios.append(max(most["symk"][0], 1e-3) / max(most["peer"][0], 1e-3))
+        memory.append(most["symk"][1] / most["peer"][1])
+        ratio = f"{ratios[-1]:.2f}"
+    shown = [[f"{most[side][i]:.{2 - 2 * i}f}" if side in most else "-" for side in SIDES] for i in (0, 1)]
+    ends = f"{costs[0]}, {costs[-1]}" if costs else "-"
+    print("| " + " | ".join([name, k, mode, str(len(costs)), ends, *shown[0], ratio, *shown[1]]) + " |")
+solved = {side: sum((task, side) not in lost for task in tasks) for side in SIDES}
+mean = math.exp(statistics.mean(map(math.log, ratios))) if ratios else 0
+print(f"peer solved {solved['peer']} greatest ratio of memory {max(memory):.2f}")
+print(f"plan tasks {len(tasks)} solved {solved['symk']} ratio {mean:.2f} worst {max(ratios, default=0):.2f}")
 PYTHON

@@ -24,6 +24,7 @@ struct Effect {
 };
 
 struct Operator {
+    string name;
     vector<Fact> prevail;
     vector<Effect> effects;
     unsigned long long cost;
@@ -110,7 +111,7 @@ static inline Effect read_effect(Lines &in) {
 static inline Operator read_operator(Lines &in, bool unit) {
     Operator op;
     in.want("begin_operator");
-    in.line();
+    op.name = in.line();
     op.prevail = in.facts();
     for (long long left = in.number(); left > 0; left--)
         op.effects.push_back(read_effect(in));

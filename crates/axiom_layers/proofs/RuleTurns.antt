@@ -15,7 +15,6 @@ use Rattle.bdd_table.specs.declared.node.Node.{Node}
 use Rattle.bdd_table.specs.Diagram.{Bits, means, Keeps}
 use Rattle.var_order.specs.Layout.{Layout}
 use Rattle.var_order.specs.Codes.{IsCode}
-use Rattle.bdd_sets.specs.Sets.{IsSetOfStates}
 use Rattle.axiom_layers.specs.Roots.{AreSets}
 use Rattle.axiom_layers.specs.Raising.{value_by, values_of, Says, IsReady, RuleTurn}
 use Rattle.axiom_layers.proofs.RootValues.{values_length, value_there, values_are, same_values, kept_values, derived_value, layer_is}
@@ -23,20 +22,6 @@ use Rattle.axiom_layers.proofs.FactSets.{other_differs}
 
 pub rule_within : (task : TaskParts) (o : Layout) (xs : List Node) (roots : List ℕ) (rule : Rule) → FitsRule task rule → AreSets task o xs roots → rule.var < length roots
 rule_within task o xs roots rule fit are = (let w = within_some (λ v. v.layer ≡ Some fit.layer) task.variables rule.var fit.on in let e = are.each in omega (arith, w, e))
-
--- a variable gets another set
-pub set_added : (task : TaskParts) (o : Layout) (xs : List Node) (roots : List ℕ) (var root : ℕ) → AreSets task o xs roots → root < length xs → IsSetOfStates o xs root → AreSets task o xs (set roots var root)
-set_added task o xs roots var root a lt is = record {
-  each = length-set roots var root ∙ a.each;
-  known = λ k below. go (λ id. id < length xs) lt a.known k below;
-  of_states = λ k below. go (IsSetOfStates o xs) is a.of_states k below;
-}
-  where
-    go : (P : ℕ → Type 0) → P root → ((k : ℕ) → k < length roots → P (get_or roots k 0)) → (k : ℕ) → k < length (set roots var root) → P (get_or (set roots var root) k 0)
-    go P here all k below = elim (cases_eq k var) [
-      | inl e ↦ (let l = length-set roots var root in let w : var < length roots = omega (arith, below, l, e) in subst P (sym (rw e (get_or-set_same roots var root 0 w))) here)
-      | inr ne ↦ (let l = length-set roots var root in subst P (sym (get_or-set_other roots var k root 0 ne)) (all k (omega (arith, below, l))))
-    ]
 
 module _ (task : TaskParts) (o : Layout) (rule : Rule) (xs ys zs : List Node) (roots : List ℕ) (conds root : ℕ)
     (fits : Fits task) (fit : FitsRule task rule) (counts : rule.new ≡ get_or task.initial rule.var 0 → ⊥) (are : AreSets task o xs roots) (xy : Keeps xs ys) (yz : Keeps ys zs) (known : conds < length ys)

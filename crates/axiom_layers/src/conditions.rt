@@ -57,7 +57,8 @@ pub(crate) fn values_set(
     requires facts { All (InRange parts.now.variables) facts.now }
     ensures known { IfOk result (λ id. id < length ops.new) }
     ensures of_states { IfOk result (IsSetOfStates order.now ops.new) }
-    ensures meaning { IfOk result (Says parts.now order.now ops.new roots.now (λ values. All (HasValue values) facts.now)) }
+    ensures meaning { IfOk result (Says parts.now order.now ops.new roots.now (λ values. All (HasValue values)
+        facts.now)) }
     ensures kept { Keeps ops.old ops.new }
     ensures reduced { IsReduced ops.new }
 {

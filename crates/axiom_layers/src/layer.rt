@@ -85,7 +85,8 @@ fn pass(
     requires order { IsOrderOf parts.now order.now }
     requires roots { AreSets parts.now order.now ops.old roots.old.items }
     requires rules { All (IsCounting parts.now) rules.now }
-    ensures turn { IfOk result (λ _. (layer : ℕ) → AreOfLayer parts.now layer rules.now → EachState parts.now order.now (λ s b.
+    ensures turn { IfOk result (λ _. (layer : ℕ) → AreOfLayer parts.now layer rules.now → EachState parts.now
+        order.now (λ s b.
         PassTurn parts.now layer rules.now (length rules.now) (values_of parts.now ops.old roots.old.items s b)
         (values_of parts.now ops.new roots.new.items s b))) }
     ensures same { IfOk result (λ changed. IsFalse changed → roots.new.items ≡ roots.old.items) }
@@ -117,7 +118,8 @@ pub(crate) fn close_layer(
     requires order { IsOrderOf parts.now order.now }
     requires roots { AreSets parts.now order.now ops.old roots.old.items }
     requires rules { All (IsCounting parts.now) rules.now }
-    ensures closes { IfOk result (λ _. (layer : ℕ) → AreOfLayer parts.now layer rules.now → EachState parts.now order.now (λ s b.
+    ensures closes { IfOk result (λ _. (layer : ℕ) → AreOfLayer parts.now layer rules.now
+        → EachState parts.now order.now (λ s b.
         Closes parts.now layer (values_of parts.now ops.old roots.old.items s b)
         (values_of parts.now ops.new roots.new.items s b))) }
     ensures roots { AreSets parts.now order.now ops.new roots.new.items }

@@ -16,7 +16,8 @@ use var_order::Order;
 pub fn fact_set(ops: &mut Ops, order: &Order, fact: Fact) -> Result<Id, TableFault>
     requires { IsSome (slot_of order.now fact.var) }
     ensures known { IfOk result (λ id. id < length ops.new) }
-    ensures meaning { IfOk result (λ id. (b : Bits) → means ops.new id b ≡ (value_of order.now 0 b fact.var == fact.val)) }
+    ensures meaning { IfOk result (λ id. (b : Bits) → means ops.new id b ≡ (value_of order.now 0 b fact.var ==
+        fact.val)) }
     ensures states { IfOk result (λ id. (s : List ℕ) (b : Bits) → IsCode order.now 0 s b
         → means ops.new id b ≡ (value_in order.now s fact.var == fact.val)) }
     ensures of_states { IfOk result (IsSetOfStates order.now ops.new) }
@@ -31,7 +32,8 @@ pub fn fact_set(ops: &mut Ops, order: &Order, fact: Fact) -> Result<Id, TableFau
 pub fn next_fact_set(ops: &mut Ops, order: &Order, fact: Fact) -> Result<Id, TableFault>
     requires { IsSome (slot_of order.now fact.var) }
     ensures known { IfOk result (λ id. id < length ops.new) }
-    ensures meaning { IfOk result (λ id. (b : Bits) → means ops.new id b ≡ (value_of order.now 1 b fact.var == fact.val)) }
+    ensures meaning { IfOk result (λ id. (b : Bits) → means ops.new id b ≡ (value_of order.now 1 b fact.var ==
+        fact.val)) }
     ensures states { IfOk result (λ id. (s : List ℕ) (b : Bits) → IsCode order.now 1 s b
         → means ops.new id b ≡ (value_in order.now s fact.var == fact.val)) }
     ensures kept { Keeps ops.old ops.new }

@@ -78,7 +78,8 @@ fn bounded(ops: &mut Ops, bit: bool, off: Id, rest: Id) -> Result<Id, TableFault
     requires off { off < length ops.old }
     requires rest { rest < length ops.old }
     ensures known { IfOk result (λ id. id < length ops.new) }
-    ensures meaning { IfOk result (λ id. (b : Bits) → means ops.new id b ≡ (if bit then means ops.old off b || means ops.old rest b else (means ops.old off b && means ops.old rest b))) }
+    ensures meaning { IfOk result (λ id. (b : Bits) → means ops.new id b ≡ (if bit then means ops.old off b ||
+        means ops.old rest b else (means ops.old off b && means ops.old rest b))) }
     ensures kept { Keeps ops.old ops.new }
     ensures reduced { IsReduced ops.new }
 {

@@ -26,7 +26,8 @@ fn moved(ops: &mut Ops, roots: Vec<Id>) -> Result<Vec<Id>, Memory>
     ensures moved { IfOk result (λ places. EachIndex roots.items
         (λ i. IsMoved ops.old ops.new (slice_index roots.items i) (slice_index places.items i))) }
     ensures exact { IfOk result (λ places. (id : ℕ) → 2 ≤ id → id < length ops.new → Reaches ops.new places.items id) }
-    ensures count { IfOk result (λ _. (ids : List ℕ) → AreReached ops.old roots.items ids → length ops.new ≡ length ids + 2) }
+    ensures count { IfOk result (λ _. (ids : List ℕ) → AreReached ops.old roots.items ids → length ops.new ≡
+        length ids + 2) }
     ensures reduced { IsReduced ops.new }
     ensures err { OnErr result (ops.new ≡ ops.old) }
 {

@@ -41,9 +41,11 @@ impl<'a> Model for BddSpace<'a> {
 
     ghost Value = { Symbolic };
 
-    ghost view = { λ a. record { task = a.task.now; order = a.order; nodes = a.ops; own = a.own; relations = a.relations; steps = a.steps; sets = a.sets.slots.items; last = a.last } };
+    ghost view = { λ a. record { task = a.task.now; order = a.order; nodes = a.ops; own = a.own; relations =
+        a.relations; steps = a.steps; sets = a.sets.slots.items; last = a.last } };
 
-    ghost invariant = { λ a. IsSpace (record { task = a.task.now; order = a.order; nodes = a.ops; own = a.own; relations = a.relations; steps = a.steps; sets = a.sets.slots.items; last = a.last }) a.initial };
+    ghost invariant = { λ a. IsSpace (record { task = a.task.now; order = a.order; nodes = a.ops; own = a.own;
+        relations = a.relations; steps = a.steps; sets = a.sets.slots.items; last = a.last }) a.initial };
 }
 
 ghost use Rattle.std.specs.Prelude.{◌≡◌, ◌<◌, ◌↔◌, ℕ, Some, length, IsTrue, IfOk, OnErr};
@@ -69,7 +71,8 @@ impl<'a> BddSpace<'a> {
     pub(crate) fn add(&mut self, id: Id) -> Result<usize, Memory>
         requires { IsKnownSet self.old.order self.old.nodes id }
         ensures kept { Kept (seen self.old) (seen self.new) }
-        ensures ok { IfOk result (Gives (seen self.old) (seen self.new) (λ s. IsTrue (has_state self.old.order self.old.nodes id s))) }
+        ensures ok { IfOk result (Gives (seen self.old) (seen self.new)
+            (λ s. IsTrue (has_state self.old.order self.old.nodes id s))) }
         ensures err { OnErr result (NoMore (seen self.old) (seen self.new)) }
         ensures last { (seen self.new).last ≡ (seen self.old).last }
         ensures task { self.new.task ≡ self.old.task }

@@ -23,7 +23,8 @@ impl Hash for Node {
 
     ghost hash_input = { λ n. fed.u128 (n.level * 2 ^ 64 + n.hi * 2 ^ 32 + n.lo) };
 
-    ghost respects_eq = { λ x y e. ap (λ (n : Node). fed.u128 (n.level * 2 ^ 64 + n.hi * 2 ^ 32 + n.lo)) (node_eq_same x y e) };
+    ghost respects_eq = { λ x y e. ap (λ (n : Node). fed.u128 (n.level * 2 ^ 64 + n.hi * 2 ^ 32 + n.lo))
+        (node_eq_same x y e) };
 
     fn hash<H: Hasher>(&self, state: &mut H) {
         state.write_u128(

@@ -36,8 +36,10 @@ fn place_of(
     requires inner { 2 ≤ id }
     requires known { id < length old.now }
     requires before { length places.now ≡ id }
-    requires lo { is_marked ≡ true → IsMoved old.now new.old (at old.now id).lo (slice_index places.now (at old.now id).lo) }
-    requires hi { is_marked ≡ true → IsMoved old.now new.old (at old.now id).hi (slice_index places.now (at old.now id).hi) }
+    requires lo { is_marked ≡ true → IsMoved old.now new.old (at old.now id).lo
+        (slice_index places.now (at old.now id).lo) }
+    requires hi { is_marked ≡ true → IsMoved old.now new.old (at old.now id).hi
+        (slice_index places.now (at old.now id).hi) }
     requires reduced { IsReduced new.old }
     ensures placed { IfOk result (λ place. is_marked ≡ true → IsPlaced old.now new.old new.new places.now id place) }
     ensures none { IfOk result (λ _. is_marked ≡ false → new.new ≡ new.old) }

@@ -12,3 +12,4 @@ pub mod Rest
 pub mod Opening
 pub mod Giving
 pub mod Ends
+pub mod Landed

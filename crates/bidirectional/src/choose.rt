@@ -95,7 +95,8 @@ impl Choose for Lower {
 impl Choose for Lighter {
     fn forward_next(&mut self, f: u128, b: u128) -> bool
         ensures same { self.new ≡ self.old }
-        ensures lighter { IsTrue result ↔ ((self.old.ahead < self.old.back) ⊎ ((self.old.ahead ≡ self.old.back) × (f ≤ b))) }
+        ensures lighter { IsTrue result ↔ ((self.old.ahead < self.old.back)
+            ⊎ ((self.old.ahead ≡ self.old.back) × (f ≤ b))) }
     {
         if self.ahead == self.back {
             f <= b

@@ -14,7 +14,8 @@ use space_api::{Space, SpaceFault};
 
 /// The first cost from this bound on that has a layer.
 pub(crate) fn cost_from<T: Copy>(layers: &Layers<T>, bound: u128) -> Option<u64>
-    ensures { MatchOption result ((c : ℕ) → bound ≤ c → c < 2 ^ 64 → whole_at layers.now c ≡ None) (λ n. (bound ≤ n) × (n < 2 ^ 64) × ((c : ℕ) → bound ≤ c → c < n → whole_at layers.now c ≡ None)) }
+    ensures { MatchOption result ((c : ℕ) → bound ≤ c → c < 2 ^ 64 → whole_at layers.now c ≡ None)
+        (λ n. (bound ≤ n) × (n < 2 ^ 64) × ((c : ℕ) → bound ≤ c → c < n → whole_at layers.now c ≡ None)) }
 {
     if bound < (1u128 << 64) {
         layers.next_cost(bound as u64)
@@ -47,7 +48,8 @@ pub(crate) fn layer_meets<S: Space>(
     requires front { Held (S.view space.old) front.now }
     requires to { Valid (S.view space.old) to }
     ensures stays { Stays (S.view space.old) (S.view space.new) }
-    ensures ok { IfOk result (λ r. IsTrue r ↔ MeetsBy (S.view space.old).system (Stands (S.view space.old) front.now) (Has (S.view space.old) to) x w) }
+    ensures ok { IfOk result (λ r. IsTrue r ↔ MeetsBy (S.view space.old).system
+        (Stands (S.view space.old) front.now) (Has (S.view space.old) to) x w) }
 {
     match front.layer(x) {
         Some(whole) => Ok(meets_by(space, whole, w, to)?),
@@ -71,7 +73,8 @@ fn least_by<S: Space>(
     requires to { Valid (S.view space.old) to }
     requires range { high ≤ 2 ^ 64 }
     ensures stays { Stays (S.view space.old) (S.view space.new) }
-    ensures ok { IfOk result (IsLeastOf (CrossAt (S.view space.old).system (Stands (S.view space.old) front.now) (Has (S.view space.old) to) b z w) low high) }
+    ensures ok { IfOk result (IsLeastOf (CrossAt (S.view space.old).system
+        (Stands (S.view space.old) front.now) (Has (S.view space.old) to) b z w) low high) }
 {
     let part = w as u128 + z as u128;
     if part < b {
@@ -105,7 +108,8 @@ fn least_into<S: Space>(
     requires to { Valid (S.view space.old) to }
     requires range { high ≤ 2 ^ 64 }
     ensures stays { Stays (S.view space.old) (S.view space.new) }
-    ensures ok { IfOk result (IsLeastOf (CrossBy (S.view space.old).system (Stands (S.view space.old) front.now) (Has (S.view space.old) to) b z) low high) }
+    ensures ok { IfOk result (IsLeastOf (CrossBy (S.view space.old).system
+        (Stands (S.view space.old) front.now) (Has (S.view space.old) to) b z) low high) }
 {
     let mut least = high;
     'costs: for i in 0..space.costs() {
@@ -129,7 +133,8 @@ fn least_at<S: Space>(
     requires back { Held (S.view space.old) back.now }
     requires range { high ≤ 2 ^ 64 }
     ensures stays { Stays (S.view space.old) (S.view space.new) }
-    ensures ok { IfOk result (IsLeastOf (CrossBy (S.view space.old).system (Stands (S.view space.old) front.now) (InLayer (Stands (S.view space.old) back.now) z) b z) low high) }
+    ensures ok { IfOk result (IsLeastOf (CrossBy (S.view space.old).system
+        (Stands (S.view space.old) front.now) (InLayer (Stands (S.view space.old) back.now) z) b z) low high) }
 {
     match back.layer(z) {
         Some(whole) => least_into(space, front, b, z, whole, low, high),
@@ -137,7 +142,19 @@ fn least_at<S: Space>(
     }
 }
 
-/// The least cost from `low` on and below `high` at which layers of both sides meet; `high` where there is none.
+/// The greatest cost of an operator, 0 where there is none.
+fn dearest<S: Space>(space: &S) -> u64
+    ensures { (op : ℕ) → op < (S.view space.now).system.operators → (S.view space.now).system.cost op ≤ result }
+{
+    let mut most = 0;
+    'costs: for i in 0..space.costs() {
+        most = most.max(space.cost_at(i));
+    }
+    most
+}
+
+/// The least cost from `low` on and below `high` at which layers of both sides meet; `high` where there is none. An operator crosses
+/// into no layer that even the dearest one leaves below `b`.
 pub(crate) fn least_cross<S: Space>(
     space: &mut S,
     front: &Layers<S::Set>,
@@ -150,10 +167,11 @@ pub(crate) fn least_cross<S: Space>(
     requires back { Held (S.view space.old) back.now }
     requires range { high ≤ 2 ^ 64 }
     ensures stays { Stays (S.view space.old) (S.view space.new) }
-    ensures ok { IfOk result (IsLeastOf (CrossIn (S.view space.old).system (Stands (S.view space.old) front.now) (Stands (S.view space.old) back.now) b) low high) }
+    ensures ok { IfOk result (IsLeastOf (CrossIn (S.view space.old).system
+        (Stands (S.view space.old) front.now) (Stands (S.view space.old) back.now) b) low high) }
 {
     let mut least = high;
-    let mut next = cost_from(back, 0);
+    let mut next = cost_from(back, b.saturating_sub(dearest(space) as u128));
     'costs: while let Some(z) = next {
         least = least_at(space, front, back, b, z, low, least)?;
         next = cost_after(back, z);

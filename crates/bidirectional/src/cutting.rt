@@ -9,6 +9,7 @@ ghost use Rattle.cost_layers.specs.Layers.{whole_at, Held, Stands};
 ghost use Rattle.bidirectional.specs.Cutting.{LeadsInto, CutsBy, CutsInto, IsFirstOp, IsFirstCut, HasEach};
 
 use crate::crossing::{cost_from, layer_meets};
+use crate::landing::landing;
 use cost_layers::Layers;
 use cost_search::cost_after;
 use space_api::{Space, SpaceFault};
@@ -45,7 +46,8 @@ fn layer_leads<S: Space>(
     requires to { Valid (S.view space.old) to }
     requires op { op < (S.view space.old).system.operators }
     ensures stays { Stays (S.view space.old) (S.view space.new) }
-    ensures ok { IfOk result (λ r. IsTrue r ↔ LeadsInto (S.view space.old).system (Stands (S.view space.old) front.now) (Has (S.view space.old) to) x op) }
+    ensures ok { IfOk result (λ r. IsTrue r ↔ LeadsInto (S.view space.old).system
+        (Stands (S.view space.old) front.now) (Has (S.view space.old) to) x op) }
 {
     match front.layer(x) {
         Some(whole) => Ok(leads_into(space, whole, op, to)?),
@@ -54,7 +56,7 @@ fn layer_leads<S: Space>(
 }
 
 /// The cost before an operator of cost `w`, where what is left is `z`; None where the sums are not those of a cut.
-fn cost_before(cost: u64, b: u128, w: u64, z: u64) -> Option<u64>
+pub(crate) fn cost_before(cost: u64, b: u128, w: u64, z: u64) -> Option<u64>
     ensures { MatchOption result ((x : ℕ) → x + w + z ≡ cost → b ≤ z + w → ⊥) (λ x. (x + w + z ≡ cost) × (b ≤ z + w)) }
 {
     let part = w as u128 + z as u128;
@@ -77,7 +79,9 @@ fn cost_meets<S: Space>(
     requires front { Held (S.view space.old) front.now }
     requires to { Valid (S.view space.old) to }
     ensures stays { Stays (S.view space.old) (S.view space.new) }
-    ensures ok { IfOk result (λ r. (op : ℕ) → (S.view space.old).system.cost op ≡ w → CutsBy (S.view space.old).system (Stands (S.view space.old) front.now) (Has (S.view space.old) to) cost b z op → IsTrue r) }
+    ensures ok { IfOk result (λ r. (op : ℕ) → (S.view space.old).system.cost op ≡ w
+        → CutsBy (S.view space.old).system (Stands (S.view space.old) front.now) (Has (S.view space.old) to)
+        cost b z op → IsTrue r) }
 {
     match cost_before(cost, b, w, z) {
         Some(x) => layer_meets(space, front, x, w, to),
@@ -98,7 +102,8 @@ fn meeting_costs<S: Space>(
     requires front { Held (S.view space.old) front.now }
     requires to { Valid (S.view space.old) to }
     ensures stays { Stays (S.view space.old) (S.view space.new) }
-    ensures ok { IfOk result (λ costs. HasEach (S.view space.old).system (Stands (S.view space.old) front.now) (Has (S.view space.old) to) cost b z costs.items) }
+    ensures ok { IfOk result (λ costs. HasEach (S.view space.old).system (Stands (S.view space.old) front.now)
+        (Has (S.view space.old) to) cost b z costs.items) }
 {
     let mut costs = Vec::new(alloc);
     'costs: for i in 0..space.costs() {
@@ -124,9 +129,11 @@ fn op_cuts<S: Space>(
     requires front { Held (S.view space.old) front.now }
     requires to { Valid (S.view space.old) to }
     requires op { op < (S.view space.old).system.operators }
-    requires costs { HasEach (S.view space.old).system (Stands (S.view space.old) front.now) (Has (S.view space.old) to) cost b z costs.now }
+    requires costs { HasEach (S.view space.old).system (Stands (S.view space.old) front.now)
+        (Has (S.view space.old) to) cost b z costs.now }
     ensures stays { Stays (S.view space.old) (S.view space.new) }
-    ensures ok { IfOk result (λ r. IsTrue r ↔ CutsBy (S.view space.old).system (Stands (S.view space.old) front.now) (Has (S.view space.old) to) cost b z op) }
+    ensures ok { IfOk result (λ r. IsTrue r ↔ CutsBy (S.view space.old).system
+        (Stands (S.view space.old) front.now) (Has (S.view space.old) to) cost b z op) }
 {
     let w = space.cost_of(op);
     if !costs.contains(&w) {
@@ -139,6 +146,57 @@ fn op_cuts<S: Space>(
 }
 
 /// The first operator from this one on that crosses into the set at this cost; none is tried that leads into no state of it.
+fn first_among<S: Space>(
+    alloc: Global,
+    space: &mut S,
+    front: &Layers<S::Set>,
+    cost: u64,
+    b: u128,
+    z: u64,
+    from: u64,
+    to: S::Set,
+) -> Result<Option<u32>, SpaceFault>
+    requires front { Held (S.view space.old) front.now }
+    requires to { Valid (S.view space.old) to }
+    ensures stays { Stays (S.view space.old) (S.view space.new) }
+    ensures ok { IfOk result (IsFirstOp (S.view space.old).system (Stands (S.view space.old) front.now)
+        (Has (S.view space.old) to) cost b z from) }
+{
+    let costs = meeting_costs(alloc, space, front, cost, b, z, to)?;
+    let ops = space.operators_into(alloc, to)?;
+    'operators: for op in &ops {
+        if from <= *op as u64 && op_cuts(space, front, cost, b, z, *op, &costs, to)? {
+            return Ok(Some(*op));
+        }
+    }
+    Ok(None)
+}
+
+/// The same; no operator is asked for where the set has no state.
+fn first_landed<S: Space>(
+    alloc: Global,
+    space: &mut S,
+    front: &Layers<S::Set>,
+    cost: u64,
+    b: u128,
+    z: u64,
+    from: u64,
+    to: S::Set,
+) -> Result<Option<u32>, SpaceFault>
+    requires front { Held (S.view space.old) front.now }
+    requires to { Valid (S.view space.old) to }
+    ensures stays { Stays (S.view space.old) (S.view space.new) }
+    ensures ok { IfOk result (IsFirstOp (S.view space.old).system (Stands (S.view space.old) front.now)
+        (Has (S.view space.old) to) cost b z from) }
+{
+    if space.is_empty(to) {
+        return Ok(None);
+    }
+    first_among(alloc, space, front, cost, b, z, from, to)
+}
+
+/// The first operator from this one on that crosses into the set at this cost. It is looked for among those that lead into the
+/// states of the set into which some operator crosses, which are few.
 fn first_op<S: Space>(
     alloc: Global,
     space: &mut S,
@@ -152,16 +210,13 @@ fn first_op<S: Space>(
     requires front { Held (S.view space.old) front.now }
     requires to { Valid (S.view space.old) to }
     ensures stays { Stays (S.view space.old) (S.view space.new) }
-    ensures ok { IfOk result (IsFirstOp (S.view space.old).system (Stands (S.view space.old) front.now) (Has (S.view space.old) to) cost b z from) }
+    ensures ok { IfOk result (IsFirstOp (S.view space.old).system (Stands (S.view space.old) front.now)
+        (Has (S.view space.old) to) cost b z from) }
 {
-    let costs = meeting_costs(alloc, space, front, cost, b, z, to)?;
-    let ops = space.operators_into(alloc, to)?;
-    'operators: for op in &ops {
-        if from <= *op as u64 && op_cuts(space, front, cost, b, z, *op, &costs, to)? {
-            return Ok(Some(*op));
-        }
-    }
-    Ok(None)
+    let landed = landing(space, front, cost, b, z, to)?;
+    let first = first_landed(alloc, space, front, cost, b, z, from, landed);
+    space.forget(landed);
+    first
 }
 
 /// The same, into the backward layer of this cost.
@@ -178,7 +233,8 @@ fn first_into<S: Space>(
     requires front { Held (S.view space.old) front.now }
     requires back { Held (S.view space.old) back.now }
     ensures stays { Stays (S.view space.old) (S.view space.new) }
-    ensures ok { IfOk result (IsFirstOp (S.view space.old).system (Stands (S.view space.old) front.now) (InLayer (Stands (S.view space.old) back.now) z) cost b z from) }
+    ensures ok { IfOk result (IsFirstOp (S.view space.old).system (Stands (S.view space.old) front.now)
+        (InLayer (Stands (S.view space.old) back.now) z) cost b z from) }
 {
     match back.layer(z) {
         Some(whole) => first_op(alloc, space, front, cost, b, z, from, whole),
@@ -207,7 +263,8 @@ pub(crate) fn first_cross<S: Space>(
     requires front { Held (S.view space.old) front.now }
     requires back { Held (S.view space.old) back.now }
     ensures stays { Stays (S.view space.old) (S.view space.new) }
-    ensures ok { IfOk result (IsFirstCut (S.view space.old).system (Stands (S.view space.old) front.now) (Stands (S.view space.old) back.now) cost b first from) }
+    ensures ok { IfOk result (IsFirstCut (S.view space.old).system (Stands (S.view space.old) front.now)
+        (Stands (S.view space.old) back.now) cost b first from) }
 {
     let mut next = cost_from(back, first as u128);
     'costs: while let Some(z) = next {

@@ -19,6 +19,7 @@ mod choose;
 mod crossing;
 mod cutting;
 mod iterating;
+mod landing;
 mod passing;
 mod search;
 mod sides;

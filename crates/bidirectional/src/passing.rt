@@ -28,7 +28,8 @@ fn layer_passes<S: Space>(
     requires layers { Held (S.view space.old) layers.now }
     requires set { Valid (S.view space.old) set }
     ensures stays { Stays (S.view space.old) (S.view space.new) }
-    ensures ok { IfOk result (λ r. IsTrue r ↔ Escapes (seen_from side (S.view space.old).system) (2 ^ 64 - cost) (InLayer (Stands (S.view space.old) layers.now) cost) (Has (S.view space.old) set)) }
+    ensures ok { IfOk result (λ r. IsTrue r ↔ Escapes (seen_from side (S.view space.old).system)
+        (2 ^ 64 - cost) (InLayer (Stands (S.view space.old) layers.now) cost) (Has (S.view space.old) set)) }
 {
     match layers.layer(cost) {
         Some(whole) => escapes(space, side, (1u128 << 64) - cost as u128, whole, set),
@@ -46,7 +47,8 @@ pub(crate) fn passes<S: Space>(
     requires layers { Held (S.view space.old) layers.now }
     requires set { Valid (S.view space.old) set }
     ensures stays { Stays (S.view space.old) (S.view space.new) }
-    ensures ok { IfOk result (λ r. IsTrue r ↔ SeesDearer side (S.view space.old).system (Stands (S.view space.old) layers.now) (Has (S.view space.old) set)) }
+    ensures ok { IfOk result (λ r. IsTrue r ↔ SeesDearer side (S.view space.old).system
+        (Stands (S.view space.old) layers.now) (Has (S.view space.old) set)) }
 {
     let mut next = cost_from(layers, 0);
     'costs: while let Some(cost) = next {

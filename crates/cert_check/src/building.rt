@@ -30,7 +30,8 @@ fn node_set(
     requires hi { node.hi < length ids.now }
     ensures known { IfOk result (λ id. id < length ops.new) }
     ensures meaning { IfOk result (λ id. (b : Bits) → means ops.new id b
-        ≡ (if b (level_at 0 (slice_index places.now node.bit)) then means ops.old (slice_index ids.now node.hi) b else means ops.old (slice_index ids.now node.lo) b)) }
+        ≡ (if b (level_at 0 (slice_index places.now node.bit)) then means ops.old
+        (slice_index ids.now node.hi) b else means ops.old (slice_index ids.now node.lo) b)) }
     ensures kept { Keeps ops.old ops.new }
     ensures reduced { IsReduced ops.new }
 {

@@ -74,5 +74,6 @@ pub fn read_cert(alloc: Global, width: u32, bytes: &[u8]) -> Result<Certificate,
 
 /// The lines of a certificate's text are those of one certificate alone.
 pub fn text_states_one_certificate()
-    ensures { (width : ℕ) (lines : List (List ℕ)) (one other : Certificate) → width < 2 ^ 64 → IsCertOf width lines one → IsCertOf width lines other → one ≡ other }
+    ensures { (width : ℕ) (lines : List (List ℕ)) (one other : Certificate) → width < 2 ^ 64
+        → IsCertOf width lines one → IsCertOf width lines other → one ≡ other }
 {}

@@ -84,7 +84,8 @@ pub fn rebuilt(
     requires known { root < length old.now }
     requires small { AreSmall indexes.now }
     ensures known { IfOk result (λ new. new < length ops.new) }
-    ensures meaning { IfOk result (λ new. (b : Bits) → means ops.new new b ≡ means old.now root (spread indexes.now b)) }
+    ensures meaning { IfOk result (λ new. (b : Bits) → means ops.new new b ≡ means old.now root
+        (spread indexes.now b)) }
     ensures kept { Keeps ops.old ops.new }
     ensures reduced { IsReduced ops.new }
 {

@@ -8,5 +8,6 @@ ghost use Rattle.cert_run.specs.Proofs.{IsUnsolvable, Refutes};
 
 /// What may come as a refutation comes of tasks alone that have no plan, whoever wrote the certificate.
 pub fn refuted_tasks_have_no_plan()
-    ensures { (task : TaskParts) (bytes text : Bytes) → Fits task → Refutes task bytes Refuted text → IsUnsolvable task }
+    ensures { (task : TaskParts) (bytes text : Bytes) → Fits task → Refutes task bytes Refuted text
+        → IsUnsolvable task }
 {}

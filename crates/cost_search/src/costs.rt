@@ -15,7 +15,8 @@ use space_api::{Space, SpaceFault, meets};
 ///
 /// Public, so that who walks the layers of a search, as both its sides together do, need not prove it again.
 pub fn cost_after<T: Copy>(layers: &Layers<T>, cost: u64) -> Option<u64>
-    ensures { MatchOption result ((c : ℕ) → cost < c → c < 2 ^ 64 → whole_at layers.now c ≡ None) (λ n. (cost < n) × (n < 2 ^ 64) × ((c : ℕ) → cost < c → c < n → whole_at layers.now c ≡ None)) }
+    ensures { MatchOption result ((c : ℕ) → cost < c → c < 2 ^ 64 → whole_at layers.now c ≡ None)
+        (λ n. (cost < n) × (n < 2 ^ 64) × ((c : ℕ) → cost < c → c < n → whole_at layers.now c ≡ None)) }
 {
     if cost == u64::MAX {
         None

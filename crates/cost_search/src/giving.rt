@@ -25,7 +25,8 @@ fn give_back_ring<S: Space>(space: &mut S, layers: &Layers<S::Set>, cost: u64, i
 fn give_back_rings<S: Space>(space: &mut S, layers: &Layers<S::Set>, cost: u64)
     requires valid { (a : S.Set) → IsKeptAt layers.now cost a → Valid (S.view space.old) a }
     requires once { AreOnce layers.now }
-    ensures { Trades (S.view space.old) (S.view space.new) (λ a. (i : ℕ) × IsRing (rings_at layers.now) cost i a) (λ a. ⊥) }
+    ensures { Trades (S.view space.old) (S.view space.new) (λ a. (i : ℕ) × IsRing (rings_at layers.now) cost i
+        a) (λ a. ⊥) }
 {
     'rings: for i in 0..layers.rings(cost) {
         give_back_ring(space, layers, cost, i);
@@ -35,7 +36,8 @@ fn give_back_rings<S: Space>(space: &mut S, layers: &Layers<S::Set>, cost: u64)
 /// Gives the union of one cost back, where it is no ring.
 fn give_back_whole<S: Space>(space: &mut S, layers: &Layers<S::Set>, cost: u64)
     requires { (a : S.Set) → IsWhole (rings_at layers.now) (whole_at layers.now) cost a → Valid (S.view space.old) a }
-    ensures { Trades (S.view space.old) (S.view space.new) (IsWhole (rings_at layers.now) (whole_at layers.now) cost) (λ a. ⊥) }
+    ensures { Trades (S.view space.old) (S.view space.new)
+        (IsWhole (rings_at layers.now) (whole_at layers.now) cost) (λ a. ⊥) }
 {
     if layers.rings(cost) > 1
         && let Some(whole) = layers.layer(cost)

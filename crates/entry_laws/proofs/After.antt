@@ -9,10 +9,6 @@ use Rattle.entry_laws.proofs.Sums.{sum_zero, sum_one, differ, alike}
 same_test : (a b : ℕ) → eqb a b ≡ eqb b a
 same_test a b = grind (arith, nat_tests)
 
-off_rest : (c a : Bool) (n : Bool) → c ≡ false → ind (a && (c && n)) ≡ 0
-off_rest c true n e = rw e refl
-off_rest c false n e = refl
-
 kept_test : (w r c : ℕ) (ok : Bool) → (w + r ≡ c → ok ≡ true) → (ok ≡ true → w ≤ c) → (ok && eqb r (c - w)) ≡ eqb (w + r) c
 kept_test w r c true there fits = let le : w ≤ c = fits refl in grind (arith, nat_tests)
 kept_test w r c false there fits = sym (no (w + r) c (λ e. let f : false ≡ true = there e in cc))

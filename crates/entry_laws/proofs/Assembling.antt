@@ -1,5 +1,5 @@
 -- A turn out of what its expansion gives.
-use Rattle.std.proofs.Common.{◌≡◌, ℕ, ◌+◌, ◌^◌, ◌<◌, inl, inr, Bool, true, false, ◌&&◌, eqb, List, [], ◌∷◌, ◌++◌, length, refl, ◌∙◌, ap, subst, arith}
+use Rattle.std.proofs.Common.{◌≡◌, ℕ, ◌+◌, ◌<◌, inl, inr, Bool, true, false, ◌&&◌, eqb, List, [], ◌∷◌, ◌++◌, length, refl, ◌∙◌, ap, subst, arith}
 use Rattle.std.specs.List.{AllByRecursion}
 use Rattle.task_system.specs.System.{State, System, IsPlan}
 use Rattle.entry_laws.specs.Counts.{ind, begins}
@@ -98,10 +98,6 @@ tail_some y front back f b listed tab cost ring ops level falling st s off = eli
 begun_counts : (a : Bool) → a ≡ (a && true)
 begun_counts true = refl
 begun_counts false = refl
-
--- the suffix that begins where a prefix is whole
-pub begins_low : (has : State → Bool) (ring : ℕ) (ops : List ℕ) (after ring2 : ℕ) → after < 2 ^ 64 → ring2 < 2 ^ 64 → height (Tail after ring2 ops) < height (Head has 0 ring ops after)
-begins_low has ring ops after ring2 a b = omega (arith, a, b)
 
 pub begins_same : (y : System) (has : State → Bool) (ring : ℕ) (ops : List ℕ) (after ring2 : ℕ) (p : List ℕ) → has y.initial ≡ true → entry_hits y (Tail after ring2 ops) p ≡ begun_hits y (Head has 0 ring ops after) p
 begins_same y has ring ops after ring2 p h = rw h (ap ind (begun_counts (begins y ops after p)))

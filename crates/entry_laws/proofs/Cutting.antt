@@ -77,17 +77,9 @@ spots y cost test d (op ∷ p) = ind (test (op ∷ p) && eqb d cost) + spots y c
 off : (a b : ℕ) → (a ≡ b → ⊥) → eqb a b ≡ false
 off a b n = grind (arith, nat_tests)
 
-and_off : (a b : Bool) → (a && (false && b)) ≡ false
-and_off true b = refl
-and_off false b = refl
-
 shift : (a b c : Bool) → ((a && b) && c) ≡ (a && (b && c))
 shift true b c = refl
 shift false b c = refl
-
-and_no : (a b : Bool) → b ≡ false → ind ((a && b) && false) ≡ 0
-and_no true b e = rw e refl
-and_no false b e = refl
 
 miss : (a b c : Bool) → b ≡ false → ind ((a && b) && c) ≡ 0
 miss true b c e = rw e refl

@@ -6,7 +6,7 @@ use Rattle.run_graph.specs.Reached.{ReachedAt, ToGoalAt, Useful}
 use Rattle.entry_laws.proofs.Ends.{fwd_of_ends, fwd_more, bwd_more}
 use Rattle.entry_laws.specs.Counts.{ind, at_some, begins}
 use Rattle.entry_laws.specs.Cuts.{IsCut, cut_of, same_cut}
-use Rattle.entry_laws.specs.Entries.{Plain, Head, Tail, FwdIn, BwdIn, Tables, into, onto, entry_hits, Stands, places, Lawful, zeros}
+use Rattle.entry_laws.specs.Entries.{Plain, Head, Tail, FwdIn, BwdIn, Tables, into, onto, entry_hits, Stands, places, zeros}
 use Rattle.plan_cuts.specs.declared.Cut.{Cut}
 use Rattle.plan_cuts.specs.declared.Cut.TheVariants.{Cross}
 use Rattle.entry_laws.proofs.Cutting.{falsum, leb_yes, Meeting, hits_spots, drawn_spots}
@@ -121,27 +121,8 @@ module _ (y : System) (front back : ℕ → State → Bool) (f b : ℕ) (tab : T
       ] in
       inr (k, zeros y p, t, lead.number, ok, joined y ops (k ∷ []) y.initial s t run (t, lead, refl), (p, u, rest, goal, left, refl), fall)
 
--- narrowing in the middle of a listing
-pub narrow_lawful : (y : System) (front back : ℕ → State → Bool) (f b listed : ℕ) (queue : List Plain) (undrawn : Cut → Bool) (u : State → Bool) → ((s : State) → Useful y s → u s ≡ true) → Lawful y front back f b listed queue undrawn → Lawful y (λ c s. front c s && u s) (λ c s. back c s && u s) f b listed queue undrawn
-narrow_lawful y front back f b listed queue undrawn u all ok = record {
-  tables = narrowed y front back f b ok.tables u all;
-  stands = ok.stands;
-  once = ok.once;
-}
-
 rebuilt : (y : System) (front back : ℕ → State → Bool) (u : State → Bool) (d op r : ℕ) (s t : State) → front d s ≡ true → u s ≡ true → y.step op s ≡ Some t → back r t ≡ true → u t ≡ true → meeting y (λ c x. front c x && u x) (λ c x. back c x && u x) d op r s ≡ true
 rebuilt y front back u d op r s t a e step h k = rw (step, a, e, h, k) refl
-
--- both meet in the same states before and after
-pub meeting_same : (y : System) (front back : ℕ → State → Bool) (f b : ℕ) (tab : Tables y front back f b) (u : State → Bool) → ((s : State) → Useful y s → u s ≡ true) → (d op r : ℕ) (s : State) → op < y.operators → d < f → r < b → meeting y front back d op r s ≡ true → meeting y (λ c x. front c x && u x) (λ c x. back c x && u x) d op r s ≡ true
-meeting_same y front back f b tab u all d op r s number low near h =
-    let m = both _ _ h in
-    let g = tab.front_sound d s low m.0 in
-    let t = led y op s (back r) (y.step op s) number refl m.1 in
-    let e = tab.back_sound r t.0 near t.1 in
-    let serves : Useful y s = record { before = (d, g); after = (y.cost op + r, bwd_more y r op s t.0 t.2 e) } in
-    let used : Useful y t.0 = record { before = (d + y.cost op, fwd_more y d op s t.0 g t.2); after = (r, e) } in
-    rebuilt y front back u d op r s t.0 m.0 (all s serves) t.2.step t.1 (all t.0 used)
 
 spent : (a c : Bool) (x : Bool) → (c ≡ true → a ≡ true) → x ≡ (a && not c) → ind c + ind x ≡ ind a
 spent true true x h e = rw e (omega arith)

@@ -174,18 +174,6 @@ next_lawful y front back f b cost tables = record { tables = tables; stands = tt
 below_or : (a c : ℕ) → (a < c) ⊎ (c ≤ a)
 below_or a c = grind arith
 
--- what is owed where nothing is left of the cost that is listed
-abbrev pub Rested : System → ℕ → Option ℕ → List ℕ → Type 0
-Rested y b None p = IsPlan y p
-Rested y b (Some cost) p = Owed y b cost [] (undrawn false None) p
-
-pub rested_above : (y : System) (b : ℕ) (listed : Option ℕ) (p : List ℕ) → Rested y b listed p ↔ Above y listed p
-rested_above y b None p = ((λ h. h), (λ h. h))
-rested_above y b (Some c) p = (
-  (λ h. elim h.1 [ inl a ↦ (h.0, a) | inr k ↦ absurd (omega (arith, k.1)) ]),
-  (λ h. (h.0, inl h.1)),
-)
-
 same_or : (a c : ℕ) → c ≤ a → (c < a) ⊎ (a ≡ c)
 same_or a c h = grind arith
 

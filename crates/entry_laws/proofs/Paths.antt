@@ -2,11 +2,11 @@
 use Rattle.std.proofs.Common.{◌≡◌, ℕ, ◌+◌, ◌<◌, ◌≤◌, Bool, true, false, ◌&&◌, eqb, leb, ◌⊎◌, inl, inr, List, [], ◌∷◌, ◌++◌, Option, Some, None, refl, sym, ◌∙◌, ap, subst, arith, eq-eqb}
 use Rattle.std.proofs.lemmas.Bool.Decides.{nat_tests}
 use Rattle.std.proofs.lemmas.Bool.{eqb-true}
-use Rattle.task_system.specs.System.{State, System, Leads, Runs, cost_of}
+use Rattle.task_system.specs.System.{State, System, Leads, Runs}
 use Rattle.run_graph.specs.Reached.{ReachedAt, ToGoalAt}
 use Rattle.entry_laws.proofs.Ends.{fwd_of_ends}
 use Rattle.task_system.specs.System.{are_equal}
-use Rattle.entry_laws.specs.Counts.{ind, on_some, at_some, begins, hits}
+use Rattle.entry_laws.specs.Counts.{ind, on_some, at_some}
 use Rattle.entry_laws.specs.Entries.{reach, FwdIn, BwdIn}
 use Rattle.entry_laws.proofs.Cutting.{falsum}
 
@@ -66,18 +66,6 @@ fwd_in y c n s (q, ends, cost, z) = subst (λ (k : ℕ). ReachedAt y k s) cost (
 pub bwd_in : (y : System) (c n : ℕ) (s : State) → BwdIn y c n s → ToGoalAt y c s
 bwd_in y c n s (p, t, run, goal, cost, z) = (p, t, run, goal, cost)
 
-pub begins_cost : (y : System) (ops : List ℕ) (after : ℕ) (p : List ℕ) → begins y ops after p ≡ true → cost_of y p ≡ cost_of y ops + after
-begins_cost y [] after p h = omega (arith, eqb-true (cost_of y p) after h)
-begins_cost y (o ∷ ops) after [] h = absurd (falsum h)
-begins_cost y (o ∷ ops) after (a ∷ p) h =
-    let b = both (eqb a o) (begins y ops after p) h in
-    let w : y.cost a ≡ y.cost o = ap y.cost (eqb-true a o b.0) in
-    omega (arith, w, begins_cost y ops after p b.1)
-
-pub begins_with : (y : System) (ops r : List ℕ) → begins y ops (cost_of y r) (ops ++ r) ≡ true
-begins_with y [] r = eq-eqb _ _ refl
-begins_with y (o ∷ ops) r = rw (eq-eqb o o refl) (begins_with y ops r)
-
 one_of : (a b : ℕ) → 0 < a + b → (0 < a) ⊎ (0 < b)
 one_of a b h = grind arith
 
@@ -85,30 +73,5 @@ later : (o : Option State) (f : State → ℕ) (x z : ℕ) → ((t : State) → 
 later None f x z ih h = absurd (omega arith)
 later (Some t) f x z ih h = ih t h
 
-here_cost : (y : System) (has : State → Bool) (cost : ℕ) (ops : List ℕ) (after d : ℕ) (s : State) (p : List ℕ) → 0 < ind (begins y ops after p && (eqb d cost && has s)) → d + cost_of y p ≡ cost + cost_of y ops + after
-here_cost y has cost ops after d s p h =
-    let b = both _ _ (counted (begins y ops after p && (eqb d cost && has s)) h) in
-    let e : d ≡ cost = eqb-true d cost (both _ _ b.1).0 in
-    omega (arith, e, begins_cost y ops after p b.0)
-
--- a hit says what the plan costs
-pub hit_cost : (y : System) (has : State → Bool) (cost : ℕ) (ops : List ℕ) (after d : ℕ) (s : State) (p : List ℕ) → 0 < hits y has cost (begins y ops after) d s p → d + cost_of y p ≡ cost + cost_of y ops + after
-hit_cost y has cost ops after d s [] h = here_cost y has cost ops after d s [] h
-hit_cost y has cost ops after d s (op ∷ p) h = elim (one_of _ _ h) [
-  | inl a ↦ here_cost y has cost ops after d s (op ∷ p) a
-  | inr b ↦ later (y.step op s) (λ t. hits y has cost (begins y ops after) (d + y.cost op) t p) (d + (y.cost op + cost_of y p)) (cost + cost_of y ops + after) (λ t k. omega (arith, hit_cost y has cost ops after (d + y.cost op) t p k)) b
-]
-
 both_true : (a b c : Bool) → a ≡ true → b ≡ true → c ≡ true → 0 < ind (a && (b && c))
 both_true a b c e f g = rw (e, f, g) (omega arith)
-
-first_hit : (y : System) (has : State → Bool) (cost : ℕ) (test : List ℕ → Bool) (d : ℕ) (s : State) (p : List ℕ) → test p ≡ true → has s ≡ true → d ≡ cost → 0 < hits y has cost test d s p
-first_hit y has cost test d s [] t h e = both_true _ _ _ t (eq-eqb d cost e) h
-first_hit y has cost test d s (op ∷ p) t h e = omega (arith, both_true _ _ _ t (eq-eqb d cost e) h)
-
--- a run to a member that goes on as wanted is a hit
-pub hits_found : (y : System) (has : State → Bool) (cost : ℕ) (test : List ℕ → Bool) (q r : List ℕ) (d : ℕ) (s t : State) → Runs y s q t → has t ≡ true → test r ≡ true → d + cost_of y q ≡ cost → 0 < hits y has cost test d s (q ++ r)
-hits_found y has cost test [] r d s t run h g e = first_hit y has cost test d s r g (subst (λ (x : State). has x ≡ true) (sym run) h) (omega (arith, e))
-hits_found y has cost test (op ∷ q) r d s t (m, leads, run) h g e =
-    let more = hits_found y has cost test q r (d + y.cost op) m t run h g (omega (arith, e)) in
-    rw leads.step (omega (arith, more))

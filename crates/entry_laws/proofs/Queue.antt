@@ -9,7 +9,7 @@ use Rattle.entry_laws.specs.Counts.{ind}
 use Rattle.entry_laws.specs.Entries.{Plain, Head, Tail, Tables, total, Stands, Follows, Done, height, weight, Goes, Gives, places, Owed, Lawful}
 use Rattle.plan_cuts.specs.declared.Cut.{Cut}
 use Rattle.entry_laws.proofs.Paths.{either, equal_is, equal_self}
-use Rattle.entry_laws.proofs.Splitting.{open_splits, done_splits, follows_stand, entry_cost}
+use Rattle.entry_laws.proofs.Splitting.{open_splits, done_splits, follows_stand}
 
 pub total_append : (y : System) (es fs : List Plain) (p : List ℕ) → total y (es ++ fs) p ≡ total y es p + total y fs p
 total_append y [] fs p = omega arith
@@ -48,14 +48,6 @@ module _ (y : System) (front back : ℕ → State → Bool) (f b listed : ℕ) (
   each_stands : (e : Plain) (es : List Plain) → Tables y front back f b → Stands y f b listed e → AllByRecursion (Follows y front back e) es → AllByRecursion (Stands y f b listed) es
   each_stands e [] tab st a = tt
   each_stands e (c ∷ es) tab st a = (follows_stand y front back f b listed tab e c st a.0, each_stands e es tab st a.1)
-
-  -- what extends an entry costs what is being listed
-  total_cost : (es : List Plain) (q : List ℕ) → Tables y front back f b → AllByRecursion (Stands y f b listed) es → 0 < total y es q → cost_of y q ≡ listed
-  total_cost [] q tab a h = absurd (omega arith)
-  total_cost (e ∷ es) q tab a h = elim (one_of _ _ h) [
-    | inl k ↦ entry_cost y front back f b listed tab e q a.0 k
-    | inr k ↦ total_cost es q tab a.1 k
-  ]
 
   module _ (old new : List Plain) (ok : Lawful y front back f b listed old undrawn) where
     -- a turn that puts what follows in the place of an entry

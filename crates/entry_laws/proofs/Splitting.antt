@@ -10,7 +10,7 @@ use Rattle.entry_laws.specs.Entries.{Plain, Head, Tail, Tables, into, onto, entr
 use Rattle.entry_laws.proofs.Cutting.{cost_append, leb_yes}
 use Rattle.entry_laws.proofs.Before.{Along, splits}
 use Rattle.entry_laws.proofs.After.{Covers, after_splits}
-use Rattle.entry_laws.proofs.Paths.{some_is, both, either, counted, le_of, equal_is, reach_run, run_one, joined, parted, led, begins_cost, begins_with, hit_cost, hits_found}
+use Rattle.entry_laws.proofs.Paths.{some_is, both, either, le_of, equal_is, reach_run, run_one, parted, led}
 
 ne : (d cost : ℕ) → (d ≡ cost → ⊥) → eqb d cost ≡ false
 ne d cost n = grind (arith, nat_tests)
@@ -124,20 +124,3 @@ module _ (y : System) (front back : ℕ → State → Bool) (f b listed : ℕ) (
   follows_stand (Tail cost ring ops) (Tail cost2 ring2 ops2) st (inr x) = absurd x
   follows_stand (Tail cost ring ops) (Head has2 cost2 ring2 ops2 after2) st (inl (k, x)) = absurd x
   follows_stand (Tail cost ring ops) (Head has2 cost2 ring2 ops2 after2) st (inr x) = absurd x
-
-  pub entry_cost : (e : Plain) (p : List ℕ) → Stands y f b listed e → 0 < entry_hits y e p → cost_of y p ≡ listed
-  entry_cost (Head has cost ring ops after) p st h = omega (arith, hit_cost y has cost ops after 0 y.initial p h, st.3)
-  entry_cost (Tail cost ring ops) p st h = omega (arith, begins_cost y ops cost p (counted _ h), st.1)
-
-  -- each entry has a plan
-  pub entry_plan : (e : Plain) → Stands y f b listed e → (p : List ℕ) × IsPlan y p × (0 < entry_hits y e p)
-  entry_plan (Head has cost ring ops after) ((s, member, into_s), sound, leads, costs, low, near) =
-      let q = sound s member in
-      let m = leads s member in
-      let r = m.2 in
-      let rest = ops ++ r.0 in
-      let test : begins y ops after rest ≡ true = subst (λ (c : ℕ). begins y ops c rest ≡ true) r.4 (begins_with y ops r.0) in
-      (q.0 ++ rest, (r.1, joined y q.0 rest y.initial s r.1 q.1 (joined y ops r.0 s m.0 r.1 m.1 r.2), r.3), hits_found y has cost (begins y ops after) q.0 rest 0 y.initial s q.1 member test (omega (arith, q.2)))
-  entry_plan (Tail cost ring ops) ((s, run, r), costs, near) =
-      let test : begins y ops cost (ops ++ r.0) ≡ true = subst (λ (c : ℕ). begins y ops c (ops ++ r.0) ≡ true) r.4 (begins_with y ops r.0) in
-      (ops ++ r.0, (r.1, joined y ops r.0 y.initial s r.1 run r.2, r.3), rw test (omega arith))

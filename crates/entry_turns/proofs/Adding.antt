@@ -1,16 +1,16 @@
 -- A child is put with the others.
-use Rattle.std.proofs.Common.{◌≡◌, ℕ, ◌+◌, ◌-◌, ◌<◌, ◌≤◌, ◌⊎◌, ◌^◌, inl, inr, List, [], ◌∷◌, ◌++◌, Some, Result, Ok, Err, OnOk, refl, sym, ◌∙◌, ap, subst, arith}
+use Rattle.std.proofs.Common.{◌≡◌, ℕ, ◌-◌, ◌<◌, ◌≤◌, ◌⊎◌, ◌^◌, inl, inr, List, [], ◌∷◌, ◌++◌, Some, Result, Ok, Err, OnOk, refl, sym, ◌∙◌, ap, subst, arith}
 use Rattle.std.specs.List.{AllByRecursion}
-use Rattle.task_system.specs.System.{State, System}
-use Rattle.space_api.specs.View.{View, Valid, Has}
-use Rattle.space_api.specs.Frames.{Kept, Stays, Forgot}
+use Rattle.task_system.specs.System.{State}
+use Rattle.space_api.specs.View.{View}
+use Rattle.space_api.specs.Frames.{Kept, Stays}
 use Rattle.space_api.proofs.Keeping.{kept_trans}
 use Rattle.cost_layers.specs.Layers.{whole_at, Held}
 use Rattle.cost_layers.specs.declared.layers.Layers.{Layers}
 use Rattle.entry_laws.specs.Entries.{Plain, IsChild}
-use Rattle.entry_laws.specs.Growing.{Added, NoChild}
+use Rattle.entry_laws.specs.Growing.{Added}
 use Rattle.entry_laws.proofs.Adding.{rest_of, ring_of, added_none, added_falls, added_level, child_lower}
-use Rattle.entry_turns.specs.Entries.{set_in, cost_in, ring_in, plain, plains, EntryOk, Makes, member_in, Ready}
+use Rattle.entry_turns.specs.Entries.{set_in, cost_in, ring_in, plain, plains, EntryOk, member_in}
 use Rattle.entry_turns.specs.Ways.{IsNew, IsChildSet, Joins, side_for, IsBarren}
 use Rattle.entry_turns.specs.Grown.{IsGrown, IsPut, GrowsInto, MakesOn, AddsChild}
 use Rattle.entry_turns.specs.declared.entries.Entry.{Entry}

@@ -1,14 +1,14 @@
 -- Where an operator doesn't lead on there is no child.
-use Rattle.std.proofs.Common.{◌≡◌, ℕ, ◌+◌, ◌-◌, ◌<◌, ◌≤◌, ◌⊎◌, ◌↔◌, inl, inr, Bool, true, false, ◌&&◌, leb, List, [], ◌∷◌, ◌++◌, Option, Some, None, refl, sym, ◌∙◌, ap, subst, arith}
-use Rattle.task_system.specs.System.{State, System, Leads, Runs}
-use Rattle.space_api.specs.View.{View, Valid, Has}
+use Rattle.std.proofs.Common.{◌≡◌, ℕ, ◌-◌, ◌<◌, ◌≤◌, inl, inr, Bool, true, false, ◌&&◌, leb, [], ◌∷◌, ◌++◌, Option, Some, None, refl, sym, ◌∙◌, ap}
+use Rattle.task_system.specs.System.{State, Runs}
+use Rattle.space_api.specs.View.{View, Has}
 use Rattle.cost_layers.specs.Layers.{whole_at}
 use Rattle.cost_layers.specs.declared.layers.Layers.{Layers}
 use Rattle.entry_laws.specs.Counts.{ind, at_some, begins}
-use Rattle.entry_laws.specs.Entries.{Plain, Head, Tail, into, onto, child_hits}
-use Rattle.entry_laws.specs.Growing.{Fallable, NoChild}
-use Rattle.entry_laws.proofs.Cutting.{falsum, leb_yes}
-use Rattle.entry_laws.proofs.Paths.{both, either, le_of, led, run_one, reach_run}
+use Rattle.entry_laws.specs.Entries.{into, onto}
+use Rattle.entry_laws.specs.Growing.{NoChild}
+use Rattle.entry_laws.proofs.Cutting.{falsum}
+use Rattle.entry_laws.proofs.Paths.{both, either, le_of, led, reach_run}
 use Rattle.entry_laws.proofs.Adding.{hits_none}
 use Rattle.entry_turns.specs.Entries.{cost_in, plain, EntryOk, in_some, member_in, Ready}
 use Rattle.entry_turns.specs.Ways.{Joins, side_for}

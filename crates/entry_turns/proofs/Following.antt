@@ -1,27 +1,27 @@
 -- What follows an entry, as a turn.
-use Rattle.std.proofs.Common.{◌≡◌, ℕ, zero, suc, ◌+◌, ◌-◌, ◌<◌, ◌≤◌, ◌^◌, ◌⊎◌, ◌↔◌, inl, inr, Bool, true, false, ◌&&◌, eqb, IsTrue, IsFalse, List, [], ◌∷◌, ◌++◌, length, Option, Some, None, Result, Ok, Err, OnErr, refl, sym, ◌∙◌, ap, subst, arith, eq-eqb}
+use Rattle.std.proofs.Common.{◌≡◌, ℕ, ◌+◌, ◌<◌, ◌≤◌, ◌^◌, ◌↔◌, inl, inr, Bool, true, false, ◌&&◌, eqb, IsTrue, List, [], ◌∷◌, ◌++◌, length, Result, Ok, Err, OnErr, refl, sym, ◌∙◌, ap, subst, arith}
 use Rattle.std.proofs.lemmas.Bool.{eqb-true}
 use Rattle.std.specs.List.{AllByRecursion}
 use Rattle.task_system.specs.System.{State, System, Runs, IsPlan, cost_of}
 use Rattle.space_api.specs.View.{View, Valid, Has}
 use Rattle.space_api.specs.Frames.{Kept, Stays}
-use Rattle.space_api.proofs.Keeping.{kept_trans, stays_trans}
-use Rattle.run_graph.specs.Reached.{ReachedAt, ToGoalAt, Useful}
+use Rattle.space_api.proofs.Keeping.{kept_trans}
+use Rattle.run_graph.specs.Reached.{ToGoalAt, Useful}
 use Rattle.cost_layers.specs.Layers.{Held, Stands as StandsIn}
 use Rattle.cost_layers.specs.declared.layers.Layers.{Layers}
-use Rattle.entry_laws.specs.Entries.{Plain, Head, Tail, BwdIn, zeros, Goes, Gives, IsBegun, Open, Done, height, weight, entry_hits, begun_hits}
+use Rattle.entry_laws.specs.Entries.{Plain, BwdIn, zeros, Goes, IsBegun, height, weight, entry_hits, begun_hits}
 use Rattle.entry_laws.specs.Growing.{Gathered}
 use Rattle.entry_laws.proofs.Paths.{both, either, run_one}
 use Rattle.entry_laws.proofs.Assembling.{goes_plain, goes_begun, gives_plain, head_some, tail_some, begins_same, not_begun}
-use Rattle.entry_turns.specs.Entries.{set_in, plain, plains, operators_in, EntryOk, SetIn, Makes, member_in, RightSides, Ready}
+use Rattle.entry_turns.specs.Entries.{plain, plains, EntryOk, Makes, member_in, Ready}
 use Rattle.entry_turns.specs.Grown.{Gathers, Expands}
-use Rattle.entry_turns.specs.Turned.{IsDone, Starts, Begun, BeginsToo, GoesOrGives, given, Follows}
+use Rattle.entry_turns.specs.Turned.{IsDone, Starts, BeginsToo, GoesOrGives, given, Follows}
 use Rattle.entry_turns.specs.declared.entries.Prefix.{Prefix}
 use Rattle.entry_turns.specs.declared.entries.Suffix.{Suffix}
 use Rattle.entry_turns.specs.declared.entries.Entry.{Entry}
 use Rattle.entry_turns.specs.declared.entries.Entry.TheVariants.{Before, After}
-use Rattle.entry_turns.proofs.Kept.{stands_kept, member_kept, plain_kept, plains_kept, plains_append, ready_kept, sides_kept}
-use Rattle.entry_turns.proofs.Sets.{all_split, ok_kept, makes_stays, makes_last}
+use Rattle.entry_turns.proofs.Kept.{stands_kept, member_kept, plain_kept, plains_kept, plains_append, ready_kept}
+use Rattle.entry_turns.proofs.Sets.{all_split, makes_last}
 use Rattle.entry_turns.proofs.Reaching.{not_valid}
 
 pub err_of : {A : Type 0} {E : Type 0} (r : Result A E) (P : Type 0) → P → OnErr r P

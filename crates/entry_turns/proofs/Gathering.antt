@@ -1,24 +1,20 @@
 -- The children by one operator after the other.
-use Rattle.std.proofs.Common.{◌≡◌, ℕ, zero, suc, ◌+◌, ◌<◌, ◌≤◌, List, [], ◌∷◌, ◌++◌, take, get_or, length, Option, Some, None, MatchOption, refl, sym, ◌∙◌, ap, subst, arith}
+use Rattle.std.proofs.Common.{◌≡◌, ℕ, zero, suc, ◌+◌, ◌<◌, ◌≤◌, List, [], ◌∷◌, ◌++◌, take, get_or, length, sym, ◌∙◌, ap, subst, arith}
 use Rattle.std.specs.List.{AllByRecursion}
 use Rattle.std.proofs.lemmas.List.{take_more, take_all}
-use Rattle.task_system.specs.System.{State, System, Leads}
-use Rattle.space_api.specs.View.{View, Valid, Has}
-use Rattle.space_api.specs.Frames.{Kept, Stays}
+use Rattle.task_system.specs.System.{State, System}
+use Rattle.space_api.specs.View.{View}
+use Rattle.space_api.specs.Frames.{Kept}
 use Rattle.space_api.proofs.Keeping.{kept_trans}
-use Rattle.cost_layers.specs.Layers.{rings_at, whole_at, Held}
+use Rattle.cost_layers.specs.Layers.{Held}
 use Rattle.cost_layers.specs.declared.layers.Layers.{Layers}
-use Rattle.cost_layers.proofs.Holding.{whole_valid}
 use Rattle.entry_laws.specs.Entries.{Plain}
-use Rattle.entry_laws.specs.Growing.{Added, Sofar, Gathered, IsOrder}
+use Rattle.entry_laws.specs.Growing.{Added, Sofar, IsOrder}
 use Rattle.entry_laws.proofs.Adding.{sofar_none, sofar_more, gathered}
-use Rattle.entry_turns.specs.Entries.{set_in, plain, plains, EntryOk, Makes, member_in, Ready}
-use Rattle.entry_turns.specs.Ways.{Joins, IsWay, IsWayTo, side_for}
-use Rattle.entry_turns.specs.Grown.{MakesOn, AddsChild, Gathers}
+use Rattle.entry_turns.specs.Entries.{plain, plains, EntryOk, member_in, Ready}
+use Rattle.entry_turns.specs.Grown.{AddsChild, Gathers}
 use Rattle.entry_turns.specs.declared.entries.Entry.{Entry}
-use Rattle.entry_turns.specs.declared.entries.Entry.TheVariants.{Before, After}
-use Rattle.entry_turns.specs.declared.ways.Way.{Way}
-use Rattle.entry_turns.proofs.Sets.{all_split, all_kept, ok_kept, ok_valid}
+use Rattle.entry_turns.proofs.Sets.{all_split, all_kept}
 use Rattle.entry_turns.proofs.Kept.{member_kept, plain_kept, plains_kept, ready_kept}
 
 -- the operator at a place is one
@@ -26,40 +22,6 @@ pub order_at : (n : ℕ) (order : List ℕ) (i op : ℕ) → i < length order �
 order_at n [] i op lt is a = absurd (omega (arith, lt))
 order_at n (k ∷ order) zero op lt is a = omega (arith, a.0, is)
 order_at n (k ∷ order) (suc i) op lt is a = order_at n order i op (omega (arith, lt)) is a.1
-
-joins_kept : {Set : Type 0} (v w : View Set) (e : Entry Set) (op : ℕ) (a : Set) (s t : State) → Kept v w → Valid v a → Valid v (set_in e) → Joins w e op a s t → Joins v e op a s t
-joins_kept v w (Before e) op a s t k ok mine j = (subst (λ (y : System). Leads y op s t) k.system j.0, sym (k.same a ok s) ∙ j.1, sym (k.same e.set mine t) ∙ j.2)
-joins_kept v w (After e) op a s t k ok mine j = (subst (λ (y : System). Leads y op s t) k.system j.0, sym (k.same e.set mine s) ∙ j.1, sym (k.same a ok t) ∙ j.2)
-
-side_held : {Set : Type 0} (v : View Set) (front back : Layers Set) (e : Entry Set) → Held v front → Held v back → Held v (side_for front back e)
-side_held v front back (Before e) hf hb = hf
-side_held v front back (After e) hf hb = hb
-
-pub way_kept : {Set : Type 0} (v w : View Set) (front back : Layers Set) (e : Entry Set) (way : Way Set) → Kept v w → Held v front → Held v back → Valid v (set_in e) → IsWay v front back e way → IsWay w front back e way
-way_kept v w front back e way k hf hb mine h = by way.layer h
-  where
-    by : (o : Option _) → IsWayTo v front back e way.cost o → IsWayTo w front back e way.cost o
-    by None barren = λ a le at op s t cost j. barren a le at op s t (subst (λ (y : System). y.cost op ≡ way.cost) k.system cost) (joins_kept v w e op a s t k (whole_valid v (rings_at (side_for front back e)) (whole_at (side_for front back e)) (side_held v front back e hf hb) _ a at) mine j)
-    by (Some a) p = p
-
--- from the view at the start, where a later one keeps what it had
-pub way_from : {Set : Type 0} (u v w : View Set) (front back : Layers Set) (e : Entry Set) (way : Way Set) → Kept u v → Kept u w → Held u front → Held u back → EntryOk u e → IsWay v front back e way → IsWay w front back e way
-way_from u v w front back e way j k hf hb ok h = by way.layer h
-  where
-    from : (a : _) → Valid u a → (s : State) → w.has a s ≡ v.has a s
-    from a valid s = k.same a valid s ∙ sym (j.same a valid s)
-
-    joins_from : (e : Entry _) (op : ℕ) (a : _) (s t : State) → Valid u a → Valid u (set_in e) → Joins w e op a s t → Joins v e op a s t
-    joins_from (Before e) op a s t valid mine x = (subst (λ (y : System). Leads y op s t) (k.system ∙ sym j.system) x.0, sym (from a valid s) ∙ x.1, sym (from e.set mine t) ∙ x.2)
-    joins_from (After e) op a s t valid mine x = (subst (λ (y : System). Leads y op s t) (k.system ∙ sym j.system) x.0, sym (from e.set mine s) ∙ x.1, sym (from a valid t) ∙ x.2)
-
-    by : (o : Option _) → IsWayTo v front back e way.cost o → IsWayTo w front back e way.cost o
-    by None barren = λ a le at op s t cost x. barren a le at op s t (subst (λ (y : System). y.cost op ≡ way.cost) (k.system ∙ sym j.system) cost) (joins_from e op a s t (whole_valid u (rings_at (side_for front back e)) (whole_at (side_for front back e)) (side_held u front back e hf hb) _ a at) (ok_valid u e ok) x)
-    by (Some a) p = p
-
-pub last_kept : {Set : Type 0} (v w : View Set) (front back : Layers Set) (e : Entry Set) (o : Option (Way Set)) → Kept v w → Held v front → Held v back → Valid v (set_in e) → MatchOption o (Unit {0}) (IsWay v front back e) → MatchOption o (Unit {0}) (IsWay w front back e)
-last_kept v w front back e None k hf hb mine h = h
-last_kept v w front back e (Some way) k hf hb mine h = way_kept v w front back e way k hf hb mine h
 
 -- all so far
 abbrev pub SofarFrom : {Set : Type 0} → View Set → View Set → Layers Set → Layers Set → Entry Set → List ℕ → List (Entry Set) → List (Entry Set) → Type 0

@@ -1,14 +1,14 @@
 -- Entries, layers and what they rest on, in a view that keeps all sets.
-use Rattle.std.proofs.Common.{◌≡◌, ℕ, ◌<◌, ◌≤◌, ◌↔◌, inl, inr, Bool, true, false, List, [], ◌∷◌, ◌++◌, Option, Some, None, refl, sym, ◌∙◌, ap, subst}
+use Rattle.std.proofs.Common.{◌≡◌, ℕ, ◌↔◌, inl, inr, Bool, List, [], ◌∷◌, ◌++◌, Option, Some, None, refl, sym, ◌∙◌, ap, subst}
 use Rattle.std.specs.List.{AllByRecursion}
 use Rattle.task_system.specs.System.{State, System}
-use Rattle.space_api.specs.View.{View, Valid, Has}
+use Rattle.space_api.specs.View.{View, Valid}
 use Rattle.space_api.specs.Frames.{Kept}
 use Rattle.cost_layers.specs.Layers.{rings_at, whole_at, Held, Stands as StandsIn}
 use Rattle.cost_layers.specs.declared.layers.Layers.{Layers}
 use Rattle.cost_layers.proofs.Holding.{ring_same, ring_valid, whole_valid}
-use Rattle.entry_laws.specs.Entries.{Plain, Head, Tail, FwdIn, BwdIn, Tables}
-use Rattle.entry_turns.specs.Entries.{set_in, SetIn, plain, plains, EntryOk, in_some, member_in, RingsOk, RightSides, Ready}
+use Rattle.entry_laws.specs.Entries.{Plain, Head, Tables}
+use Rattle.entry_turns.specs.Entries.{set_in, SetIn, plain, plains, EntryOk, in_some, member_in, RightSides, Ready}
 use Rattle.entry_turns.specs.declared.entries.Entry.{Entry}
 use Rattle.entry_turns.specs.declared.entries.Entry.TheVariants.{Before, After}
 

@@ -1,11 +1,10 @@
 -- The operators that may lead on from an entry: all others lead nowhere.
-use Rattle.std.proofs.Common.{◌≡◌, ℕ, ◌<◌, List, sym, ◌∙◌, subst}
-use Rattle.std.specs.List.{Contains, All}
+use Rattle.std.proofs.Common.{ℕ, List, sym, ◌∙◌, subst}
+use Rattle.std.specs.List.{Contains}
 use Rattle.std.specs.List.Sorted.{IsStrictlyIncreasing}
-use Rattle.task_system.specs.System.{State, System, Leads}
-use Rattle.space_api.specs.View.{View, Valid, Has}
+use Rattle.task_system.specs.System.{System, Leads}
+use Rattle.space_api.specs.View.{View, Valid}
 use Rattle.space_api.specs.Frames.{Kept}
-use Rattle.space_api.specs.Operators.{LeadInto, LeadFrom}
 use Rattle.cost_layers.specs.declared.layers.Layers.{Layers}
 use Rattle.entry_turns.specs.Entries.{set_in}
 use Rattle.entry_turns.specs.Ways.{AreLeading}

@@ -1,19 +1,18 @@
 -- The child by an operator.
-use Rattle.std.proofs.Common.{◌≡◌, ℕ, ◌+◌, ◌-◌, ◌<◌, ◌≤◌, ◌⊎◌, ◌↔◌, ◌^◌, inl, inr, Bool, true, false, ◌&&◌, leb, IsTrue, List, [], ◌∷◌, ◌++◌, Option, Some, None, refl, sym, ◌∙◌, ap, subst, arith}
-use Rattle.std.specs.List.{AllByRecursion}
+use Rattle.std.proofs.Common.{◌≡◌, ℕ, ◌+◌, ◌-◌, ◌<◌, ◌≤◌, ◌↔◌, Bool, true, false, ◌&&◌, leb, List, [], ◌∷◌, ◌++◌, Option, Some, refl, sym, ◌∙◌, ap, subst, arith}
 use Rattle.task_system.specs.System.{State, System, Leads, Runs, cost_of}
-use Rattle.space_api.specs.View.{View, Valid, Has, Image}
+use Rattle.space_api.specs.View.{View, Valid, Has}
 use Rattle.space_api.specs.Frames.{Kept}
 use Rattle.run_graph.specs.Reached.{ReachedAt, ToGoalAt, Useful}
 use Rattle.cost_layers.specs.Layers.{whole_at, Held, Stands as StandsIn}
 use Rattle.cost_layers.specs.declared.layers.Layers.{Layers}
 use Rattle.entry_laws.specs.Counts.{at_some}
-use Rattle.entry_laws.specs.Entries.{Plain, Head, Tail, FwdIn, BwdIn, into, onto, zeros, IsChild}
+use Rattle.entry_laws.specs.Entries.{FwdIn, BwdIn, into, onto, zeros, IsChild}
 use Rattle.entry_laws.proofs.Cutting.{falsum, leb_yes}
-use Rattle.entry_laws.proofs.Ends.{ends_of_fwd, fwd_more, bwd_more}
-use Rattle.entry_laws.proofs.Paths.{both, either, le_of, led, joined, parted, run_one, reach_run}
+use Rattle.entry_laws.proofs.Ends.{ends_of_fwd, bwd_more}
+use Rattle.entry_laws.proofs.Paths.{both, led, joined, parted, run_one, reach_run}
 use Rattle.entry_turns.specs.Entries.{set_in, cost_in, plain, EntryOk, AreOperators, in_some, member_in, Ready}
-use Rattle.entry_turns.specs.Ways.{IsLeast, Joins, IsChildSet, side_for}
+use Rattle.entry_turns.specs.Ways.{IsChildSet, side_for}
 use Rattle.entry_turns.specs.Grown.{GrownBefore, GrownAfter, IsGrown}
 use Rattle.entry_turns.specs.declared.entries.Prefix.{Prefix}
 use Rattle.entry_turns.specs.declared.entries.Suffix.{Suffix}

@@ -1,6 +1,6 @@
 -- The first entry of a cut.
-use Rattle.std.proofs.Common.{◌≡◌, ℕ, zero, suc, ◌+◌, ◌-◌, ◌<◌, ◌≤◌, ◌⊎◌, ◌↔◌, ◌^◌, inl, inr, Bool, true, false, ◌&&◌, eqb, IsTrue, List, [], ◌∷◌, ◌++◌, Option, Some, None, refl, sym, ◌∙◌, ap, subst, arith, eq-eqb}
-use Rattle.task_system.specs.System.{State, System, Leads, Runs, IsPlan, cost_of}
+use Rattle.std.proofs.Common.{◌≡◌, ℕ, ◌+◌, ◌<◌, ◌≤◌, ◌↔◌, Bool, true, List, [], ◌∷◌, Option, Some, refl, sym, ◌∙◌, ap, subst, arith, eq-eqb}
+use Rattle.task_system.specs.System.{State, System, Runs, IsPlan, cost_of}
 use Rattle.space_api.specs.View.{View, Valid, Has, Preimage}
 use Rattle.space_api.specs.Frames.{Kept, Stays, Gives}
 use Rattle.space_api.proofs.Keeping.{kept_trans}
@@ -9,18 +9,17 @@ use Rattle.cost_layers.specs.Layers.{whole_at, Held, Stands as StandsIn}
 use Rattle.cost_layers.specs.declared.layers.Layers.{Layers}
 use Rattle.plan_cuts.specs.declared.Cut.{Cut}
 use Rattle.plan_cuts.specs.declared.Cut.TheVariants.{Whole, Cross}
-use Rattle.entry_laws.specs.Cuts.{IsCut, cut_of, same_cut}
-use Rattle.entry_laws.specs.Counts.{ind, at_some, begins}
+use Rattle.entry_laws.specs.Cuts.{cut_of, same_cut}
+use Rattle.entry_laws.specs.Counts.{ind, at_some}
 use Rattle.entry_laws.specs.Entries.{Plain, Head, Tail, BwdIn, FwdIn, zeros, Stands, entry_hits}
 use Rattle.entry_laws.proofs.Cutting.{cut_one, cut_inside}
 use Rattle.entry_laws.proofs.Ends.{ends_of_fwd, bwd_more}
 use Rattle.entry_laws.proofs.Paths.{both, led}
 use Rattle.entry_laws.proofs.Drawing.{meeting, cross_hits, cross_there, cross_stands}
-use Rattle.entry_turns.specs.Entries.{set_in, plain, EntryOk, AreOperators, in_some, member_in, RightSides}
-use Rattle.entry_turns.specs.Ways.{IsNew, IsLeast}
+use Rattle.entry_turns.specs.Entries.{plain, EntryOk, AreOperators, in_some, member_in, RightSides}
+use Rattle.entry_turns.specs.Ways.{IsNew}
 use Rattle.entry_turns.specs.declared.entries.Prefix.{Prefix}
 use Rattle.entry_turns.specs.declared.entries.Suffix.{Suffix}
-use Rattle.entry_turns.specs.declared.entries.Entry.{Entry}
 use Rattle.entry_turns.specs.declared.entries.Entry.TheVariants.{Before, After}
 use Rattle.entry_turns.proofs.Kept.{stands_kept}
 use Rattle.entry_turns.proofs.Sets.{new_stays}

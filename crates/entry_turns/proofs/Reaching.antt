@@ -1,10 +1,9 @@
 -- The one state that operators reach, set by set.
-use Rattle.std.proofs.Common.{◌≡◌, ◌≢◌, ℕ, zero, suc, ◌+◌, ◌<◌, ◌≤◌, ◌⊎◌, ◌↔◌, inl, inr, Bool, true, false, IsTrue, IsFalse, List, [], ◌∷◌, ◌++◌, take, get_or, length, refl, sym, ◌∙◌, ap, subst, arith}
+use Rattle.std.proofs.Common.{◌≡◌, ◌≢◌, ℕ, zero, suc, ◌+◌, ◌<◌, ◌≤◌, ◌↔◌, inl, inr, Bool, true, false, IsTrue, IsFalse, List, [], ◌∷◌, ◌++◌, take, get_or, length, refl, sym, ◌∙◌, ap, subst, arith}
 use Rattle.std.proofs.lemmas.List.{take_more, take_all}
 use Rattle.task_system.specs.System.{State, System, Leads, Runs}
 use Rattle.space_api.specs.View.{View, Valid, Has, Image}
-use Rattle.space_api.specs.Frames.{Kept, Forgot, Stays, Gives}
-use Rattle.space_api.proofs.Keeping.{kept_trans}
+use Rattle.space_api.specs.Frames.{Kept, Forgot, Gives}
 use Rattle.space_api.proofs.Trading.{valid_clash}
 use Rattle.entry_laws.proofs.Paths.{joined, parted}
 use Rattle.entry_turns.specs.Entries.{AreOperators}

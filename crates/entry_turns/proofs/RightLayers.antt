@@ -1,20 +1,20 @@
 -- Right layers are what turns rest on.
-use Rattle.std.proofs.Common.{◌≡◌, ℕ, zero, suc, ◌+◌, ◌<◌, ◌≤◌, ◌⊎◌, ◌↔◌, inl, inr, Bool, true, false, eqb, cond, IsTrue, List, [], ◌∷◌, Option, Some, None, MatchOption, IsSomeAnd, slice_get, refl, sym, ◌∙◌, ap, subst, arith, eq-eqb}
+use Rattle.std.proofs.Common.{◌≡◌, ℕ, zero, suc, ◌<◌, ◌≤◌, ◌⊎◌, ◌↔◌, inl, inr, true, false, eqb, List, [], ◌∷◌, Option, Some, None, MatchOption, refl, sym, ◌∙◌, ap, subst, arith, eq-eqb}
 use Rattle.std.proofs.lemmas.Bool.Decides.{nat_tests}
-use Rattle.task_system.specs.System.{State, System, Leads, Runs, cost_of}
-use Rattle.space_api.specs.View.{View, Valid, Has}
-use Rattle.run_graph.specs.Graph.{ahead, seen_from, Walk, walk_cost, EndsInZeros, ReachedBy}
+use Rattle.task_system.specs.System.{State, System, cost_of}
+use Rattle.space_api.specs.View.{View}
+use Rattle.run_graph.specs.Graph.{ahead, Walk, walk_cost, EndsInZeros}
 use Rattle.run_graph.specs.Layering.{InLayer}
-use Rattle.run_graph.specs.Reached.{ReachedAt, ToGoalAt, Useful, ZerosFirst, ToGoalWith, IsRightLayer, AtCostWith}
+use Rattle.run_graph.specs.Reached.{ReachedAt, ToGoalAt, ZerosFirst, IsRightLayer, AtCostWith}
 use Rattle.run_graph.specs.declared.Side.TheVariants.{Ahead, Back}
 use Rattle.run_graph.specs.declared.Kind.TheVariants.{Every}
 use Rattle.run_graph.proofs.Sides.{reached_by_side}
 use Rattle.cost_layers.specs.Rings.{RingAt, IsLayer}
 use Rattle.cost_layers.specs.Layers.{rings_at, whole_at, Held, Stands as StandsIn}
 use Rattle.cost_layers.specs.declared.layers.Layers.{Layers}
-use Rattle.entry_laws.specs.Entries.{Ends, FwdIn, BwdIn, zeros, Tables}
+use Rattle.entry_laws.specs.Entries.{Ends, FwdIn, BwdIn, zeros}
 use Rattle.entry_laws.proofs.Ends.{fwd_of_ends}
-use Rattle.entry_turns.specs.Entries.{in_some, member_in, RingsOk, RightSides}
+use Rattle.entry_turns.specs.Entries.{in_some, member_in, RightSides}
 
 falsum : false ≡ true → ⊥
 falsum e = cc

@@ -1,7 +1,7 @@
 -- Layers in a view in which their sets stay.
-use Rattle.std.proofs.Common.{◌≡◌, ℕ, ◌+◌, ◌<◌, ◌≤◌, ◌⊎◌, ◌↔◌, inl, inr, Bool, true, false, List, [], length, Option, Some, None, MatchOption, refl, sym, ◌∙◌, ap, subst, arith}
+use Rattle.std.proofs.Common.{◌≡◌, ℕ, ◌≤◌, ◌⊎◌, ◌↔◌, inl, inr, Bool, true, false, List, [], length, Option, Some, None, MatchOption, refl, sym, subst, arith}
 use Rattle.task_system.specs.System.{State, System}
-use Rattle.space_api.specs.View.{View, Valid, Has}
+use Rattle.space_api.specs.View.{View, Valid}
 use Rattle.space_api.specs.Owned.{Trades}
 use Rattle.cost_layers.specs.Rings.{IsLayer}
 use Rattle.cost_layers.specs.Layers.{rings_at, whole_at, Held, Keeps, Stands as StandsIn}

@@ -1,14 +1,13 @@
 -- One turn.
-use Rattle.std.proofs.Common.{◌≡◌, ◌≢◌, ℕ, zero, suc, ◌+◌, ◌-◌, ◌<◌, ◌≤◌, ◌⊎◌, inl, inr, Bool, true, false, IsTrue, IsFalse, List, [], ◌∷◌, ◌++◌, length, length-append, get_or, remove, Option, Some, None, Result, Ok, Err, IfOk, OnErr, MatchOption, refl, sym, ◌∙◌, ap, subst, arith}
+use Rattle.std.proofs.Common.{◌≡◌, ◌≢◌, ℕ, zero, suc, ◌+◌, ◌<◌, inl, inr, Bool, true, false, IsTrue, IsFalse, List, [], ◌∷◌, ◌++◌, length, length-append, get_or, remove, Option, Some, None, Result, Ok, Err, IfOk, OnErr, MatchOption, refl, sym, ◌∙◌, ap, subst, arith}
 use Rattle.std.specs.List.{AllByRecursion}
-use Rattle.task_system.specs.System.{State, System}
-use Rattle.space_api.specs.View.{View, Valid, Has}
-use Rattle.space_api.specs.Frames.{Kept, Stays, Forgot}
+use Rattle.space_api.specs.View.{View, Valid}
+use Rattle.space_api.specs.Frames.{Stays, Forgot}
 use Rattle.space_api.specs.Owned.{Trades}
 use Rattle.space_api.proofs.Trading.{trades_stays}
 use Rattle.cost_layers.specs.declared.layers.Layers.{Layers}
 use Rattle.entry_laws.specs.Entries.{Plain, Stands}
-use Rattle.entry_turns.specs.Entries.{set_in, operators_in, plain, plains, EntryOk, SetIn, AreDistinct, Makes, member_in, RightSides, Ready}
+use Rattle.entry_turns.specs.Entries.{set_in, operators_in, plain, plains, EntryOk, SetIn, AreDistinct, Makes, member_in}
 use Rattle.entry_turns.specs.Turned.{GoesOrGives, given, Follows, IsQueue, Turns, Replaces}
 use Rattle.entry_turns.specs.declared.entries.Entry.{Entry}
 use Rattle.entry_turns.proofs.Kept.{plains_append, plains_same}

@@ -1,26 +1,26 @@
 -- A walk, turn by turn.
-use Rattle.std.proofs.Common.{◌≡◌, ℕ, ◌+◌, ◌<◌, ◌≤◌, ◌^◌, ◌↔◌, Bool, List, [], ◌∷◌, ◌++◌, length, length-append, Option, Some, None, Result, Ok, Err, OnErr, refl, sym, ◌∙◌, ap, subst, arith}
+use Rattle.std.proofs.Common.{◌≡◌, ℕ, ◌+◌, ◌<◌, ◌≤◌, ◌↔◌, Bool, List, [], ◌∷◌, ◌++◌, length, length-append, Option, Some, None, Result, Ok, Err, OnErr, refl, sym, ap, subst, arith}
 use Rattle.std.specs.List.{AllByRecursion}
 use Rattle.task_system.specs.System.{State, System}
 use Rattle.symk_task.specs.declared.parts.Mode.TheVariants.{TopK}
-use Rattle.space_api.specs.View.{View, Valid, Has}
+use Rattle.space_api.specs.View.{View, Valid}
 use Rattle.space_api.specs.Frames.{Stays}
 use Rattle.space_api.specs.Owned.{Trades}
 use Rattle.space_api.proofs.Trading.{trades_stays}
 use Rattle.space_api.proofs.Keeping.{stays_refl}
 use Rattle.entry_turns.proofs.Sets.{in_valid}
-use Rattle.lazy_plans.specs.Law.{Gave, top, Stays as OwesAsBefore}
+use Rattle.lazy_plans.specs.Law.{Gave, top}
 use Rattle.cost_layers.specs.Layers.{known_of, Held, Keeps}
 use Rattle.cost_layers.specs.declared.layers.Layers.{Layers}
 use Rattle.plan_cuts.specs.declared.Cut.{Cut}
 use Rattle.entry_laws.specs.Entries.{Plain, Goes, Gives, Owed, Lawful, Stands, height, weight}
 use Rattle.entry_laws.proofs.Queue.{last_by, goes_lawful, goes_owed, goes_on, gives_lawful, gives_gave, gives_weight}
-use Rattle.entry_turns.specs.Entries.{plains, EntryOk, SetIn, member_in, RightSides}
+use Rattle.entry_turns.specs.Entries.{plains, SetIn, member_in, RightSides}
 use Rattle.entry_turns.specs.Turned.{IsQueue, Turns}
 use Rattle.entry_turns.specs.declared.entries.Entry.{Entry}
 use Rattle.entry_turns.proofs.Kept.{plains_kept}
 use Rattle.entry_turns.specs.Walked.{AreApart, IsLawful, IsOwed, OwesOn, GaveFrom}
-use Rattle.entry_turns.proofs.Staying.{traded, held_in, member_same, stands_same, sides_same}
+use Rattle.entry_turns.proofs.Staying.{traded, member_same, stands_same, sides_same}
 
 -- the queue so far, by the layers at the start
 module _ {Set : Type 0} (u : View Set) (front back : Layers Set) (listed : ℕ) (start : List (Entry Set)) where

@@ -8,8 +8,6 @@ use Rattle.run_graph.specs.Reached.{Useful}
 use Rattle.cost_layers.specs.Layers.{whole_at, Stands as StandsIn}
 use Rattle.cost_layers.specs.declared.layers.Layers.{Layers}
 use Rattle.entry_laws.specs.Entries.{Plain, Head, Tail, FwdIn, BwdIn, Tables, Stands}
-use Rattle.entry_turns.specs.declared.entries.Prefix.{Prefix}
-use Rattle.entry_turns.specs.declared.entries.Suffix.{Suffix}
 use Rattle.entry_turns.specs.declared.entries.Entry.{Entry}
 use Rattle.entry_turns.specs.declared.entries.Entry.TheVariants.{Before, After}
 

@@ -1,13 +1,10 @@
 -- A child of an entry, and where it is put.
 use Rattle.std.specs.Prelude.{◌≡◌, ℕ, ◌-◌, ◌^◌, ◌<◌, ◌≤◌, ◌⊎◌, List, [], ◌∷◌, ◌++◌}
 use Rattle.std.specs.List.{AllByRecursion}
-use Rattle.task_system.specs.System.{State, System, Runs}
-use Rattle.space_api.specs.View.{View, Valid, Has}
-use Rattle.run_graph.specs.Reached.{ToGoalAt}
+use Rattle.space_api.specs.View.{View}
 use Rattle.cost_layers.specs.declared.layers.Layers.{Layers}
 use Rattle.entry_laws.specs.Growing.{Added, Gathered}
-use Rattle.entry_laws.specs.Entries.{BwdIn, Plain, Goes, Gives, Stands}
-use Rattle.entry_turns.specs.Entries.{set_in, cost_in, ring_in, plain, plains, EntryOk, Makes, member_in, RightSides, RingsOk, Ready}
+use Rattle.entry_turns.specs.Entries.{cost_in, ring_in, plain, plains, EntryOk, Makes, member_in, Ready}
 use Rattle.entry_turns.specs.Ways.{IsLeast}
 use Rattle.entry_turns.specs.declared.entries.Prefix.{Prefix}
 use Rattle.entry_turns.specs.declared.entries.Suffix.{Suffix}

@@ -1,9 +1,8 @@
 -- The first entry of a cut.
-use Rattle.std.specs.Prelude.{◌≡◌, ℕ, ◌+◌, ◌<◌, ◌≤◌, ◌^◌, Bool, List, [], ◌∷◌, Option, Some}
-use Rattle.task_system.specs.System.{State, System, IsPlan, cost_of}
-use Rattle.space_api.specs.View.{View, Valid, Has}
-use Rattle.space_api.specs.Frames.{Kept, Gives}
-use Rattle.space_api.specs.View.{Preimage}
+use Rattle.std.specs.Prelude.{◌≡◌, ℕ, ◌+◌, ◌<◌, List, [], ◌∷◌, Some}
+use Rattle.task_system.specs.System.{IsPlan, cost_of}
+use Rattle.space_api.specs.View.{View}
+use Rattle.space_api.specs.Frames.{Kept}
 use Rattle.cost_layers.specs.Layers.{whole_at}
 use Rattle.cost_layers.specs.declared.layers.Layers.{Layers}
 use Rattle.plan_cuts.specs.declared.Cut.{Cut}
@@ -11,7 +10,7 @@ use Rattle.plan_cuts.specs.declared.Cut.TheVariants.{Whole, Cross}
 use Rattle.plan_cuts.specs.Cuts.{IsCutAt}
 use Rattle.entry_laws.specs.Cuts.{cut_of, same_cut}
 use Rattle.entry_laws.specs.Counts.{ind}
-use Rattle.entry_laws.specs.Entries.{Plain, Stands, entry_hits}
+use Rattle.entry_laws.specs.Entries.{Stands, entry_hits}
 use Rattle.entry_turns.specs.Entries.{set_in, plain, EntryOk, RightSides}
 use Rattle.entry_turns.specs.Ways.{IsNew, IsLeast}
 use Rattle.entry_turns.specs.declared.entries.Prefix.{Prefix}

@@ -1,14 +1,13 @@
 -- What a turn does to the queue.
-use Rattle.std.specs.Prelude.{◌≡◌, ℕ, zero, ◌+◌, ◌<◌, ◌≤◌, ◌^◌, ◌⊎◌, ◌↔◌, IsTrue, Bool, true, false, List, [], ◌∷◌, ◌++◌, Option, Some, None}
+use Rattle.std.specs.Prelude.{◌≡◌, ℕ, ◌<◌, ◌≤◌, ◌^◌, ◌⊎◌, IsTrue, Bool, true, false, List, [], ◌∷◌, ◌++◌, Option, Some, None}
 use Rattle.std.specs.List.{AllByRecursion}
 use Rattle.task_system.specs.System.{State, System, Runs}
-use Rattle.space_api.specs.View.{View, Valid, Has}
-use Rattle.space_api.specs.Frames.{Kept, Stays, Forgot}
-use Rattle.space_api.specs.Owned.{Trades}
+use Rattle.space_api.specs.View.{View, Has}
+use Rattle.space_api.specs.Frames.{Kept, Forgot}
 use Rattle.cost_layers.specs.Layers.{Stands as StandsIn}
 use Rattle.cost_layers.specs.declared.layers.Layers.{Layers}
 use Rattle.entry_laws.specs.Entries.{Plain, Goes, Gives, Stands}
-use Rattle.entry_turns.specs.Entries.{set_in, plain, plains, operators_in, EntryOk, SetIn, AreDistinct, Makes, member_in, RightSides, Ready}
+use Rattle.entry_turns.specs.Entries.{set_in, plain, plains, operators_in, EntryOk, AreDistinct, Makes, member_in, RightSides, Ready}
 use Rattle.entry_turns.specs.Ways.{IsLeast, IsNew}
 use Rattle.entry_turns.specs.declared.entries.Prefix.{Prefix}
 use Rattle.entry_turns.specs.declared.entries.Suffix.{Suffix}

@@ -1,14 +1,12 @@
 -- What a walk does to what is owed.
-use Rattle.std.specs.Prelude.{◌≡◌, ℕ, ◌+◌, ◌<◌, ◌≤◌, ◌⊎◌, ◌↔◌, Bool, List, Option}
-use Rattle.std.specs.List.{AllByRecursion}
-use Rattle.task_system.specs.System.{State, System}
-use Rattle.space_api.specs.View.{View, Valid}
+use Rattle.std.specs.Prelude.{ℕ, ◌≤◌, Bool, List, Option}
+use Rattle.space_api.specs.View.{View}
 use Rattle.symk_task.specs.declared.parts.Mode.TheVariants.{TopK}
 use Rattle.lazy_plans.specs.Law.{Gave, top, Stays as OwesAsBefore}
 use Rattle.cost_layers.specs.Layers.{known_of, Keeps}
 use Rattle.cost_layers.specs.declared.layers.Layers.{Layers}
 use Rattle.plan_cuts.specs.declared.Cut.{Cut}
-use Rattle.entry_laws.specs.Entries.{Plain, Owed, Lawful}
+use Rattle.entry_laws.specs.Entries.{Owed, Lawful}
 use Rattle.entry_turns.specs.Entries.{plains, SetIn, member_in}
 use Rattle.entry_turns.specs.declared.entries.Entry.{Entry}
 

@@ -15,18 +15,7 @@ use cost_layers::Layers;
 use space_api::{Space, SpaceFault};
 use std::alloc::Global;
 
-/// Whether the operator after the one at `i` has another cost than `w`, or there is none.
-fn is_last_of_cost<S: Space>(space: &S, order: &[u32], i: usize, w: u64) -> bool
-    requires order { IsOrder (S.view space.now).system.operators order.now }
-    requires at { i < length order.now }
-{
-    match order.get(i + 1) {
-        Some(next) => space.cost_of(*next) != w,
-        None => true,
-    }
-}
-
-/// Adds the children by all operators, in this order; none is tried that cannot lead on. After a refusal the children so far
+/// Adds the children by all operators, in this order; of those, only what may lead on by the values of the entry's set is tried. After a refusal the children so far
 /// are there.
 fn gather<S: Space>(
     alloc: Global,
@@ -43,20 +32,18 @@ fn gather<S: Space>(
     requires order { IsOrder (S.view space.old).system.operators order.now }
     requires level { children.old.level.items ≡ [] }
     requires falling { children.old.falling.items ≡ [] }
-    ensures makes { Makes (S.view space.old) (S.view space.new) (children.new.level.items ++ children.new.falling.items) }
-    ensures ok { OnOk result (Gathers (S.view space.old) (S.view space.new) front.now back.now entry.now children.new.level.items children.new.falling.items) }
+    ensures makes { Makes (S.view space.old) (S.view space.new)
+        (children.new.level.items ++ children.new.falling.items) }
+    ensures ok { OnOk result (Gathers (S.view space.old) (S.view space.new) front.now back.now entry.now
+        children.new.level.items children.new.falling.items) }
 {
     let ops = leading(alloc, space, entry)?;
-    let mut last = None;
-    'operators: for (i, op) in order.iter().enumerate() {
+    'operators: for op in order {
         if !is_among(&ops, *op) {
             continue 'operators;
         }
-        let w = space.cost_of(*op);
-        let alone = is_last_of_cost(space, order, i, w);
-        let way = way_for(space, front, back, entry, last, w, alone)?;
+        let way = way_for(front, back, entry, space.cost_of(*op));
         try_operator(alloc, space, front, back, entry, way, *op, children)?;
-        last = Some(way);
     }
     Ok(())
 }
@@ -69,7 +56,8 @@ fn join<S: Space>(
     requires { (u : View S.Set) × Makes u (S.view space.old) (children.level.items ++ children.falling.items) }
     ensures ok { IfOk result (λ es. es.items ≡ children.level.items ++ children.falling.items) }
     ensures stays { IfOk result (λ es. S.view space.new ≡ S.view space.old) }
-    ensures back { OnErr result ((u : View S.Set) → Makes u (S.view space.old) (children.level.items ++ children.falling.items) → Stays u (S.view space.new)) }
+    ensures back { OnErr result ((u : View S.Set) → Makes u (S.view space.old)
+        (children.level.items ++ children.falling.items) → Stays u (S.view space.new)) }
 {
     let mut children = children;
     match children.level.append(&mut children.falling) {
@@ -94,7 +82,8 @@ pub(crate) fn expand<S: Space>(
     requires back { Held (S.view space.old) back.now }
     requires entry { EntryOk (S.view space.old) entry.now }
     requires order { IsOrder (S.view space.old).system.operators order.now }
-    ensures ok { IfOk result (λ es. Expands (S.view space.old) (S.view space.new) front.now back.now entry.now es.items) }
+    ensures ok { IfOk result (λ es. Expands (S.view space.old) (S.view space.new) front.now back.now entry.now
+        es.items) }
     ensures err { OnErr result (Stays (S.view space.old) (S.view space.new)) }
 {
     let mut children = Children::new(alloc);

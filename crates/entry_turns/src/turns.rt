@@ -52,7 +52,8 @@ fn is_done<S: Space>(space: &mut S, entry: &Entry<S::Set>) -> Result<bool, Space
 fn reached<S: Space>(space: &mut S, operators: &[u32]) -> Result<S::Set, SpaceFault>
     requires { AreOperators (S.view space.old).system operators.now }
     ensures kept { Kept (S.view space.old) (S.view space.new) }
-    ensures ok { IfOk result (Gives (S.view space.old) (S.view space.new) (Runs (S.view space.old).system (S.view space.old).system.initial operators.now)) }
+    ensures ok { IfOk result (Gives (S.view space.old) (S.view space.new) (Runs (S.view space.old).system
+        (S.view space.old).system.initial operators.now)) }
     ensures err { OnErr result (Stays (S.view space.old) (S.view space.new)) }
 {
     let mut set = space.init()?;
@@ -106,7 +107,8 @@ fn add_begun<S: Space>(
     requires back { Held (S.view space.old) back.now }
     requires set { Valid (S.view space.old) set }
     ensures stays { Stays (S.view space.old) (S.view space.new) }
-    ensures ok { OnOk result ((c : Suffix S.Set) × Begins (S.view space.old) back.now prefix.now set c × (entries.new.items ≡ entries.old.items ++ Entry.After c ∷ [])) }
+    ensures ok { OnOk result ((c : Suffix S.Set) × Begins (S.view space.old) back.now prefix.now set c
+        × (entries.new.items ≡ entries.old.items ++ Entry.After c ∷ [])) }
     ensures err { OnErr result (entries.new.items ≡ entries.old.items) }
 {
     let suffix = begin_at(alloc, space, back, prefix, set)?;
@@ -125,7 +127,8 @@ fn begin<S: Space>(
     requires back { Held (S.view space.old) back.now }
     requires prefix { EntryOk (S.view space.old) (Entry.Before prefix.now) }
     ensures kept { Kept (S.view space.old) (S.view space.new) }
-    ensures ok { OnOk result ((c : Suffix S.Set) × Begun (S.view space.old) (S.view space.new) back.now prefix.now c × (entries.new.items ≡ entries.old.items ++ Entry.After c ∷ [])) }
+    ensures ok { OnOk result ((c : Suffix S.Set) × Begun (S.view space.old) (S.view space.new) back.now
+        prefix.now c × (entries.new.items ≡ entries.old.items ++ Entry.After c ∷ [])) }
     ensures stays { OnErr result (Stays (S.view space.old) (S.view space.new)) }
     ensures err { OnErr result (entries.new.items ≡ entries.old.items) }
 {
@@ -159,8 +162,10 @@ fn begun<S: Space>(
     requires prefix { EntryOk (S.view space.old) (Entry.Before prefix.now) }
     requires made { (u : View S.Set) × Makes u (S.view space.old) entries.items }
     ensures kept { IfOk result (λ es. Kept (S.view space.old) (S.view space.new)) }
-    ensures ok { IfOk result (λ es. (c : Suffix S.Set) × Begun (S.view space.old) (S.view space.new) back.now prefix.now c × (es.items ≡ entries.items ++ Entry.After c ∷ [])) }
-    ensures back { OnErr result ((u : View S.Set) → Makes u (S.view space.old) entries.items → Stays u (S.view space.new)) }
+    ensures ok { IfOk result (λ es. (c : Suffix S.Set) × Begun (S.view space.old) (S.view space.new) back.now
+        prefix.now c × (es.items ≡ entries.items ++ Entry.After c ∷ [])) }
+    ensures back { OnErr result ((u : View S.Set) → Makes u (S.view space.old) entries.items
+        → Stays u (S.view space.new)) }
 {
     let mut entries = entries;
     match begin(alloc, space, back, prefix, &mut entries) {
@@ -183,8 +188,10 @@ fn with_begun<S: Space>(
     requires back { Held (S.view space.old) back.now }
     requires entry { EntryOk (S.view space.old) entry.now }
     requires made { (u : View S.Set) × Makes u (S.view space.old) entries.items }
-    ensures ok { IfOk result (λ es. BeginsToo (S.view space.old) (S.view space.new) back.now entry.now entries.items es.items) }
-    ensures back { OnErr result ((u : View S.Set) → Makes u (S.view space.old) entries.items → Stays u (S.view space.new)) }
+    ensures ok { IfOk result (λ es. BeginsToo (S.view space.old) (S.view space.new) back.now entry.now
+        entries.items es.items) }
+    ensures back { OnErr result ((u : View S.Set) → Makes u (S.view space.old) entries.items
+        → Stays u (S.view space.new)) }
 {
     match entry {
         Entry::After(_) => Ok(entries),
@@ -212,7 +219,8 @@ fn follow<S: Space>(
     requires back { Held (S.view space.old) back.now }
     requires order { IsOrder (S.view space.old).system.operators order.now }
     requires entry { EntryOk (S.view space.old) entry.now }
-    ensures ok { IfOk result (λ next. Follows (S.view space.old) (S.view space.new) front.now back.now entry.now next.entries.items next.done) }
+    ensures ok { IfOk result (λ next. Follows (S.view space.old) (S.view space.new) front.now back.now
+        entry.now next.entries.items next.done) }
     ensures err { OnErr result (Stays (S.view space.old) (S.view space.new)) }
 {
     let done = is_done(space, entry)?;
@@ -237,8 +245,11 @@ fn replace_last<S: Space>(
 ) -> Result<Option<Vec<u32>>, SpaceFault>
     requires made { (u : View S.Set) × Makes u (S.view space.old) next.entries.items × IsQueue u queue.old.items }
     requires some { 0 < length queue.old.items }
-    ensures ok { IfOk result (λ o. MatchOption o (Replaces (S.view space.old) (S.view space.new) queue.old.items queue.new.items next.entries.items next.done None) (λ p. Replaces (S.view space.old) (S.view space.new) queue.old.items queue.new.items next.entries.items next.done (Some p.items))) }
-    ensures back { OnErr result ((u : View S.Set) → Makes u (S.view space.old) next.entries.items → Stays u (S.view space.new)) }
+    ensures ok { IfOk result (λ o. MatchOption o (Replaces (S.view space.old) (S.view space.new)
+        queue.old.items queue.new.items next.entries.items next.done None) (λ p. Replaces (S.view space.old)
+        (S.view space.new) queue.old.items queue.new.items next.entries.items next.done (Some p.items))) }
+    ensures back { OnErr result ((u : View S.Set) → Makes u (S.view space.old) next.entries.items
+        → Stays u (S.view space.new)) }
     ensures err { OnErr result (queue.new.items ≡ queue.old.items) }
 {
     let Next { mut entries, done } = next;
@@ -275,7 +286,9 @@ pub fn turn<S: Space>(
     requires some { 0 < length queue.old.items }
     ensures queue { IsQueue (S.view space.new) queue.new.items }
     ensures trades { Trades (S.view space.old) (S.view space.new) (SetIn queue.old.items) (SetIn queue.new.items) }
-    ensures ok { IfOk result (λ o. MatchOption o (Turns (S.view space.old) (S.view space.new) front.now back.now queue.old.items queue.new.items None) (λ p. Turns (S.view space.old) (S.view space.new) front.now back.now queue.old.items queue.new.items (Some p.items))) }
+    ensures ok { IfOk result (λ o. MatchOption o (Turns (S.view space.old) (S.view space.new) front.now
+        back.now queue.old.items queue.new.items None) (λ p. Turns (S.view space.old) (S.view space.new)
+        front.now back.now queue.old.items queue.new.items (Some p.items))) }
     ensures stays { OnErr result (Stays (S.view space.old) (S.view space.new)) }
     ensures err { OnErr result (queue.new.items ≡ queue.old.items) }
 {

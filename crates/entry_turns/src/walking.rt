@@ -33,18 +33,22 @@ pub fn walk<S: Space, L: Ledger>(
 ) -> Result<Vec<u32>, SpaceFault>
     requires front { Held (S.view space.old) front.now }
     requires back { Held (S.view space.old) back.now }
-    requires sides { RightSides (S.view space.old).system (S.view space.old) front.now back.now (known_of front.now) (known_of back.now) }
+    requires sides { RightSides (S.view space.old).system (S.view space.old) front.now back.now
+        (known_of front.now) (known_of back.now) }
     requires order { IsOrder (S.view space.old).system.operators order.now }
     requires queue { IsQueue (S.view space.old) queue.old.items }
     requires some { 0 < length queue.old.items }
     requires front_apart { AreApart queue.old.items front.now }
     requires back_apart { AreApart queue.old.items back.now }
-    requires lawful { (undrawn : Cut → Bool) × IsLawful (S.view space.old) front.now back.now cost queue.old.items undrawn }
+    requires lawful { (undrawn : Cut → Bool) × IsLawful (S.view space.old) front.now back.now cost
+        queue.old.items undrawn }
     ensures queue { IsQueue (S.view space.new) queue.new.items }
     ensures trades { Trades (S.view space.old) (S.view space.new) (SetIn queue.old.items) (SetIn queue.new.items) }
-    ensures gave { IfOk result (λ p. GaveFrom (S.view space.old) (S.view space.new) front.now back.now cost queue.old.items queue.new.items p.items) }
+    ensures gave { IfOk result (λ p. GaveFrom (S.view space.old) (S.view space.new) front.now back.now cost
+        queue.old.items queue.new.items p.items) }
     ensures steps { IfOk result (λ p. steps.new ≤ steps.old + length p.items + 2) }
-    ensures owes { OnErr result (OwesOn (S.view space.old) (S.view space.new) front.now back.now cost queue.old.items queue.new.items) }
+    ensures owes { OnErr result (OwesOn (S.view space.old) (S.view space.new) front.now back.now cost
+        queue.old.items queue.new.items) }
 {
     'turns: loop {
         steps.tick();

@@ -7,7 +7,7 @@ ghost use Rattle.space_api.specs.View.{View, Valid, Has};
 ghost use Rattle.space_api.specs.Frames.{Kept, NoMore, Stays};
 ghost use Rattle.cost_layers.specs.Layers.{Held, whole_at};
 ghost use Rattle.entry_turns.specs.Entries.{set_in, cost_in};
-ghost use Rattle.entry_turns.specs.Ways.{AreLeading, IsLeast, Joins, JoinsByCost, IsWay, WayIs, Found};
+ghost use Rattle.entry_turns.specs.Ways.{AreLeading, IsLeast, IsWay, WayIs, Found};
 
 use crate::entries::{Entry, Prefix, Suffix, cost_of};
 use cost_layers::Layers;
@@ -63,60 +63,6 @@ pub fn least_ring<S: Space>(
     }
 }
 
-/// Whether operators of cost `w` lead from the layer into the set.
-fn joins_back<S: Space>(
-    space: &mut S,
-    w: u64,
-    set: S::Set,
-    within: S::Set,
-) -> Result<bool, SpaceFault>
-    requires set { Valid (S.view space.old) set }
-    requires within { Valid (S.view space.old) within }
-    ensures stays { Stays (S.view space.old) (S.view space.new) }
-    ensures ok { IfOk result (λ r. IsTrue r ↔ JoinsByCost (S.view space.old) w within set) }
-{
-    let found = space.pre_cost(w, set, within)?;
-    let empty = space.is_empty(found);
-    space.forget(found);
-    Ok(!empty)
-}
-
-/// Whether operators of cost `w` lead from the set into the layer.
-fn joins_on<S: Space>(
-    space: &mut S,
-    w: u64,
-    set: S::Set,
-    within: S::Set,
-) -> Result<bool, SpaceFault>
-    requires set { Valid (S.view space.old) set }
-    requires within { Valid (S.view space.old) within }
-    ensures stays { Stays (S.view space.old) (S.view space.new) }
-    ensures ok { IfOk result (λ r. IsTrue r ↔ JoinsByCost (S.view space.old) w set within) }
-{
-    let image = space.image_cost(w, set)?;
-    let some = meets(space, image, within);
-    space.forget(image);
-    some
-}
-
-/// Whether operators of cost `w` lead on from the entry into the layer.
-fn joins<S: Space>(
-    space: &mut S,
-    entry: &Entry<S::Set>,
-    w: u64,
-    within: S::Set,
-) -> Result<bool, SpaceFault>
-    requires set { Valid (S.view space.old) (set_in entry.now) }
-    requires within { Valid (S.view space.old) within }
-    ensures stays { Stays (S.view space.old) (S.view space.new) }
-    ensures ok { IfOk result (λ r. IsTrue r ↔ ((op : ℕ) × (s t : State) × ((S.view space.old).system.cost op ≡ w) × Joins (S.view space.old) entry.now op within s t)) }
-{
-    match entry {
-        Entry::Before(prefix) => joins_back(space, w, prefix.set, within),
-        Entry::After(suffix) => joins_on(space, w, suffix.set, within),
-    }
-}
-
 /// The layer of this cost on the side to which the entry grows.
 fn layer_for<T: Copy>(front: &Layers<T>, back: &Layers<T>, entry: &Entry<T>, w: u64) -> Option<T>
     ensures { WayIs front.now back.now entry.now w result }
@@ -131,36 +77,13 @@ fn layer_for<T: Copy>(front: &Layers<T>, back: &Layers<T>, entry: &Entry<T>, w: 
     }
 }
 
-/// Where operators of cost `w` lead on.
-fn find_way<S: Space>(
-    space: &mut S,
-    front: &Layers<S::Set>,
-    back: &Layers<S::Set>,
-    entry: &Entry<S::Set>,
+/// The layer of operators of cost `w`. Trying an operator is the test whether it leads on.
+pub(crate) fn way_for<T: Copy>(
+    front: &Layers<T>,
+    back: &Layers<T>,
+    entry: &Entry<T>,
     w: u64,
-) -> Result<Way<S::Set>, SpaceFault>
-    requires set { Valid (S.view space.old) (set_in entry.now) }
-    requires front { Held (S.view space.old) front.now }
-    requires back { Held (S.view space.old) back.now }
-    ensures stays { Stays (S.view space.old) (S.view space.new) }
-    ensures cost { IfOk result (λ way. way.cost ≡ w) }
-    ensures ok { IfOk result (IsWay (S.view space.old) front.now back.now entry.now) }
-{
-    match layer_for(front, back, entry, w) {
-        None => Ok(Way {
-            cost: w,
-            layer: None,
-        }),
-        Some(within) => {
-            let some = joins(space, entry, w, within)?;
-            let layer = if some { Some(within) } else { None };
-            Ok(Way { cost: w, layer })
-        }
-    }
-}
-
-/// The layer of operators of cost `w`, without a test whether one of them leads on.
-fn untested_way<T: Copy>(front: &Layers<T>, back: &Layers<T>, entry: &Entry<T>, w: u64) -> Way<T>
+) -> Way<T>
     ensures cost { result.cost ≡ w }
     ensures way { (v : View T) → IsWay v front.now back.now entry.now result }
 {
@@ -168,36 +91,6 @@ fn untested_way<T: Copy>(front: &Layers<T>, back: &Layers<T>, entry: &Entry<T>, 
         cost: w,
         layer: layer_for(front, back, entry, w),
     }
-}
-
-/// The way for this cost: the one that was found last, or another one. Where one operator alone has the cost, trying it is
-/// the test.
-pub(crate) fn way_for<S: Space>(
-    space: &mut S,
-    front: &Layers<S::Set>,
-    back: &Layers<S::Set>,
-    entry: &Entry<S::Set>,
-    last: Option<Way<S::Set>>,
-    w: u64,
-    alone: bool,
-) -> Result<Way<S::Set>, SpaceFault>
-    requires set { Valid (S.view space.old) (set_in entry.now) }
-    requires front { Held (S.view space.old) front.now }
-    requires back { Held (S.view space.old) back.now }
-    requires last { MatchOption last Unit (IsWay (S.view space.old) front.now back.now entry.now) }
-    ensures stays { Stays (S.view space.old) (S.view space.new) }
-    ensures cost { IfOk result (λ way. way.cost ≡ w) }
-    ensures ok { IfOk result (IsWay (S.view space.old) front.now back.now entry.now) }
-{
-    if let Some(way) = last
-        && way.cost == w
-    {
-        return Ok(way);
-    }
-    if alone {
-        return Ok(untested_way(front, back, entry, w));
-    }
-    find_way(space, front, back, entry, w)
 }
 
 /// The states of the layer from which the operator leads into the set. None where there is none.

@@ -73,7 +73,8 @@ impl<S: Space> Space for FuseSpace<S> {
     fn all(&mut self) -> Result<S::Set, SpaceFault>
         ensures reached { IfOk result (λ _. ListsReached (S.view self.old.inner).system) }
         ensures kept { Kept (S.view self.old.inner) (S.view self.new.inner) }
-        ensures ok { IfOk result (Gives (S.view self.old.inner) (S.view self.new.inner) (Listed (S.view self.old.inner).system.states)) }
+        ensures ok { IfOk result (Gives (S.view self.old.inner) (S.view self.new.inner)
+            (Listed (S.view self.old.inner).system.states)) }
         ensures err { OnErr result (NoMore (S.view self.old.inner) (S.view self.new.inner)) }
         ensures last { (S.view self.new.inner).last ≡ (S.view self.old.inner).last }
         ensures task { (S.view self.new.inner).task ≡ (S.view self.old.inner).task }
@@ -86,7 +87,8 @@ impl<S: Space> Space for FuseSpace<S> {
 
     fn init(&mut self) -> Result<S::Set, SpaceFault>
         ensures kept { Kept (S.view self.old.inner) (S.view self.new.inner) }
-        ensures ok { IfOk result (Gives (S.view self.old.inner) (S.view self.new.inner) (λ s. s ≡ (S.view self.old.inner).system.initial)) }
+        ensures ok { IfOk result (Gives (S.view self.old.inner) (S.view self.new.inner)
+            (λ s. s ≡ (S.view self.old.inner).system.initial)) }
         ensures err { OnErr result (NoMore (S.view self.old.inner) (S.view self.new.inner)) }
         ensures last { (S.view self.new.inner).last ≡ (S.view self.old.inner).last }
         ensures task { (S.view self.new.inner).task ≡ (S.view self.old.inner).task }
@@ -100,7 +102,8 @@ impl<S: Space> Space for FuseSpace<S> {
     fn goal_in(&mut self, a: S::Set) -> Result<S::Set, SpaceFault>
         requires { Valid (S.view self.old.inner) a }
         ensures kept { Kept (S.view self.old.inner) (S.view self.new.inner) }
-        ensures ok { IfOk result (Gives (S.view self.old.inner) (S.view self.new.inner) (GoalIn (S.view self.old.inner) a)) }
+        ensures ok { IfOk result (Gives (S.view self.old.inner) (S.view self.new.inner)
+            (GoalIn (S.view self.old.inner) a)) }
         ensures err { OnErr result (NoMore (S.view self.old.inner) (S.view self.new.inner)) }
         ensures last { (S.view self.new.inner).last ≡ (S.view self.old.inner).last }
         ensures task { (S.view self.new.inner).task ≡ (S.view self.old.inner).task }
@@ -115,7 +118,8 @@ impl<S: Space> Space for FuseSpace<S> {
         requires fact { IsBase (S.view self.old.inner).task fact.var }
         requires a { Valid (S.view self.old.inner) a }
         ensures kept { Kept (S.view self.old.inner) (S.view self.new.inner) }
-        ensures ok { IfOk result (Gives (S.view self.old.inner) (S.view self.new.inner) (FactIn (S.view self.old.inner) fact a)) }
+        ensures ok { IfOk result (Gives (S.view self.old.inner) (S.view self.new.inner)
+            (FactIn (S.view self.old.inner) fact a)) }
         ensures err { OnErr result (NoMore (S.view self.old.inner) (S.view self.new.inner)) }
         ensures last { (S.view self.new.inner).last ≡ (S.view self.old.inner).last }
         ensures task { (S.view self.new.inner).task ≡ (S.view self.old.inner).task }
@@ -130,7 +134,8 @@ impl<S: Space> Space for FuseSpace<S> {
         requires a { Valid (S.view self.old.inner) a }
         requires b { Valid (S.view self.old.inner) b }
         ensures kept { Kept (S.view self.old.inner) (S.view self.new.inner) }
-        ensures ok { IfOk result (Gives (S.view self.old.inner) (S.view self.new.inner) (Unites (S.view self.old.inner) a b)) }
+        ensures ok { IfOk result (Gives (S.view self.old.inner) (S.view self.new.inner)
+            (Unites (S.view self.old.inner) a b)) }
         ensures err { OnErr result (NoMore (S.view self.old.inner) (S.view self.new.inner)) }
         ensures last { (S.view self.new.inner).last ≡ (S.view self.old.inner).last }
         ensures task { (S.view self.new.inner).task ≡ (S.view self.old.inner).task }
@@ -145,7 +150,8 @@ impl<S: Space> Space for FuseSpace<S> {
         requires a { Valid (S.view self.old.inner) a }
         requires b { Valid (S.view self.old.inner) b }
         ensures kept { Kept (S.view self.old.inner) (S.view self.new.inner) }
-        ensures ok { IfOk result (Gives (S.view self.old.inner) (S.view self.new.inner) (Meets (S.view self.old.inner) a b)) }
+        ensures ok { IfOk result (Gives (S.view self.old.inner) (S.view self.new.inner)
+            (Meets (S.view self.old.inner) a b)) }
         ensures err { OnErr result (NoMore (S.view self.old.inner) (S.view self.new.inner)) }
         ensures last { (S.view self.new.inner).last ≡ (S.view self.old.inner).last }
         ensures task { (S.view self.new.inner).task ≡ (S.view self.old.inner).task }
@@ -160,7 +166,8 @@ impl<S: Space> Space for FuseSpace<S> {
         requires a { Valid (S.view self.old.inner) a }
         requires b { Valid (S.view self.old.inner) b }
         ensures kept { Kept (S.view self.old.inner) (S.view self.new.inner) }
-        ensures ok { IfOk result (Gives (S.view self.old.inner) (S.view self.new.inner) (Lacks (S.view self.old.inner) a b)) }
+        ensures ok { IfOk result (Gives (S.view self.old.inner) (S.view self.new.inner)
+            (Lacks (S.view self.old.inner) a b)) }
         ensures err { OnErr result (NoMore (S.view self.old.inner) (S.view self.new.inner)) }
         ensures last { (S.view self.new.inner).last ≡ (S.view self.old.inner).last }
         ensures task { (S.view self.new.inner).task ≡ (S.view self.old.inner).task }
@@ -174,7 +181,8 @@ impl<S: Space> Space for FuseSpace<S> {
     fn image_cost(&mut self, w: u64, a: S::Set) -> Result<S::Set, SpaceFault>
         requires { Valid (S.view self.old.inner) a }
         ensures kept { Kept (S.view self.old.inner) (S.view self.new.inner) }
-        ensures ok { IfOk result (Gives (S.view self.old.inner) (S.view self.new.inner) (CostImage (S.view self.old.inner) w a)) }
+        ensures ok { IfOk result (Gives (S.view self.old.inner) (S.view self.new.inner)
+            (CostImage (S.view self.old.inner) w a)) }
         ensures err { OnErr result (NoMore (S.view self.old.inner) (S.view self.new.inner)) }
         ensures last { (S.view self.new.inner).last ≡ (S.view self.old.inner).last }
         ensures task { (S.view self.new.inner).task ≡ (S.view self.old.inner).task }
@@ -189,7 +197,8 @@ impl<S: Space> Space for FuseSpace<S> {
         requires a { Valid (S.view self.old.inner) a }
         requires op { op < (S.view self.old.inner).system.operators }
         ensures kept { Kept (S.view self.old.inner) (S.view self.new.inner) }
-        ensures ok { IfOk result (Gives (S.view self.old.inner) (S.view self.new.inner) (Image (S.view self.old.inner) op a)) }
+        ensures ok { IfOk result (Gives (S.view self.old.inner) (S.view self.new.inner)
+            (Image (S.view self.old.inner) op a)) }
         ensures err { OnErr result (NoMore (S.view self.old.inner) (S.view self.new.inner)) }
         ensures last { (S.view self.new.inner).last ≡ (S.view self.old.inner).last }
         ensures task { (S.view self.new.inner).task ≡ (S.view self.old.inner).task }
@@ -204,7 +213,8 @@ impl<S: Space> Space for FuseSpace<S> {
         requires a { Valid (S.view self.old.inner) a }
         requires within { Valid (S.view self.old.inner) within }
         ensures kept { Kept (S.view self.old.inner) (S.view self.new.inner) }
-        ensures ok { IfOk result (Gives (S.view self.old.inner) (S.view self.new.inner) (CostPreimage (S.view self.old.inner) w a within)) }
+        ensures ok { IfOk result (Gives (S.view self.old.inner) (S.view self.new.inner)
+            (CostPreimage (S.view self.old.inner) w a within)) }
         ensures err { OnErr result (NoMore (S.view self.old.inner) (S.view self.new.inner)) }
         ensures last { (S.view self.new.inner).last ≡ (S.view self.old.inner).last }
         ensures task { (S.view self.new.inner).task ≡ (S.view self.old.inner).task }
@@ -220,7 +230,8 @@ impl<S: Space> Space for FuseSpace<S> {
         requires within { Valid (S.view self.old.inner) within }
         requires op { op < (S.view self.old.inner).system.operators }
         ensures kept { Kept (S.view self.old.inner) (S.view self.new.inner) }
-        ensures ok { IfOk result (Gives (S.view self.old.inner) (S.view self.new.inner) (Preimage (S.view self.old.inner) op a within)) }
+        ensures ok { IfOk result (Gives (S.view self.old.inner) (S.view self.new.inner)
+            (Preimage (S.view self.old.inner) op a within)) }
         ensures err { OnErr result (NoMore (S.view self.old.inner) (S.view self.new.inner)) }
         ensures last { (S.view self.new.inner).last ≡ (S.view self.old.inner).last }
         ensures task { (S.view self.new.inner).task ≡ (S.view self.old.inner).task }
@@ -249,7 +260,8 @@ impl<S: Space> Space for FuseSpace<S> {
 
     fn tidy(&mut self) -> Result<(), SpaceFault>
         ensures stays { Stays (S.view self.old.inner) (S.view self.new.inner) }
-        ensures ok { OnOk result (Tidied (S.needs self.old.inner) (S.needs self.new.inner) (S.view self.old.inner) (S.view self.new.inner)) }
+        ensures ok { OnOk result (Tidied (S.needs self.old.inner) (S.needs self.new.inner)
+            (S.view self.old.inner) (S.view self.new.inner)) }
         ensures err { OnErr result (SameRoom (S.view self.old.inner) (S.view self.new.inner)) }
         ensures task { (S.view self.new.inner).task ≡ (S.view self.old.inner).task }
         ensures left { self.new.left ≡ self.old.left - 1 }

@@ -35,7 +35,8 @@ fn forget_rings<S: Space>(space: &mut S, rings: &[S::Set], start: usize)
 pub(crate) fn forget_from<S: Space>(space: &mut S, made: &Made<S::Set>, start: usize)
     requires parts { (a : S.Set) → IsPartFrom start made.now.rings.items made.now.whole a → Valid (S.view space.old) a }
     requires apart { AreApart made.now.rings.items made.now.whole }
-    ensures { Trades (S.view space.old) (S.view space.new) (IsPartFrom start made.now.rings.items made.now.whole) (λ a. ⊥) }
+    ensures { Trades (S.view space.old) (S.view space.new) (IsPartFrom start made.now.rings.items
+        made.now.whole) (λ a. ⊥) }
 {
     forget_rings(space, &made.rings, start);
     give_back(space, made.rings.len() > 1, made.whole);

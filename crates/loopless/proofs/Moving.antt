@@ -7,7 +7,7 @@ use Rattle.space_api.specs.Frames.{Stays}
 use Rattle.space_api.specs.Owned.{Trades}
 use Rattle.space_api.proofs.Trading.{trades_stays, trades_trans}
 use Rattle.run_graph.specs.Reached.{Useful}
-use Rattle.cost_search.specs.Search.{IsOwn, within_of, GoesOn}
+use Rattle.cost_search.specs.Search.{IsOwn, within_of}
 use Rattle.cost_search.proofs.Standing.{Uses, search_in, uses_valid, own_used}
 use Rattle.backward_search.specs.Backward.{IsBackward, search_of}
 use Rattle.backward_search.specs.declared.backward.Backward.{Backward}
@@ -29,9 +29,6 @@ own_valid v b z a o = uses_valid v (search_of b) z.search a (own_used (search_of
 -- nothing happened
 pub moved_stays : {Set : Type 0} (v w : View Set) (b : Backward Set) → IsBackward v b → Stays v w → Moved v w b b
 moved_stays v w b z s = record { trades = trades_stays v w (IsOwn (search_of b)) s (own_valid v b z); within = refl; states = s.kept.same (within_of (search_of b)) z.search.within }
-
-pub moved_on : {Set : Type 0} (v w : View Set) (b h : Backward Set) → Trades v w (IsOwn (search_of b)) (IsOwn (search_of h)) → GoesOn v w (search_of b) (search_of h) → Moved v w b h
-moved_on v w b h t g = record { trades = t; within = g.within; states = g.states }
 
 pub moved_then : {Set : Type 0} (u v w : View Set) (b h : Backward Set) → IsBackward v h → Moved u v b h → Stays v w → Moved u w b h
 moved_then {Set} u v w b h z m s = record {

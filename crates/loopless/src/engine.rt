@@ -103,7 +103,8 @@ impl<S: Space> LazyPlans for LooplessPlans<S> {
         ensures system { system_of S.view self.new ≡ system_of S.view self.old }
         ensures mode { Loopless ≡ Loopless }
         ensures most { most_of self.new ≡ most_of self.old }
-        ensures law { Turned (system_of S.view self.old) Loopless (most_of self.old) (Pends S.view self.old) (Pends S.view self.new) result }
+        ensures law { Turned (system_of S.view self.old) Loopless (most_of self.old) (Pends S.view self.old)
+            (Pends S.view self.new) result }
         ensures last { ended_of self.new ≡ last_of result }
         ensures again { ended_of self.old ≢ None → ended_of self.new ≡ ended_of self.old }
         ensures keeps { KeepsAll S.view self.new }
@@ -116,7 +117,8 @@ impl<S: Space> LazyPlans for LooplessPlans<S> {
         }
     }
 
-    ghost fair = { λ x l. owed_fair (S.view x.space).system x.most (prefixes x.tree.items (entries_of x.queue)) x.held x.ended l.right l.holds };
+    ghost fair = { λ x l. owed_fair (S.view x.space).system x.most
+        (prefixes x.tree.items (entries_of x.queue)) x.held x.ended l.right l.holds };
 
     ghost told = { λ x l p. owed_told (S.view x.space).system (prefixes x.tree.items (entries_of x.queue)) x.held p };
 }

@@ -52,7 +52,8 @@ fn add_child<S: Space>(
     ensures grows { Grows (S.view space.old) (S.view space.new) tree.old.items tree.new.items }
     ensures counted { CountsOn tree.old.items tree.new.items children.old.items children.new.items }
     ensures used { 0 < uses_at tree.new.items entry.node }
-    ensures added { OnOk result (Added (S.view space.old).system tree.new.items (path_at tree.old.items entry.node) op children.old.items children.new.items) }
+    ensures added { OnOk result (Added (S.view space.old).system tree.new.items
+        (path_at tree.old.items entry.node) op children.old.items children.new.items) }
 {
     let price = space.cost_of(op);
     children.reserve(1)?;
@@ -93,7 +94,8 @@ fn add_all<S: Space>(
     ensures counted { CountsOn tree.old.items tree.new.items children.old.items children.new.items }
     ensures queue { entries_of queue.new ≡ entries_of queue.old }
     ensures room { OnOk result (HasRoom queue.new (length children.new.items)) }
-    ensures children { OnOk result (AreChildren (S.view space.old).system tree.new.items (path_at tree.old.items entry.node) (S.view space.old).system.operators children.new.items) }
+    ensures children { OnOk result (AreChildren (S.view space.old).system tree.new.items
+        (path_at tree.old.items entry.node) (S.view space.old).system.operators children.new.items) }
 {
     let here = node_at(tree, entry.node);
     let ops = space.operators_from(alloc, here.set)?;
@@ -122,7 +124,8 @@ pub(crate) fn expand<S: Space>(
     ensures grows { IfOk result (λ kids. Grows (S.view space.old) (S.view space.new) tree.old.items tree.new.items) }
     ensures counted { IfOk result (λ kids. CountsOn tree.old.items tree.new.items [] kids.items) }
     ensures room { IfOk result (λ kids. HasRoom queue.new (length kids.items)) }
-    ensures children { IfOk result (λ kids. AreChildren (S.view space.old).system tree.new.items (path_at tree.old.items entry.node) (S.view space.old).system.operators kids.items) }
+    ensures children { IfOk result (λ kids. AreChildren (S.view space.old).system tree.new.items
+        (path_at tree.old.items entry.node) (S.view space.old).system.operators kids.items) }
     ensures err { OnErr result (Regrows (S.view space.old) (S.view space.new) tree.old.items tree.new.items) }
 {
     let mut children = Vec::new(alloc);

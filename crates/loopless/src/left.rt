@@ -29,7 +29,8 @@ pub(crate) fn left_from<S: Space>(
     requires wide { IsWide (S.view space.old) backward.now }
     requires set { Valid (S.view space.old) set }
     ensures stays { Stays (S.view space.old) (S.view space.new) }
-    ensures left { IfOk result (λ left. (s : State) → One (S.view space.old) set s → IsReached (S.view space.old).system s → IsLeft (S.view space.old).system s left) }
+    ensures left { IfOk result (λ left. (s : State) → One (S.view space.old) set s
+        → IsReached (S.view space.old).system s → IsLeft (S.view space.old).system s left) }
 {
     match backward.least_at(space, set)? {
         Some(cost) => Ok(Some(Left {

@@ -20,7 +20,8 @@ use space_api::{Space, SpaceFault};
 fn step<S: Space>(space: &mut S, set: S::Set, op: u32) -> Result<Option<S::Set>, SpaceFault>
     requires set { Valid (S.view space.old) set }
     requires op { op < (S.view space.old).system.operators }
-    ensures ok { IfOk result (λ next. (s : State) → One (S.view space.old) set s → IsStepped (S.view space.old) (S.view space.new) op s next) }
+    ensures ok { IfOk result (λ next. (s : State) → One (S.view space.old) set s
+        → IsStepped (S.view space.old) (S.view space.new) op s next) }
     ensures made { IfOk result (λ next. Makes (S.view space.old) (S.view space.new) next) }
     ensures err { OnErr result (Stays (S.view space.old) (S.view space.new)) }
 {
@@ -36,7 +37,8 @@ fn step<S: Space>(space: &mut S, set: S::Set, op: u32) -> Result<Option<S::Set>,
 pub(crate) fn is_goal<S: Space>(space: &mut S, set: S::Set) -> Result<bool, SpaceFault>
     requires { Valid (S.view space.old) set }
     ensures stays { Stays (S.view space.old) (S.view space.new) }
-    ensures ok { IfOk result (λ holds. (s : State) → One (S.view space.old) set s → Decides holds (IsTrue ((S.view space.old).system.goal s))) }
+    ensures ok { IfOk result (λ holds. (s : State) → One (S.view space.old) set s
+        → Decides holds (IsTrue ((S.view space.old).system.goal s))) }
 {
     let goal = space.goal_in(set)?;
     let missed = space.is_empty(goal);
@@ -66,7 +68,9 @@ fn look<S: Space>(
     requires node { 0 < uses_at tree.now node }
     requires set { Valid (S.view space.old) set }
     ensures stays { Stays (S.view space.old) (S.view space.new) }
-    ensures ok { IfOk result (λ found. (s : State) → One (S.view space.old) set s → IsReached (S.view space.old).system s → IsSeen (S.view space.old).system (path_at tree.now node) set s found) }
+    ensures ok { IfOk result (λ found. (s : State) → One (S.view space.old) set s
+        → IsReached (S.view space.old).system s → IsSeen (S.view space.old).system (path_at tree.now node) set
+        s found) }
 {
     if passes(space, tree, node, set) {
         return Ok(None);

@@ -45,8 +45,10 @@ pub fn learn<S: Space>(
     requires open { IsFalse entry.settled }
     ensures system { (S.view space.new).system ≡ (S.view space.old).system }
     ensures ready { IsReady (S.view space.new) backward.new tree.new.items (entries_of queue.new) }
-    ensures ok { OnOk result (GoesOn (S.view space.old).system tree.old.items tree.new.items (entries_of queue.old) (entries_of queue.new)) }
-    ensures err { OnErr result (prefixes tree.new.items (entries_of queue.new) ≡ prefixes tree.old.items (entries_of queue.old)) }
+    ensures ok { OnOk result (GoesOn (S.view space.old).system tree.old.items tree.new.items
+        (entries_of queue.old) (entries_of queue.new)) }
+    ensures err { OnErr result (prefixes tree.new.items (entries_of queue.new) ≡ prefixes tree.old.items
+        (entries_of queue.old)) }
 {
     let better = refresh(alloc, space, backward, tree, entry)?;
     let others = one_or_none(alloc, better)?;
@@ -92,8 +94,10 @@ pub fn open<S: Space>(
     requires first { entry ≡ slice_index_or (entries_of queue.old) 0 entry }
     ensures system { (S.view space.new).system ≡ (S.view space.old).system }
     ensures ready { IsReady (S.view space.new) backward.now tree.new.items (entries_of queue.new) }
-    ensures ok { IfOk result (Opens (S.view space.old).system tree.old.items tree.new.items entry (entries_of queue.old) (entries_of queue.new)) }
-    ensures err { OnErr result (prefixes tree.new.items (entries_of queue.new) ≡ prefixes tree.old.items (entries_of queue.old)) }
+    ensures ok { IfOk result (Opens (S.view space.old).system tree.old.items tree.new.items entry
+        (entries_of queue.old) (entries_of queue.new)) }
+    ensures err { OnErr result (prefixes tree.new.items (entries_of queue.new) ≡ prefixes tree.old.items
+        (entries_of queue.old)) }
 {
     let plan = plan_of(alloc, tree, entry)?;
     let children = expand(alloc, space, backward, tree, queue, entry)?;

@@ -63,8 +63,10 @@ fn act<S: Space>(
     requires first { entry ≡ slice_index_or (entries_of queue.old) 0 entry }
     ensures system { (S.view space.new).system ≡ (S.view space.old).system }
     ensures ready { IsReady (S.view space.new) backward.new tree.new.items (entries_of queue.new) }
-    ensures ok { IfOk result (Opens (S.view space.old).system tree.old.items tree.new.items entry (entries_of queue.old) (entries_of queue.new)) }
-    ensures err { OnErr result (prefixes tree.new.items (entries_of queue.new) ≡ prefixes tree.old.items (entries_of queue.old)) }
+    ensures ok { IfOk result (Opens (S.view space.old).system tree.old.items tree.new.items entry
+        (entries_of queue.old) (entries_of queue.new)) }
+    ensures err { OnErr result (prefixes tree.new.items (entries_of queue.new) ≡ prefixes tree.old.items
+        (entries_of queue.old)) }
 {
     if entry.settled {
         return open(alloc, space, backward, tree, queue, entry);
@@ -86,8 +88,10 @@ fn take_turn<S: Space>(
     requires right { Right (S.view space.old).system most (prefixes tree.old.items (entries_of queue.old)) }
     ensures system { (S.view space.new).system ≡ (S.view space.old).system }
     ensures ready { IsReady (S.view space.new) backward.new tree.new.items (entries_of queue.new) }
-    ensures ok { IfOk result (TurnOf (S.view space.old).system most tree.old.items tree.new.items (entries_of queue.old) (entries_of queue.new)) }
-    ensures err { OnErr result (prefixes tree.new.items (entries_of queue.new) ≡ prefixes tree.old.items (entries_of queue.old)) }
+    ensures ok { IfOk result (TurnOf (S.view space.old).system most tree.old.items tree.new.items
+        (entries_of queue.old) (entries_of queue.new)) }
+    ensures err { OnErr result (prefixes tree.new.items (entries_of queue.new) ≡ prefixes tree.old.items
+        (entries_of queue.old)) }
 {
     match queue.first() {
         None => Ok(Turn::Ends),
@@ -121,7 +125,9 @@ pub fn walk<S: Space, L: Ledger>(
     ensures system { (S.view space.new).system ≡ (S.view space.old).system }
     ensures ready { IsReady (S.view space.new) backward.new tree.new.items (entries_of queue.new) }
     ensures right { Right (S.view space.old).system most (prefixes tree.new.items (entries_of queue.new)) }
-    ensures law { Turned (S.view space.old).system Loopless most (Pending (S.view space.old).system (prefixes tree.old.items (entries_of queue.old))) (Pending (S.view space.old).system (prefixes tree.new.items (entries_of queue.new))) result }
+    ensures law { Turned (S.view space.old).system Loopless most (Pending (S.view space.old).system
+        (prefixes tree.old.items (entries_of queue.old))) (Pending (S.view space.old).system
+        (prefixes tree.new.items (entries_of queue.new))) result }
 {
     'turns: loop {
         steps.tick();

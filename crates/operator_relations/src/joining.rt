@@ -47,8 +47,10 @@ pub fn joined_by_cost(
     bound: u64,
 ) -> Result<(Vec<Relation>, Vec<usize>), TableFault>
     requires { AreSingle task.now order.now ops.old single.now }
-    ensures joined { IfOk result (λ r. AreJoined task.now order.now ops.new costs.now (length costs.now) r.1.items r.0.items) }
-    ensures halved { IfOk result (λ r. AreHalved task.now order.now bound ops.new single.now costs.now (length costs.now) r.1.items r.0.items) }
+    ensures joined { IfOk result (λ r. AreJoined task.now order.now ops.new costs.now (length costs.now)
+        r.1.items r.0.items) }
+    ensures halved { IfOk result (λ r. AreHalved task.now order.now bound ops.new single.now costs.now
+        (length costs.now) r.1.items r.0.items) }
     ensures kept { Keeps ops.old ops.new }
     ensures reduced { IsReduced ops.new }
 {

@@ -78,8 +78,10 @@ impl OperatorRelations {
 
     /// The place of the cost among the different ones.
     fn place_of(&self, cost: u64) -> Option<usize>
-        ensures some { IfSome result (λ i. (i < length self.now.costs.items) × (slice_index self.now.costs.items i ≡ cost)) }
-        ensures none { IsNone result → (i : ℕ) → i < length self.now.costs.items → slice_index self.now.costs.items i ≢ cost }
+        ensures some { IfSome result (λ i. (i < length self.now.costs.items)
+            × (slice_index self.now.costs.items i ≡ cost)) }
+        ensures none { IsNone result → (i : ℕ) → i < length self.now.costs.items
+            → slice_index self.now.costs.items i ≢ cost }
     {
         self.costs.iter().position(|other| *other == cost)
     }
@@ -89,7 +91,8 @@ impl OperatorRelations {
         requires count { place + 1 < length self.now.starts.items }
         requires rising { slice_index self.now.starts.items place ≤ slice_index self.now.starts.items (place + 1) }
         requires within { slice_index self.now.starts.items (place + 1) ≤ length self.now.joined.items }
-        ensures { result.now ≡ slice_range self.now.joined.items (slice_index self.now.starts.items place) (slice_index self.now.starts.items (place + 1)) }
+        ensures { result.now ≡ slice_range self.now.joined.items (slice_index self.now.starts.items place)
+            (slice_index self.now.starts.items (place + 1)) }
     {
         let start = self.starts[place];
         let end = self.starts[place + 1];
@@ -182,7 +185,8 @@ impl OperatorRelations {
     pub fn take_roots(&mut self, roots: &[Id], from: usize)
         requires { from + length (roots_of self.old) ≤ length roots.now }
         ensures taken { roots_of self.new ≡ slice_range roots.now from (from + length (roots_of self.old)) }
-        ensures moved { (task : TaskParts) (o : Layout) (old : List Node) (new : List Node) → AreRelationsOf task o old self.old
+        ensures moved { (task : TaskParts) (o : Layout) (old : List Node) (new : List Node)
+            → AreRelationsOf task o old self.old
             → AreMovedTo old new (roots_of self.old) roots.now from → AreRelationsOf task o new self.new }
     {
         put_roots(&mut self.single, roots, from);

@@ -23,7 +23,8 @@ pub fn push_roots(relations: &[Relation], roots: &mut Vec<Id>) -> Result<(), Mem
 pub fn put_roots(relations: &mut [Relation], roots: &[Id], from: usize)
     requires { from + length relations.old ≤ length roots.now }
     ensures { (i : ℕ) (d : RelationOf) → i < length relations.old
-        → slice_index_or relations.new i d ≡ with_root (slice_index_or relations.old i d) (slice_index roots.now (from + i)) }
+        → slice_index_or relations.new i d ≡ with_root (slice_index_or relations.old i d)
+        (slice_index roots.now (from + i)) }
 {
     let mut place = from;
     for relation in relations.iter_mut() {

@@ -86,7 +86,8 @@ fn check_next(
     requires rules { AreRulesOf task.now rules.now }
     requires names { length block.now.names ≡ length block.now.ops }
     ensures fits { Fits task.now }
-    ensures next { IfOk result (λ why. (before : List ReadBlock) → IsSeen mode before seen.old → plan ≡ length before + 1 →
+    ensures next { IfOk result (λ why. (before : List ReadBlock) → IsSeen mode before seen.old
+        → plan ≡ length before + 1 →
         MatchOption why
         (Passes task.now mode before block.now × IsSeen mode (before ++ block.now ∷ []) seen.new)
         (IsFirstReason task.now mode before block.now)) }
@@ -121,7 +122,8 @@ fn check_next(
 fn misspelled(task: &Task, block: &ReadBlock) -> Option<Why>
     requires { length block.now.names ≡ length block.now.ops }
     ensures fits { Fits task.now }
-    ensures spelling { MatchOption result (AreOperators task.now block.now.ops × AreNamed task.now block.now) (IsSpelling task.now block.now) }
+    ensures spelling { MatchOption result (AreOperators task.now block.now.ops × AreNamed task.now block.now)
+        (IsSpelling task.now block.now) }
 {
     let numbers = block.ops.as_slice();
     let operators = task.parts().operators.as_slice();

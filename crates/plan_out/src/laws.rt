@@ -12,7 +12,8 @@ ghost use Rattle.plan_out.specs.Plans.{IsPlansOf};
 
 /// The lines of a plan text are those of one list of blocks alone.
 pub fn text_states_one_list()
-    ensures { (lines : List (List ℕ)) (one other : List ReadBlock) → IsPlansOf lines one → IsPlansOf lines other → one ≡ other }
+    ensures { (lines : List (List ℕ)) (one other : List ReadBlock) → IsPlansOf lines one → IsPlansOf lines
+        other → one ≡ other }
 {}
 
 /// Where no block fails, the blocks are different plans of the mode, by cost, and each is printed as its plan is.

@@ -10,7 +10,8 @@ use symk_task::{Name, Operator, Task};
 
 /// The first step whose number isn't below the number of operators.
 pub fn too_large(numbers: &[u32], operators: u32) -> Option<u64>
-    ensures { MatchOption result (All (λ op. op < operators) numbers.now) (λ step. (1 ≤ step) × IsTooLarge operators numbers.now (step - 1)) }
+    ensures { MatchOption result (All (λ op. op < operators) numbers.now) (λ step. (1 ≤ step)
+        × IsTooLarge operators numbers.now (step - 1)) }
 {
     for i in 0..numbers.len() {
         if numbers[i] >= operators {

@@ -5,3 +5,4 @@ pub mod Listed
 pub mod Ended
 pub mod Reached
 pub mod Costed
+pub mod Keeping

@@ -5,9 +5,8 @@ ghost use Rattle.symk_task.specs.declared.parts.Mode.TheVariants.{TopK};
 ghost use Rattle.plan_run.specs.Engines.{OwesAll};
 ghost use Rattle.plan_run.specs.Costs.{HasMore, HasPlans};
 
-use crate::asking::Direction;
-use crate::choice::Patient;
-use crate::engines::top_plans;
+use crate::asking::{Direction, Search};
+use crate::beginning::top_plans;
 use bdd_space::BddSpace;
 use selectors::{LazyPlans, Limited, Stop};
 use std::alloc::{AllocError, Global};
@@ -15,6 +14,12 @@ use symk_task::{Memory, Task};
 
 /// How many plans are shown.
 pub const SHOWN: u64 = 20;
+
+// How plans are searched for where nothing is asked for.
+const UNASKED: Search = Search {
+    direction: Direction::Auto,
+    mutex: false,
+};
 
 /// What plans cost.
 #[derive(Clone, Copy, Debug)]
@@ -73,9 +78,7 @@ pub fn costs_found(alloc: Global, task: &Task) -> Result<Costs, Memory>
     requires { HasMore task.now 20 }
     ensures { IfOk result (λ costs. HasPlans task.now costs.cheapest costs.dearest costs.total) }
 {
-    // A task fits, and so its system lists each useful state.
-    let _ = task.parts();
     let space = BddSpace::of(alloc, task)?;
-    let plans = top_plans(alloc, task, space, Patient::of(Direction::Auto), None)?;
+    let plans = top_plans(alloc, task, UNASKED, space, None)?;
     costs_of(alloc, task, plans)
 }

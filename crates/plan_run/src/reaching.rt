@@ -8,9 +8,9 @@ ghost use Rattle.plan_run.specs.Lists.{OrPart, aim};
 ghost use Rattle.plan_run.specs.Reaches.{OrReached, HasLeast, IsNear, share};
 
 use crate::asking::{Reach, Search, Wanted};
-use crate::choice::Patient;
+use crate::beginning::top_plans;
 use crate::earlier::Earlier;
-use crate::engines::{list_found, top_plans};
+use crate::engines::list_found;
 use crate::planning::end_list;
 use bdd_space::BddSpace;
 use plan_out::End;
@@ -96,10 +96,8 @@ fn share(cost: u64, percent: u64) -> u64
 fn least_cost(alloc: Global, task: &Task, search: Search) -> Result<Least, Memory>
     ensures { IfOk result (HasLeast task.now) }
 {
-    // A task fits, and so its system lists each useful state.
-    let _ = task.parts();
     let space = BddSpace::of(alloc, task)?;
-    let plans = top_plans(alloc, task, space, Patient::of(search.direction), None)?;
+    let plans = top_plans(alloc, task, search, space, None)?;
     cheapest_of(alloc, task, plans)
 }
 

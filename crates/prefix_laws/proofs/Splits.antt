@@ -1,9 +1,9 @@
 -- Of a prefix: a plan is the prefix itself or goes on by one operator.
-use Rattle.std.proofs.Common.{◌≡◌, ℕ, zero, suc, ◌+◌, ◌<◌, ◌≤◌, Bool, true, false, ◌&&◌, eqb, cond, IsTrue, ◌⊎◌, inl, inr, List, [], ◌∷◌, ◌++◌, length, refl, sym, ◌∙◌, ap, subst, arith, eq-eqb}
+use Rattle.std.proofs.Common.{◌≡◌, ℕ, zero, suc, ◌+◌, ◌<◌, Bool, true, false, ◌&&◌, eqb, ◌⊎◌, inl, inr, List, [], ◌∷◌, ◌++◌, refl, sym, ◌∙◌, ap, arith, eq-eqb}
 use Rattle.std.proofs.lemmas.Bool.Decides.{nat_tests}
 use Rattle.std.specs.List.{sum_by}
 use Rattle.std.proofs.lemmas.List.Sums.{sum_by-cons}
-use Rattle.task_system.specs.System.{State, System, Leads, Runs, cost_of, are_equal}
+use Rattle.task_system.specs.System.{State, System, Runs, cost_of, are_equal}
 use Rattle.prefix_laws.specs.Queue.{prefix, ind, count, sum_ops, Replaced}
 
 pub sum_same : (n : ℕ) (f g : ℕ → ℕ) → ((k : ℕ) → k < n → f k ≡ g k) → sum_ops n f ≡ sum_ops n g
@@ -88,17 +88,6 @@ pub cost_join : (y : System) (e q : List ℕ) → cost_of y (e ++ q) ≡ cost_of
 cost_join y [] q = omega arith
 cost_join y (x ∷ e) q = omega (arith, cost_join y e q)
 
-pub equal_refl : (e : List ℕ) → are_equal e e ≡ true
-equal_refl [] = refl
-equal_refl (x ∷ e) = rw (eq-eqb x x refl, equal_refl e) refl
-
 pub prefix_refl : (e : List ℕ) → prefix e e ≡ true
 prefix_refl [] = refl
 prefix_refl (x ∷ e) = rw (eq-eqb x x refl, prefix_refl e) refl
-
-pub equal_prefix : (e p : List ℕ) → are_equal e p ≡ true → prefix e p ≡ true
-equal_prefix [] p h = refl
-equal_prefix (x ∷ e) [] h = cc
-equal_prefix (x ∷ e) (z ∷ p) h =
-    let b = both (eqb x z) (are_equal e p) h in
-    rw (b.0, equal_prefix e p b.1) refl

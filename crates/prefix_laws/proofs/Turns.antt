@@ -1,12 +1,12 @@
 -- What the turns of the queue do to what pends.
-use Rattle.std.proofs.Common.{◌≡◌, ℕ, zero, suc, ◌+◌, ◌-◌, ◌<◌, ◌≤◌, Bool, true, false, cond, eqb, IsTrue, IsFalse, ◌⊎◌, ◌↔◌, inl, inr, List, [], ◌∷◌, ◌++◌, length, Option, Some, None, refl, sym, ◌∙◌, ap, subst, arith}
+use Rattle.std.proofs.Common.{◌≡◌, ℕ, zero, suc, ◌+◌, ◌-◌, ◌<◌, ◌≤◌, Bool, true, false, eqb, ◌⊎◌, inl, inr, List, [], ◌∷◌, ◌++◌, length, Option, Some, None, refl, sym, ◌∙◌, ap, subst, arith}
 use Rattle.std.specs.Bool.{Decides}
 use Rattle.std.specs.List.{AllByRecursion, sum_by}
 use Rattle.std.proofs.lemmas.Bool.Decides.{Decides-and, Decides-eqb}
 use Rattle.std.proofs.lemmas.List.Sums.{sum_by-cons}
 use Rattle.symk_task.specs.declared.parts.Mode.TheVariants.{Loopless}
-use Rattle.task_system.specs.System.{State, System, Listed, Leads, Runs, IsPlan, IsPlanOf, same, are_equal, cost_of}
-use Rattle.lazy_plans.specs.Law.{Gave, Stays, Stops, Fair, NoneLeft, Dear, top}
+use Rattle.task_system.specs.System.{System, Listed, IsPlan, IsPlanOf, are_equal, cost_of}
+use Rattle.lazy_plans.specs.Law.{Gave, Stays, Stops, Fair, NoneLeft, top}
 use Rattle.lazy_plans.specs.Told.{is_in}
 use Rattle.lazy_plans.specs.declared.stop.Stop.TheVariants.{CostRange}
 use Rattle.lazy_plans.proofs.Told.{equal_is, equal_self, in_told}
@@ -17,14 +17,6 @@ use Rattle.prefix_laws.proofs.Traces.{short}
 known : (b : Bool) → (b ≡ true) ⊎ (b ≡ false)
 known true = inl refl
 known false = inr refl
-
-ind_le : (b : Bool) → ind b ≤ 1
-ind_le true = omega arith
-ind_le false = omega arith
-
-each_join : (P : List ℕ → Type 0) (xs ys : List (List ℕ)) → AllByRecursion P xs → AllByRecursion P ys → AllByRecursion P (xs ++ ys)
-each_join P [] ys a b = b
-each_join P (x ∷ xs) ys a b = (a.0, each_join P xs ys a.1 b)
 
 -- some entry is a prefix
 found : (y : System) (b : ℕ) (es : List (List ℕ)) (q : List ℕ) → IsPlan y q → AllByRecursion (λ e. Bounds y e b) es → 0 < count es q → b ≤ cost_of y q

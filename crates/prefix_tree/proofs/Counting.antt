@@ -61,12 +61,6 @@ one_self : (k : ℕ) → one_at k k ≡ 1
 one_self zero = refl
 one_self (suc k) = one_self k
 
-one_other : (k i : ℕ) → k < i → one_at k i ≡ 0
-one_other zero zero lt = absurd (omega arith)
-one_other zero (suc i) lt = refl
-one_other (suc k) zero lt = refl
-one_other (suc k) (suc i) lt = one_other k i (omega arith)
-
 pub one_or : (k i : ℕ) → (k ≡ i) ⊎ (one_at k i ≡ 0)
 one_or zero zero = inl refl
 one_or zero (suc i) = inr refl

@@ -20,10 +20,6 @@ bool_same false false f g = refl
 same_one : {Set : Type 0} (v : View Set) (a b : Set) (s t : State) → One v a s → One v b t → s ≡ t → HasSame v a b
 same_one v a b s t one two e u = bool_same _ _ (λ h. (two.means u).1 ((one.means u).0 h ∙ e)) (λ h. (one.means u).1 ((two.means u).0 h ∙ sym e))
 
-listed_last : (xs : List State) (s t : State) → s ≡ t → Listed (xs ++ s ∷ []) t
-listed_last [] s t e = inl e
-listed_last (x ∷ xs) s t e = inr (listed_last xs s t e)
-
 listed_first : (xs : List State) (s t : State) → Listed xs t → Listed (xs ++ s ∷ []) t
 listed_first [] s t h = absurd h
 listed_first (x ∷ xs) s t (inl e) = inl e

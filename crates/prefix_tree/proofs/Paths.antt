@@ -1,5 +1,5 @@
 -- A tree that grows by one prefix, and one that stands while sets are kept.
-use Rattle.std.proofs.Common.{◌≡◌, ℕ, zero, suc, ◌+◌, ◌<◌, ◌⊎◌, inl, inr, List, [], ◌∷◌, ◌++◌, length, slice_index_or, refl, sym, ◌∙◌, ap, subst, arith, append_assoc}
+use Rattle.std.proofs.Common.{◌≡◌, ℕ, zero, suc, ◌+◌, ◌<◌, ◌⊎◌, inl, inr, List, [], ◌∷◌, ◌++◌, length, slice_index_or, refl, sym, ◌∙◌, ap, subst, arith}
 use Rattle.std.specs.List.{AllByRecursion}
 use Rattle.std.proofs.lemmas.List.{length-append}
 use Rattle.symk_task.specs.Plans.{AllDifferent}
@@ -41,16 +41,6 @@ path_last [] n i some e = absurd (omega arith)
 path_last (r ∷ nodes) n i some e =
     ap (λ (z : List (List ℕ)). slice_index_or z i []) (paths_more ([] ∷ []) nodes n)
     ∙ last_at (paths_on ([] ∷ []) nodes) (slice_index_or (paths_on ([] ∷ []) nodes) n.parent [] ++ n.op ∷ []) i [] (omega (arith, e, paths_length ([] ∷ []) nodes))
-
-pub path_more : {T : Type 0} (nodes more : List (Node T)) (i : ℕ) → i < length nodes → path_at (nodes ++ more) i ≡ path_at nodes i
-path_more nodes [] i lt = ap (λ (z : List (Node _)). path_at z i) (append_nil nodes)
-  where
-    append_nil : {X : Type 0} (xs : List X) → xs ++ [] ≡ xs
-    append_nil [] = refl
-    append_nil (x ∷ xs) = ap (λ (z : List _). x ∷ z) (append_nil xs)
-path_more nodes (n ∷ more) i lt =
-    ap (λ (z : List (Node _)). path_at z i) (sym (append_assoc nodes (n ∷ []) more))
-    ∙ (path_more (nodes ++ n ∷ []) more i (omega (arith, lt, length-append nodes (n ∷ []))) ∙ path_front nodes n i lt)
 
 pub one_kept : {Set : Type 0} (v w : View Set) (a : Set) (s : State) → Kept v w → One v a s → One w a s
 one_kept v w a s k one = record {

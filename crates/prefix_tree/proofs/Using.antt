@@ -163,9 +163,6 @@ module _ {Set : Type 0} (v w : View Set) (nodes : List (Node Set)) (k : ℕ) (n 
       one_place : (i : ℕ) (m : Node Set) → IsUsed nodes i m → k ≡ i → m.set ≡ n.set
       one_place i m h e = ap (λ (x : Node Set). x.set) (same_read nodes i m n h.inside h.at (subst (λ (j : ℕ). n ≡ slice_index_or nodes j n) e here.at))
 
-  pub off_now : (a : Set) → InTree (with_uses nodes k 0) a → a ≢ n.set
-  off_now a t e = let b = back t.0 t.1 t.2 in off_set t.0 b.0 b.1 (elsewhere t.0 t.1 t.2) (sym b.2.1 ∙ (sym t.3 ∙ e))
-
   up_on : (i : ℕ) (m : Node Set) → IsUsed nodes i m → 0 < i → 0 < uses_at nodes m.parent → 0 < uses_at (with_uses nodes k 0) m.parent
   up_on i m h some used = elim (one_or k m.parent) [
     | inl e ↦ absurd (let count = child_counts nodes i m h some in omega (arith, alone, subst (λ (j : ℕ). 0 < children_of nodes j) (sym e) count))

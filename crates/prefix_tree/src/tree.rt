@@ -35,7 +35,9 @@ pub fn passes<S: Space>(space: &S, tree: &[Node<S::Set>], node: usize, next: S::
     requires tree { IsTree (S.view space.now) tree.now }
     requires node { 0 < uses_at tree.now node }
     requires next { Valid (S.view space.now) next }
-    ensures { (t : State) → One (S.view space.now) next t → Decides result (Listed (trace (S.view space.now).system (S.view space.now).system.initial (path_at tree.now node)) t) }
+    ensures { (t : State) → One (S.view space.now) next t
+        → Decides result (Listed (trace (S.view space.now).system (S.view space.now).system.initial
+        (path_at tree.now node)) t) }
 {
     let mut at = node;
     'up: loop {
@@ -105,7 +107,8 @@ pub fn add<T: Copy>(
 ) -> Result<usize, AllocError>
     requires { parent < length tree.old.items }
     ensures place { IfOk result (λ place. place ≡ length tree.old.items) }
-    ensures child { IfOk result (λ place. tree.new.items ≡ with_child tree.old.items (record { parent = parent; op = op; set = set; uses = 1 })) }
+    ensures child { IfOk result (λ place. tree.new.items ≡ with_child tree.old.items
+        (record { parent = parent; op = op; set = set; uses = 1 })) }
     ensures err { OnErr result (tree.new.items ≡ tree.old.items) }
 {
     let before = node_at(tree, parent);

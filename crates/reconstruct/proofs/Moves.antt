@@ -34,11 +34,6 @@ queue_valid v Uses front back None queue at a h = absurd (none_in queue at a h)
 queue_valid v Uses front back (Some place) queue (inl at) a h = absurd (none_in queue at.1 a h)
 queue_valid v Uses front back (Some place) queue (inr at) a h = in_valid v queue a at.queue_is.each h
 
-pub queue_apart : {Set : Type 0} (v : View Set) (Uses : Set → Type 0) (front back : Layers Set) (listed : Option Place) (queue : List (Entry Set)) → IsAt v Uses front back listed queue → (a : Set) → SetIn queue a → ¬ Uses a
-queue_apart v Uses front back None queue at a h u = none_in queue at a h
-queue_apart v Uses front back (Some place) queue (inl at) a h u = none_in queue at.1 a h
-queue_apart v Uses front back (Some place) queue (inr at) a h u = at.apart a h u
-
 pub same_way : (A : Type 0) → A ↔ A
 same_way A = ((λ h. h), (λ h. h))
 
@@ -74,9 +69,6 @@ listing_of v Uses front back place queue left (inr l) = l
 pub listing_some : {Set : Type 0} (v : View Set) (Uses : Set → Type 0) (front back : Layers Set) (place : Place) (queue : List (Entry Set)) → 0 < length queue → IsAt v Uses front back (Some place) queue → IsListing v Uses front back place queue
 listing_some v Uses front back place queue some (inl at) = absurd (omega (arith, some, ap length at.1))
 listing_some v Uses front back place queue some (inr l) = l
-
-pub not_none : {Set : Type 0} (v : View Set) (Uses : Set → Type 0) (front back : Layers Set) (queue : List (Entry Set)) → 0 < length queue → IsAt v Uses front back None queue → ⊥
-not_none v Uses front back queue some at = omega (arith, some, ap length at)
 
 -- what is owed where nothing is left of the cost that is listed
 no_places : {Set : Type 0} (v : View Set) (b : ℕ) (after : Option Cut) (left : Bool) (queue : List (Entry Set)) (p : List ℕ) → left ≡ false → queue ≡ [] → places v.system b (plains v queue) (undrawn left after) p ≡ 0

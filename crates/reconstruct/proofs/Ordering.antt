@@ -1,29 +1,16 @@
 -- Operators sorted by their costs.
-use Rattle.std.proofs.Common.{◌≡◌, ℕ, zero, suc, ◌+◌, ◌<◌, ◌≤◌, ◌⊎◌, inl, inr, eqb, leb, List, [], ◌∷◌, ◌++◌, length, get_or, map, Result, Ok, Err, IfOk, refl, sym, ◌∙◌, ap, subst, arith, eq-eqb}
+use Rattle.std.proofs.Common.{◌≡◌, ℕ, zero, suc, ◌+◌, ◌<◌, ◌≤◌, ◌⊎◌, inl, inr, eqb, leb, List, [], ◌∷◌, length, get_or, map, Result, Ok, Err, IfOk, refl, sym, ◌∙◌, ap, subst, arith, eq-eqb}
 use Rattle.std.specs.List.{AllByRecursion, sum_by}
 use Rattle.std.specs.List.Sorted.{IsPermutation, IsNonDecreasingBy}
 use Rattle.std.proofs.lemmas.Bool.Decides.{eqb_tells, leb_tells}
 use Rattle.std.proofs.lemmas.List.{get_or-map}
-use Rattle.std.proofs.lemmas.List.Elements.{All-push}
-use Rattle.std.proofs.lemmas.List.Sums.{sum_by-cons, sum_by_push}
+use Rattle.std.proofs.lemmas.List.Sums.{sum_by-cons}
 use Rattle.std.proofs.lemmas.List.Sorted.{All-permutation, sum_by-IsPermutation}
 use Rattle.task_system.specs.System.{System}
 use Rattle.entry_laws.specs.Counts.{ind, sum_ops}
 use Rattle.entry_laws.specs.Growing.{sum_list, IsIn, IsOrder}
 use Rattle.reconstruct.specs.declared.pricing.Priced.{Priced}
 use Rattle.reconstruct.specs.Pricing.{ArePriced}
-
-sum_more : (f : ℕ → ℕ) (n m : ℕ) → m ≡ suc n → sum_ops m f ≡ sum_ops n f + f n
-sum_more f n m e = rw e refl
-
-pub priced_none : (y : System) → ArePriced y 0 []
-priced_none y = record { costs = λ k d lt. absurd (omega (arith, lt)); sums = λ f. refl }
-
-pub priced_more : (y : System) (n : ℕ) (all : List Priced) (p : Priced) → ArePriced y n all → p.op ≡ n → p.cost ≡ y.cost n → ArePriced y (n + 1) (all ++ p ∷ [])
-priced_more y n all p a op cost = record {
-  costs = All-push (λ q. q.cost ≡ y.cost q.op) all p a.costs (cost ∙ ap y.cost (sym op));
-  sums = λ f. omega (arith, sum_by_push (λ q. f q.op) all p, a.sums f, ap f op, sum_more f n (n + 1) (omega arith));
-}
 
 pub priced_sorted : (y : System) (n : ℕ) (all all2 : List Priced) → ArePriced y n all → IsPermutation all all2 → ArePriced y n all2
 priced_sorted y n all all2 a same = record {

@@ -1,5 +1,5 @@
 -- What reconstruction needs of a search from both ends.
-use Rattle.std.specs.Prelude.{◌≡◌, ℕ, ◌+◌, ◌<◌, ◌≤◌, ◌⊎◌, List, Option, Some}
+use Rattle.std.specs.Prelude.{◌≡◌, ℕ, ◌+◌, ◌<◌, ◌≤◌, List, Option}
 use Rattle.task_system.specs.System.{System, cost_of}
 use Rattle.space_api.specs.View.{View}
 use Rattle.run_graph.specs.Reached.{IsRightLayer}

@@ -41,7 +41,8 @@ fn next_entry<S: Space, P: Choose>(
 ) -> Result<Option<Drawn<S::Set>>, SpaceFault>
     requires both { IsBoth (S.view space.old) both.now }
     requires settled { cost < f_of both.now + b_of both.now }
-    ensures ok { IfOk result (DrawsNext (S.view space.old) (S.view space.new) (front_layers both.now) (back_layers both.now) cost after) }
+    ensures ok { IfOk result (DrawsNext (S.view space.old) (S.view space.new) (front_layers both.now)
+        (back_layers both.now) cost after) }
     ensures err { OnErr result (Stays (S.view space.old) (S.view space.new)) }
 {
     match both.next_cut(alloc, space, cost, after)? {
@@ -70,7 +71,8 @@ fn put<S: Space>(
     requires set { Valid (S.view space.old) (set_in drawn.entry) }
     requires empty { queue.old.items ≡ [] }
     ensures ok { OnOk result (PutsOne (S.view space.old) (S.view space.new) place.old place.new queue.new.items drawn) }
-    ensures err { OnErr result (LeavesAll (S.view space.old) (S.view space.new) place.old place.new queue.old.items queue.new.items drawn) }
+    ensures err { OnErr result (LeavesAll (S.view space.old) (S.view space.new) place.old place.new
+        queue.old.items queue.new.items drawn) }
 {
     let Drawn { cut, entry } = drawn;
     let set = set_of(&entry);
@@ -94,7 +96,8 @@ pub(crate) fn draw<S: Space, P: Choose>(
     requires listing { Lists (S.view space.old) both.now place.old queue.old.items }
     requires empty { queue.old.items ≡ [] }
     requires left { IsTrue place.old.left }
-    ensures draws { Draws (S.view space.old) (S.view space.new) both.now place.old place.new queue.old.items queue.new.items }
+    ensures draws { Draws (S.view space.old) (S.view space.new) both.now place.old place.new queue.old.items
+        queue.new.items }
     ensures err { OnErr result (queue.new.items ≡ queue.old.items) }
     ensures ok { OnOk result (HasMore queue.new.items (Some place.new)) }
 {

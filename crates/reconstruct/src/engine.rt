@@ -108,7 +108,8 @@ impl<S: Space, P: Choose> LazyPlans for TopPlans<S, P> {
         ensures system { system_of S.view self.new ≡ system_of S.view self.old }
         ensures mode { TopK ≡ TopK }
         ensures most { most_of self.new ≡ most_of self.old }
-        ensures law { Turned (system_of S.view self.old) TopK (most_of self.old) (Pends S.view self.old) (Pends S.view self.new) result }
+        ensures law { Turned (system_of S.view self.old) TopK (most_of self.old) (Pends S.view self.old)
+            (Pends S.view self.new) result }
         ensures last { ended_by self.new ≡ last_of result }
         ensures again { ended_by self.old ≢ None → ended_by self.new ≡ ended_by self.old }
         ensures steps { FewTurns steps.old steps.new result }

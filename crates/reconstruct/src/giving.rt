@@ -30,7 +30,8 @@ fn draw_next<S: Space, P: Choose>(
     requires working { IsWorking (S.view space.old) both.now listed.old queue.old.items }
     requires empty { queue.old.items ≡ [] }
     ensures both { IsBoth (S.view space.new) both.now }
-    ensures moves { Moves (S.view space.old) (S.view space.new) both.now both.now listed.old listed.new queue.old.items queue.new.items }
+    ensures moves { Moves (S.view space.old) (S.view space.new) both.now both.now listed.old listed.new
+        queue.old.items queue.new.items }
     ensures cost { cost_at listed.new ≡ cost_at listed.old }
     ensures ok { OnOk result (HasMore queue.new.items listed.new) }
 {
@@ -59,9 +60,11 @@ fn fill<S: Space, P: Choose>(
     requires working { IsWorking (S.view space.old) both.old listed.old queue.old.items }
     requires range { InRange most listed.old }
     ensures both { IsBoth (S.view space.new) both.new }
-    ensures moves { Moves (S.view space.old) (S.view space.new) both.old both.new listed.old listed.new queue.old.items queue.new.items }
+    ensures moves { Moves (S.view space.old) (S.view space.new) both.old both.new listed.old listed.new
+        queue.old.items queue.new.items }
     ensures range { InRange most listed.new }
-    ensures ok { IfOk result (Fills (S.view space.old).system most (Owes (S.view space.old) (back_layers both.old) listed.old queue.old.items) queue.new.items) }
+    ensures ok { IfOk result (Fills (S.view space.old).system most
+        (Owes (S.view space.old) (back_layers both.old) listed.old queue.old.items) queue.new.items) }
 {
     if !queue.is_empty() {
         return Ok(Filled::Ready);
@@ -90,7 +93,9 @@ fn walk_on<S: Space, P: Choose, L: Ledger>(
     requires some { 0 < length queue.old.items }
     ensures working { IsWorking (S.view space.new) both.now listed.now queue.new.items }
     ensures trades { TradesAll (S.view space.old) (S.view space.new) both.now both.now queue.old.items queue.new.items }
-    ensures turned { Turned (S.view space.old).system TopK most (Owes (S.view space.old) (back_layers both.now) listed.now queue.old.items) (Owes (S.view space.new) (back_layers both.now) listed.now queue.new.items) result }
+    ensures turned { Turned (S.view space.old).system TopK most
+        (Owes (S.view space.old) (back_layers both.now) listed.now queue.old.items)
+        (Owes (S.view space.new) (back_layers both.now) listed.now queue.new.items) result }
     ensures steps { FewTurns steps.old steps.new result }
 {
     match listed {
@@ -130,7 +135,9 @@ pub(crate) fn give<S: Space, P: Choose, L: Ledger>(
     ensures working { IsWorking (S.view space.new) both.new listed.new queue.new.items }
     ensures range { InRange most listed.new }
     ensures trades { TradesAll (S.view space.old) (S.view space.new) both.old both.new queue.old.items queue.new.items }
-    ensures turned { Turned (S.view space.old).system TopK most (Owes (S.view space.old) (back_layers both.old) listed.old queue.old.items) (Owes (S.view space.new) (back_layers both.new) listed.new queue.new.items) result }
+    ensures turned { Turned (S.view space.old).system TopK most
+        (Owes (S.view space.old) (back_layers both.old) listed.old queue.old.items)
+        (Owes (S.view space.new) (back_layers both.new) listed.new queue.new.items) result }
     ensures steps { FewTurns steps.old steps.new result }
 {
     match fill(alloc, space, both, most, listed, queue) {

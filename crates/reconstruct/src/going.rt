@@ -44,7 +44,8 @@ fn next_cost<S: Space, P: Choose>(
     requires { IsBoth (S.view space.old) both.old }
     ensures both { IsBoth (S.view space.new) both.new }
     ensures trades { Trades (S.view space.old) (S.view space.new) (IsOwnOf both.old) (IsOwnOf both.new) }
-    ensures ok { IfOk result (Advances (S.view space.old).system above most (front_layers both.new) (back_layers both.new)) }
+    ensures ok { IfOk result (Advances (S.view space.old).system above most (front_layers both.new)
+        (back_layers both.new)) }
 {
     match most {
         None => both.advance(alloc, space, above),
@@ -70,8 +71,10 @@ pub(crate) fn go_on<S: Space, P: Choose>(
     requires rests { Rests listed.old }
     requires empty { queue.old.items ≡ [] }
     ensures both { IsBoth (S.view space.new) both.new }
-    ensures trades { Trades (S.view space.old) (S.view space.new) (IsOwnOf both.old) (λ a. IsOwnOf both.new a ⊎ SetIn queue.new.items a) }
-    ensures ok { IfOk result (GoesTo (S.view space.old) (S.view space.new) both.new most listed.old listed.new queue.new.items) }
+    ensures trades { Trades (S.view space.old) (S.view space.new) (IsOwnOf both.old) (λ a. IsOwnOf both.new a
+        ⊎ SetIn queue.new.items a) }
+    ensures ok { IfOk result (GoesTo (S.view space.old) (S.view space.new) both.new most listed.old listed.new
+        queue.new.items) }
     ensures listed { OnErr result (listed.new ≡ listed.old) }
     ensures queue { OnErr result (queue.new.items ≡ []) }
 {

@@ -1,13 +1,11 @@
 -- The conditions and the end of an effect's line, found from the left.
-use Rattle.std.proofs.Common.{◌≡◌, ℕ, zero, suc, ◌-◌, ◌+◌, ◌<◌, ◌≤◌, Bool, true, false, cond, List, [], ◌∷◌, ◌++◌, Option, Some, None, refl, sym, ap, ◌∙◌, arith, nat_le, append_assoc}
+use Rattle.std.proofs.Common.{◌≡◌, ℕ, suc, ◌-◌, ◌+◌, ◌<◌, ◌≤◌, List, [], ◌∷◌, ◌++◌, Option, Some, None, refl, sym, ap, ◌∙◌, arith, append_assoc}
 use Rattle.std.proofs.lemmas.List.{append-nil}
-use Rattle.std.proofs.lemmas.Bool.Decides.{nat_tests}
 use Rattle.std.specs.Option.{option_map, option_and_then}
 use Rattle.symk_task.specs.declared.parts.Fact.{Fact}
 use Rattle.symk_task.specs.declared.parts.Variable.{Variable}
-use Rattle.symk_task.specs.declared.parts.Effect.{Effect}
-use Rattle.sas_reader.specs.Numbers.{with_first, HasNoFirst, HasNoPlainFirst}
-use Rattle.sas_reader.specs.Reading.{in_range, fact_first, with_fact, conds_of, counted_conds, ending_numbers, ending_of, effect_with, effect_after, effect_of}
+use Rattle.sas_reader.specs.Numbers.{with_first, HasNoPlainFirst}
+use Rattle.sas_reader.specs.Reading.{fact_first, with_fact, conds_of, counted_conds, ending_numbers, effect_after, effect_of}
 
 abbrev Numbers : Type 0
 Numbers = Option (List (Option ℕ))
@@ -16,36 +14,6 @@ abbrev Found : Type 0 → Type 0
 Found A = Option (A × List (Option ℕ))
 
 -- a first fact
-
-pub fact_found : (variables : List Variable) (o o1 o2 : Numbers) (var val : ℕ) (fact : Fact) → o ≡ with_first (Some var) o1 → o1 ≡ with_first (Some val) o2 → Some fact ≡ cond (in_range variables var val) (Some (record { var = var; val = val })) None
-    → option_and_then (fact_first variables) o ≡ option_map (λ ns. (fact, ns)) o2
-fact_found variables o o1 None var val fact e f g = rw (e, f) refl
-fact_found variables o o1 (Some ns) var val fact e f g = rw (e, f) (by_test (in_range variables var val) g)
-  where
-    by_test : (t : Bool) → Some fact ≡ cond t (Some (record { var = var; val = val })) None → (let x : Option (Fact × List (Option ℕ)) = cond t (Some (record { var = var; val = val }, ns)) None in x ≡ Some (fact, ns))
-    by_test true h = (let same : fact ≡ record { var = var; val = val } = cc in ap (λ (z : Fact). Some (z, ns)) (sym same))
-    by_test false h = cc
-
-pub fact_off_range : (variables : List Variable) (o o1 o2 : Numbers) (var val : ℕ) → o ≡ with_first (Some var) o1 → o1 ≡ with_first (Some val) o2 → None ≡ cond (in_range variables var val) (Some (let fact : Fact = record { var = var; val = val } in fact)) None
-    → option_and_then (fact_first variables) o ≡ None
-fact_off_range variables o o1 None var val e f g = rw (e, f) refl
-fact_off_range variables o o1 (Some ns) var val e f g = rw (e, f) (by_test (in_range variables var val) g)
-  where
-    by_test : (t : Bool) → None ≡ cond t (Some (let fact : Fact = record { var = var; val = val } in fact)) None → (let x : Option (Fact × List (Option ℕ)) = cond t (Some (record { var = var; val = val }, ns)) None in x ≡ None)
-    by_test true h = cc
-    by_test false h = refl
-
-pub no_fact : (variables : List Variable) (o : Numbers) → HasNoPlainFirst o → option_and_then (fact_first variables) o ≡ None
-no_fact variables None h = refl
-no_fact variables (Some []) h = refl
-no_fact variables (Some (None ∷ ns)) h = refl
-no_fact variables (Some (Some n ∷ ns)) h = absurd h
-
-pub half_fact : (variables : List Variable) (o o1 : Numbers) (var : ℕ) → o ≡ with_first (Some var) o1 → HasNoPlainFirst o1 → option_and_then (fact_first variables) o ≡ None
-half_fact variables o None var e h = rw e refl
-half_fact variables o (Some []) var e h = rw e refl
-half_fact variables o (Some (None ∷ ns)) var e h = rw e refl
-half_fact variables o (Some (Some n ∷ ns)) var e h = absurd h
 
 -- one after the other
 
@@ -80,10 +48,6 @@ regroup : (front : List Fact) (fact : Fact) (found : Found (List Fact)) → afte
 regroup front fact None = refl
 regroup front fact (Some x) = ap (λ (z : List Fact). Some (z, x.1)) (simp append_assoc)
 
-pub facts_begin : (found : Found (List Fact)) → after_facts [] found ≡ found
-facts_begin None = refl
-facts_begin (Some x) = refl
-
 pub facts_go_on : (variables : List Variable) (front : List Fact) (count i : ℕ) (o o2 : Numbers) (fact : Fact) (total : Found (List Fact)) → i < count → option_and_then (fact_first variables) o ≡ option_map (λ ns. (fact, ns)) o2
     → after_facts front (conds_in variables (count - i) o) ≡ total → after_facts (front ++ fact ∷ []) (conds_in variables (count - (i + 1)) o2) ≡ total
 facts_go_on variables front count i o o2 fact total lt e so_far =
@@ -109,14 +73,6 @@ facts_done variables front count i o total le so_far =
 
 -- how many, and then so many
 
-pub counted_found : (variables : List Variable) (o o1 : Numbers) (n : ℕ) → o ≡ with_first (Some n) o1 → n ≤ 65536 → option_and_then (counted_conds variables) o ≡ conds_in variables n o1
-counted_found variables o None n e le = rw e refl
-counted_found variables o (Some ns) n e le = rw e (let t : nat_le n 65536 ≡ true = grind (arith, nat_tests) in rw t refl)
-
-pub too_many : (variables : List Variable) (o o1 : Numbers) (n : ℕ) → o ≡ with_first (Some n) o1 → 65536 < n → option_and_then (counted_conds variables) o ≡ None
-too_many variables o None n e lt = rw e refl
-too_many variables o (Some ns) n e lt = rw e (let t : nat_le n 65536 ≡ false = grind (arith, nat_tests) in rw t refl)
-
 pub none_counted : (variables : List Variable) (o : Numbers) → HasNoPlainFirst o → option_and_then (counted_conds variables) o ≡ None
 none_counted variables None h = refl
 none_counted variables (Some []) h = refl
@@ -134,14 +90,6 @@ not_ending o o1 o2 (Some []) var pre post e f g h = absurd (h refl)
 not_ending o o1 o2 (Some (n ∷ ns)) var pre post e f g h = rw (e, f, g) refl
 
 -- the effect of what was found
-
-pub effect_found : (variables : List Variable) (o o1 : Numbers) (conds : List Fact) → option_and_then (counted_conds variables) o ≡ option_map (λ ns. (conds, ns)) o1 → option_and_then (effect_of variables) o ≡ option_map (effect_with conds) (option_and_then (ending_of variables) o1)
-effect_found variables o o1 conds e =
-    and_then_twice (counted_conds variables) (effect_after variables) o ∙ ap (option_and_then (effect_after variables)) e ∙ by_rest o1
-  where
-    by_rest : (o : Numbers) → option_and_then (effect_after variables) (option_map (λ ns. (conds, ns)) o) ≡ option_map (effect_with conds) (option_and_then (ending_of variables) o)
-    by_rest None = refl
-    by_rest (Some ns) = refl
 
 pub no_effect : (variables : List Variable) (o : Numbers) → option_and_then (counted_conds variables) o ≡ None → option_and_then (effect_of variables) o ≡ None
 no_effect variables o e = and_then_twice (counted_conds variables) (effect_after variables) o ∙ ap (option_and_then (effect_after variables)) e

@@ -1,8 +1,8 @@
 -- The numbers of a line, found from the left.
-use Rattle.std.proofs.Common.{◌≡◌, ℕ, ◌≤◌, Bool, true, false, cond, eqb, List, [], ◌∷◌, length, drop, Option, Some, None, refl, sym, ap, subst, ◌∙◌, arith}
+use Rattle.std.proofs.Common.{◌≡◌, ℕ, ◌≤◌, true, false, eqb, List, [], ◌∷◌, length, drop, Option, Some, None, refl, sym, ap, subst, ◌∙◌, arith}
 use Rattle.std.proofs.lemmas.Bool.Decides.{nat_tests}
-use Rattle.std.specs.Option.{option_map, option_and_then}
-use Rattle.sas_reader.specs.Numbers.{is_blank, words_of, number_of_word, numbers_of_words, numbers_of, with_first, HasNoFirst, HasNoPlainFirst, only_number, two_numbers, three_numbers}
+use Rattle.std.specs.Option.{option_and_then}
+use Rattle.sas_reader.specs.Numbers.{is_blank, words_of, number_of_word, numbers_of_words, numbers_of, with_first, HasNoFirst, only_number, two_numbers, three_numbers}
 use Rattle.sas_reader.proofs.WordsLeft.{word_in, blanks_in, word_first, no_word, skip_blanks, blank_words, words_blank}
 
 abbrev Numbers : Type 0
@@ -66,11 +66,6 @@ not_only o None n e h = rw e refl
 not_only o (Some []) n e h = absurd (h refl)
 not_only o (Some (m ∷ ns)) n e h = rw e refl
 
-pub none_is_only : (o : Numbers) → HasNoFirst o → None ≡ option_and_then only_number o
-none_is_only None h = refl
-none_is_only (Some []) h = refl
-none_is_only (Some (n ∷ ns)) h = absurd h
-
 pub two_are : (o o1 o2 : Numbers) (a b : ℕ) → o ≡ with_first (Some a) o1 → o1 ≡ with_first (Some b) o2 → o2 ≡ Some [] → Some (a, b) ≡ option_and_then two_numbers o
 two_are o o1 o2 a b e f g = rw (e, f, g) refl
 
@@ -79,18 +74,6 @@ not_two o o1 None a b e f h = rw (e, f) refl
 not_two o o1 (Some []) a b e f h = absurd (h refl)
 not_two o o1 (Some (m ∷ ns)) a b e f h = rw (e, f) refl
 
-pub none_are_two : (o : Numbers) → HasNoPlainFirst o → None ≡ option_and_then two_numbers o
-none_are_two None h = refl
-none_are_two (Some []) h = refl
-none_are_two (Some (None ∷ ns)) h = refl
-none_are_two (Some (Some n ∷ ns)) h = absurd h
-
-pub one_is_not_two : (o o1 : Numbers) (a : ℕ) → o ≡ with_first (Some a) o1 → HasNoPlainFirst o1 → None ≡ option_and_then two_numbers o
-one_is_not_two o None a e h = rw e refl
-one_is_not_two o (Some []) a e h = rw e refl
-one_is_not_two o (Some (None ∷ ns)) a e h = rw e refl
-one_is_not_two o (Some (Some n ∷ ns)) a e h = absurd h
-
 pub three_are : (o o1 o2 o3 : Numbers) (a b c : ℕ) → o ≡ with_first (Some a) o1 → o1 ≡ with_first (Some b) o2 → o2 ≡ with_first (Some c) o3 → o3 ≡ Some [] → Some (a, b, c) ≡ option_and_then three_numbers o
 three_are o o1 o2 o3 a b c e f g i = rw (e, f, g, i) refl
 
@@ -98,24 +81,6 @@ pub not_three : (o o1 o2 o3 : Numbers) (a b c : ℕ) → o ≡ with_first (Some 
 not_three o o1 o2 None a b c e f g h = rw (e, f, g) refl
 not_three o o1 o2 (Some []) a b c e f g h = absurd (h refl)
 not_three o o1 o2 (Some (m ∷ ns)) a b c e f g h = rw (e, f, g) refl
-
-pub none_are_three : (o : Numbers) → HasNoPlainFirst o → None ≡ option_and_then three_numbers o
-none_are_three None h = refl
-none_are_three (Some []) h = refl
-none_are_three (Some (None ∷ ns)) h = refl
-none_are_three (Some (Some n ∷ ns)) h = absurd h
-
-pub one_is_not_three : (o o1 : Numbers) (a : ℕ) → o ≡ with_first (Some a) o1 → HasNoPlainFirst o1 → None ≡ option_and_then three_numbers o
-one_is_not_three o None a e h = rw e refl
-one_is_not_three o (Some []) a e h = rw e refl
-one_is_not_three o (Some (None ∷ ns)) a e h = rw e refl
-one_is_not_three o (Some (Some n ∷ ns)) a e h = absurd h
-
-pub two_are_not_three : (o o1 o2 : Numbers) (a b : ℕ) → o ≡ with_first (Some a) o1 → o1 ≡ with_first (Some b) o2 → HasNoPlainFirst o2 → None ≡ option_and_then three_numbers o
-two_are_not_three o o1 None a b e f h = rw (e, f) refl
-two_are_not_three o o1 (Some []) a b e f h = rw (e, f) refl
-two_are_not_three o o1 (Some (None ∷ ns)) a b e f h = rw (e, f) refl
-two_are_not_three o o1 (Some (Some n ∷ ns)) a b e f h = absurd h
 
 pub is_empty_word : (word : List ℕ) → eqb (length word) 0 ≡ true → length word ≡ 0
 is_empty_word word e = grind (arith, nat_tests)

@@ -20,7 +20,8 @@ use symk_task::{Effect, Fact, List, Variable};
 /// The first fact of a line, if it is in range, and what is left of the line.
 fn first_fact<'a>(variables: &[Variable], line: &'a [u8]) -> Option<(Fact, &'a [u8])>
     requires { Known variables.now }
-    ensures { let found = option_and_then (fact_first variables.now) (numbers_of line.now) in MatchOption result (found ≡ None) (λ x. Finds found x.0 x.1.now) }
+    ensures { let found = option_and_then (fact_first variables.now) (numbers_of line.now) in MatchOption
+        result (found ≡ None) (λ x. Finds found x.0 x.1.now) }
 {
     let (var, rest) = first_plain(line)?;
     let (val, rest) = first_plain(rest)?;
@@ -38,7 +39,8 @@ fn first_facts<'a>(
     line: &'a [u8],
 ) -> Result<Option<(List<Fact>, &'a [u8])>, AllocError>
     requires { Known variables.now }
-    ensures { let found = option_and_then (conds_of variables.now count) (numbers_of line.now) in IfOk result (λ r. MatchOption r (found ≡ None) (λ x. Finds found x.0 x.1.now)) }
+    ensures { let found = option_and_then (conds_of variables.now count) (numbers_of line.now) in IfOk result
+        (λ r. MatchOption r (found ≡ None) (λ x. Finds found x.0 x.1.now)) }
 {
     let mut facts = List::of(Vec::new(alloc));
     let mut rest = line;
@@ -61,7 +63,8 @@ fn conditions_of<'a>(
     line: &'a [u8],
 ) -> Result<Option<(List<Fact>, &'a [u8])>, AllocError>
     requires { Known variables.now }
-    ensures { let found = option_and_then (counted_conds variables.now) (numbers_of line.now) in IfOk result (λ r. MatchOption r (found ≡ None) (λ x. Finds found x.0 x.1.now)) }
+    ensures { let found = option_and_then (counted_conds variables.now) (numbers_of line.now) in IfOk result
+        (λ r. MatchOption r (found ≡ None) (λ x. Finds found x.0 x.1.now)) }
 {
     match first_plain(line) {
         Some((count, rest)) => {

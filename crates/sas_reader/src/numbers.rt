@@ -65,7 +65,8 @@ fn number_of_word(word: &[u8]) -> Option<Option<u64>>
 
 /// The first number of a line, None for `-1`, and what is left of the line after it.
 pub fn first_number(line: &[u8]) -> Option<(Option<u64>, &[u8])>
-    ensures { MatchOption result (HasNoFirst (numbers_of line.now)) (λ x. numbers_of line.now ≡ with_first x.0 (numbers_of x.1.now)) }
+    ensures { MatchOption result (HasNoFirst (numbers_of line.now)) (λ x. numbers_of line.now ≡ with_first x.0
+        (numbers_of x.1.now)) }
 {
     let from_word = without_blanks(line);
     let word = first_word(from_word);
@@ -80,7 +81,8 @@ pub fn first_number(line: &[u8]) -> Option<(Option<u64>, &[u8])>
 
 /// The first number of a line, where it isn't `-1`, and what is left of the line after it.
 pub fn first_plain(line: &[u8]) -> Option<(u64, &[u8])>
-    ensures { MatchOption result (HasNoPlainFirst (numbers_of line.now)) (λ x. numbers_of line.now ≡ with_first (Some x.0) (numbers_of x.1.now)) }
+    ensures { MatchOption result (HasNoPlainFirst (numbers_of line.now))
+        (λ x. numbers_of line.now ≡ with_first (Some x.0) (numbers_of x.1.now)) }
 {
     match first_number(line) {
         Some((Some(number), rest)) => Some((number, rest)),

@@ -90,7 +90,8 @@ fn parts_of(alloc: Global, lines: Rest<'_>) -> Result<TaskParts, Stopped<Shape>>
 
 /// The lines of a task file are those of one task alone.
 pub fn file_states_one_task()
-    ensures { (lines : List (List ℕ)) (one other : TaskParts) → IsFileOf lines one → IsFileOf lines other → one ≡ other }
+    ensures { (lines : List (List ℕ)) (one other : TaskParts) → IsFileOf lines one → IsFileOf lines other
+        → one ≡ other }
 {}
 
 /// Reads a task file.

@@ -61,5 +61,6 @@ pub fn write_task(alloc: Global, task: &Task) -> Result<Vec<u8>, Memory>
 
 /// The lines of a task's file are refused for want of memory alone.
 pub fn file_is_not_refused()
-    ensures { (lines : List (List ℕ)) (task : TaskParts) (fault : ReadFault) → IsFileOf lines task → RefusedAt lines fault → fault ≡ ReadFault.Memory }
+    ensures { (lines : List (List ℕ)) (task : TaskParts) (fault : ReadFault) → IsFileOf lines task
+        → RefusedAt lines fault → fault ≡ ReadFault.Memory }
 {}

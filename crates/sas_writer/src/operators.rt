@@ -48,7 +48,8 @@ fn push_operator(text: &mut Text, operator: &Operator) -> Result<(), Memory>
 
 /// Appends how many effects there are, and a line for each.
 fn push_effects(text: &mut Text, effects: &List<Effect>) -> Result<(), Memory>
-    ensures { OnOk result (text.new ≡ text.old ++ text_of (decimal (length effects.now) ∷ map effect_line effects.now)) }
+    ensures { OnOk result (text.new ≡ text.old ++ text_of (decimal (length effects.now) ∷ map effect_line
+        effects.now)) }
 {
     let effects = effects.as_slice();
     push_number_line(text, effects.len() as u64)?;

@@ -38,9 +38,6 @@ not_less a b h k = omega arith
 
 -- What pends stays.
 
-pub stays_self : (a : List ℕ → Type 0) → Stays a a
-stays_self a q = ((λ h. h), (λ h. h))
-
 pub unlisted_stays : (mode : Mode) (keys : List (List ℕ)) (before after : List ℕ → Type 0) → Stays before after → Stays (Unlisted mode keys before) (Unlisted mode keys after)
 unlisted_stays mode keys before after s q = ((λ h. (h.0, (s q).0 h.1)), (λ h. (h.0, (s q).1 h.1)))
 
@@ -209,14 +206,8 @@ module _ (system : System) (most : Option ℕ) (keys : List (List ℕ)) (first b
   pub law_stop : (stop : Stop) (later : List (List ℕ)) (held : Option (List ℕ)) → AreKeys system Unordered most keys → Stops system most before stop × Stays before after → later ≡ keys → held ≡ None → Stops system most (Owes first keys None) stop × Stays (Owes first keys None) (Owes after later held)
   law_stop stop later held ok h kept none = ended (Err stop) later held (stops system Unordered most keys before stop ok h.0, unlisted_stays Unordered keys before after h.1) kept none
 
-  pub law_none : (later : List (List ℕ)) (held : Option (List ℕ)) → NoneLeft system most before × Stays before after → later ≡ keys → held ≡ None → NoneLeft system most (Owes first keys None) × Stays (Owes first keys None) (Owes after later held)
-  law_none later held h kept none = ended (Ok None) later held (none_left system Unordered most keys before h.0, unlisted_stays Unordered keys before after h.1) kept none
-
 -- The answers of a draw after an earlier list.
 module _ (system : System) (mode : Mode) (most : Option ℕ) (keys : List (List ℕ)) (first before after : List ℕ → Type 0) (stays : Stays (Unlisted mode keys first) (Unlisted mode keys before)) where
-  pub after_fresh : (p : List ℕ) → Gave system mode most before after p → ¬ IsListed mode keys p → Gave system mode most (Unlisted mode keys first) (Unlisted mode keys after) p
-  after_fresh p gave fresh = turned_from system mode most (Unlisted mode keys first) (Unlisted mode keys before) (Unlisted mode keys after) (Ok (Some p)) stays (gives system mode most keys before after p gave fresh)
-
   pub after_skips : (p : List ℕ) → Gave system mode most before after p → IsListed mode keys p → Stays (Unlisted mode keys first) (Unlisted mode keys after)
   after_skips p gave listed = stays_trans (Unlisted mode keys first) (Unlisted mode keys before) (Unlisted mode keys after) stays (skipped system mode mode most (λ p q h. h) keys before after p gave listed)
 

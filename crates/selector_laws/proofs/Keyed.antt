@@ -3,7 +3,7 @@ use Rattle.std.proofs.Common.{◌≡◌, ℕ, ◌<◌, ◌≤◌, ◌↔◌, Boo
 use Rattle.std.specs.Bool.{Decides}
 use Rattle.std.specs.List.{All, Any, Contains, list_any}
 use Rattle.std.proofs.lemmas.Bool.Decides.{Decides-or}
-use Rattle.std.proofs.lemmas.List.Elements.{All-nil, All-push, All-contains, All-weaker}
+use Rattle.std.proofs.lemmas.List.Elements.{All-push, All-contains, All-weaker}
 use Rattle.std.proofs.lemmas.List.Quantifiers.{Any-push}
 use Rattle.std.proofs.lemmas.List.Sorted.{sum_by-IsPermutation}
 use Rattle.symk_task.specs.declared.parts.Mode.{Mode}
@@ -95,9 +95,6 @@ keys_more system mode most keys new p key ok fits is more = rw more (record {
 })
 
 -- The keys of the plans of a list.
-
-pub keys_of_none : (mode : Mode) → AreKeysOf mode [] []
-keys_of_none mode = record { from = All-nil (λ key. Any (λ p. IsKey mode p key) []); all = All-nil (IsListed mode []) }
 
 -- those of a list with one more plan, whose key is put last where it is new
 pub keys_of_more : (mode : Mode) (plans keys new : List (List ℕ)) (p key : List ℕ) (fresh : Bool) → AreKeysOf mode plans keys → IsKey mode p key

@@ -40,8 +40,10 @@ impl Keys {
 
     /// Adds the key, and tells whether it is new. Want of memory leaves the keys as they were.
     pub fn note(&mut self, key: Vec<u32>) -> Result<bool, Memory>
-        ensures noted { IfOk result (λ fresh. MatchBool fresh (self.new ≡ self.old ++ key.items ∷ []) (self.new ≡ self.old)) }
-        ensures found { IfOk result (λ fresh. MatchBool fresh (¬ Contains self.old key.items) (Contains self.old key.items)) }
+        ensures noted { IfOk result (λ fresh. MatchBool fresh (self.new ≡ self.old ++ key.items ∷ [])
+            (self.new ≡ self.old)) }
+        ensures found { IfOk result (λ fresh. MatchBool fresh (¬ Contains self.old key.items)
+            (Contains self.old key.items)) }
         ensures err { OnErr result (self.new ≡ self.old) }
     {
         let fresh = self.set.insert(key)?;

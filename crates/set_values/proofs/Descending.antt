@@ -1,16 +1,16 @@
 -- The walk down a set, block by block.
-use Rattle.std.proofs.Common.{◌≡◌, ◌⊎◌, ℕ, zero, suc, ◌+◌, ◌<◌, ◌==◌, ◌||◌, Bool, true, false, List, [], ◌∷◌, length, get_or, inl, inr, refl, sym, ◌∙◌, ap, subst, arith}
+use Rattle.std.proofs.Common.{◌≡◌, ◌⊎◌, ℕ, ◌+◌, ◌<◌, ◌==◌, ◌||◌, Bool, true, false, List, length, get_or, inl, inr, refl, sym, ◌∙◌, ap, subst, arith}
 use Rattle.std.specs.List.{All, Contains}
 use Rattle.std.proofs.lemmas.Bool.{cases_eq, eq-eqb}
 use Rattle.std.proofs.lemmas.List.{get_or_default}
 use Rattle.bdd_table.specs.declared.node.Node.{Node}
 use Rattle.bdd_table.specs.Diagram.{Bits, means}
 use Rattle.var_order.specs.declared.block.Block.{Block}
-use Rattle.var_order.specs.Layout.{Layout, IsLayout, IsInside, block_at, owner_at, bits}
+use Rattle.var_order.specs.Layout.{Layout, IsLayout, IsInside, block_at, bits}
 use Rattle.var_order.specs.Codes.{value_at, IsInRange}
 use Rattle.set_values.specs.declared.occurring.Occurring.{Occurring}
-use Rattle.set_values.specs.Marks.{is_marked, KeepsMarks, value_of, SomeHolds, Passes}
-use Rattle.set_values.specs.Occurs.{AreStarts, AreInOrder, AreMarked, occurs_at, AreOccurring}
+use Rattle.set_values.specs.Marks.{is_marked, value_of, SomeHolds, Passes}
+use Rattle.set_values.specs.Occurs.{AreInOrder, AreMarked, occurs_at}
 
 module _ (o : Layout) (nodes : List Node) (set : ℕ) (starts slots : List ℕ) where
   -- the set's codes are found below the first so many blocks of the list
@@ -18,17 +18,6 @@ module _ (o : Layout) (nodes : List Node) (set : ℕ) (starts slots : List ℕ) 
     pub known : All (λ id. id < length nodes) ids
     pub holds : (b : Bits) → IsInRange o 0 b → means nodes set b ≡ true → SomeHolds nodes ids b
     pub marked : AreMarked o nodes set starts marks slots n
-
-  pub descends_none : (marks : List Bool) → set < length nodes → Descends (set ∷ []) marks 0
-  descends_none marks lt = record {
-    known = known;
-    holds = λ b range m. (set, (0, omega arith, refl), m);
-    marked = λ b k range m less. absurd (omega (arith, less));
-  }
-    where
-      known : (k d : ℕ) → k < length (set ∷ []) → get_or (set ∷ []) k d < length nodes
-      known zero d h = lt
-      known (suc k) d h = absurd (omega (arith, h))
 
   below_or_at : (k n : ℕ) → k < n + 1 → (k < n) ⊎ (k ≡ n)
   below_or_at k n h = grind arith

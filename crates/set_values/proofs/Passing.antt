@@ -1,9 +1,7 @@
 -- What is left of Ids below a block, value by value.
-use Rattle.std.proofs.Common.{◌≡◌, ◌≢◌, ◌⊎◌, ◌↔◌, ℕ, ◌+◌, ◌<◌, Bool, true, List, length, get_or, IsTrue, inl, inr, refl, sym, ◌∙◌, ap, subst, arith, true≢false}
-use Rattle.std.specs.List.{All, Contains}
-use Rattle.std.specs.Ordering.{nat_cmp}
-use Rattle.std.specs.BTreeSet.{BTreeSet, contains}
-use Rattle.std.proofs.lemmas.Bool.{cases_eq}
+use Rattle.std.proofs.Common.{◌≡◌, ◌≢◌, ◌⊎◌, ◌↔◌, ℕ, ◌+◌, ◌<◌, Bool, true, List, length, get_or, inl, inr, sym, ◌∙◌, ap, subst, arith, true≢false}
+use Rattle.std.specs.List.{Contains}
+use Rattle.std.specs.BTreeSet.{BTreeSet}
 use Rattle.std.proofs.lemmas.Cmp.{nat_cmp_total}
 use Rattle.std.proofs.lemmas.List.{get_or_default}
 use Rattle.std.proofs.lemmas.List.Elements.{Contains-get_or}
@@ -13,7 +11,7 @@ use Rattle.bdd_table.specs.declared.node.Node.{Node}
 use Rattle.bdd_table.specs.Diagram.{Bits, means, IsReduced}
 use Rattle.bdd_table.proofs.Meaning.{means_false}
 use Rattle.var_order.specs.declared.block.Block.{Block}
-use Rattle.set_values.specs.Marks.{is_marked, KeepsMarks, value_of, SomeHolds, Passes}
+use Rattle.set_values.specs.Marks.{is_marked, KeepsMarks, value_of, Passes}
 use Rattle.set_values.specs.Ends.{HasId, AreKnown, AddsEnd, Finds, Adds}
 
 module _ (nodes : List Node) (block : Block) (start : ℕ) where
@@ -23,14 +21,6 @@ module _ (nodes : List Node) (block : Block) (start : ℕ) where
     pub keeps : (q : ℕ) → HasId old q → HasId new q
     pub known : AreKnown nodes new
     pub found : (b : Bits) → value_of block b < n → means nodes id b ≡ true → Finds nodes block start id new more b
-
-  pub adds_none : (id : ℕ) (ends : BTreeSet ℕ) (marks : List Bool) → AreKnown nodes ends → AddsBelow id ends ends marks marks 0
-  adds_none id ends marks known = record {
-    kept = λ place h. h;
-    keeps = λ q h. h;
-    known = known;
-    found = λ b lt m. absurd (omega (arith, lt));
-  }
 
   pub finds_more : (id : ℕ) (old new : BTreeSet ℕ) (marks more : List Bool) (b : Bits) → KeepsMarks marks more → ((q : ℕ) → HasId old q → HasId new q) → Finds nodes block start id old marks b → Finds nodes block start id new more b
   finds_more id old new marks more b kept keeps f = record {
@@ -63,18 +53,6 @@ module _ (nodes : List Node) (block : Block) (start : ℕ) where
             })
       ];
     }
-
-  pub adds_all : (id : ℕ) (old new : BTreeSet ℕ) (marks more : List Bool) → AddsBelow id old new marks more block.values → Adds nodes block start id old new marks more
-  adds_all id old new marks more a = record { kept = a.kept; keeps = a.keeps; known = a.known; found = a.found }
-
-  -- an Id that is below the block leaves itself
-  pub adds_skipped : (id : ℕ) (old new : BTreeSet ℕ) (marks more : List Bool) → id < length nodes → AreKnown nodes old → KeepsMarks marks more → ((k : ℕ) → k < block.values → is_marked more (start + k) ≡ true) → ((q : ℕ) → HasId new q ↔ (HasId old q ⊎ (q ≡ id))) → Adds nodes block start id old new marks more
-  adds_skipped id old new marks more lt known kept all put = record {
-    kept = kept;
-    keeps = λ q h. (put q).1 (inl h);
-    known = λ q h. elim ((put q).0 h) [ inl o ↦ known q o | inr is ↦ omega (arith, is, lt) ];
-    found = λ b less m. record { marked = all (value_of block b) less; end = id; has = (put id).1 (inr refl); holds = m };
-  }
 
   -- of the first so many Ids
   pub record PassesBelow (ids : List ℕ) (ends : BTreeSet ℕ) (marks more : List Bool) (n : ℕ) : Type 0 where

@@ -34,7 +34,8 @@ fn step<A: Space, B: Space>(
     requires operator_left { IsAmong (A.view a.old).system.operators call }
     requires operator_right { IsAmong (B.view b.old).system.operators call }
     ensures ok { IfOk result (Compares (A.view a.old) (A.view a.new) (B.view b.old) (B.view b.new)
-        (Means (A.view a.old) call first.left second.left) (Means (B.view b.old) call first.right second.right) pairs.old.items pairs.new.items) }
+        (Means (A.view a.old) call first.left second.left) (Means (B.view b.old) call first.right
+        second.right) pairs.old.items pairs.new.items) }
     ensures err { OnErr result (pairs.new.items ≡ pairs.old.items) }
     ensures err_left { OnErr result (Stays (A.view a.old) (A.view a.new)) }
     ensures err_right { OnErr result (Stays (B.view b.old) (B.view b.new)) }
@@ -115,7 +116,8 @@ fn round<A: Space, B: Space>(
     ensures some { 0 < length pairs.new.items }
     ensures few { length pairs.new.items ≤ MOST }
     ensures alike { AreAlike (A.view a.old) (B.view b.old) pairs.old.items → IfOk result IsTrue }
-    ensures round { IfOk result (λ told. IsTrue told → IsRound (A.view a.old) (A.view a.new) (B.view b.old) (B.view b.new) pairs.old.items pairs.new.items) }
+    ensures round { IfOk result (λ told. IsTrue told → IsRound (A.view a.old) (A.view a.new) (B.view b.old)
+        (B.view b.new) pairs.old.items pairs.new.items) }
 {
     let call = drawn_call(random, a.operators());
     let first = drawn_pair(random, pairs);
@@ -166,7 +168,8 @@ pub fn agree<A: Space, B: Space>(
     ensures left { Stays (A.view a.old) (A.view a.new) }
     ensures right { Stays (B.view b.old) (B.view b.new) }
     ensures alike { (A.view a.old).system ≡ (B.view b.old).system → IfOk result IsTrue }
-    ensures operators { IfOk result (λ told. IsTrue told → HaveSameOperators (A.view a.old).system (B.view b.old).system) }
+    ensures operators { IfOk result (λ told. IsTrue told → HaveSameOperators (A.view a.old).system
+        (B.view b.old).system) }
     ensures costs { IfOk result (λ told. IsTrue told → HaveSameCosts (A.view a.old).system (B.view b.old).system) }
     ensures rounds { IfOk result (λ told. IsTrue told → AgreeFor count (A.view a.old) (B.view b.old)) }
 {

@@ -40,7 +40,8 @@ pub fn make<S: Space>(
     requires second { Valid (S.view space.old) second }
     requires operator { IsAmong (S.view space.old).system.operators call }
     ensures kept { Kept (S.view space.old) (S.view space.new) }
-    ensures ok { IfOk result (Gives (S.view space.old) (S.view space.new) (Means (S.view space.old) call first second)) }
+    ensures ok { IfOk result (Gives (S.view space.old) (S.view space.new) (Means (S.view space.old) call first
+        second)) }
     ensures err { OnErr result (NoMore (S.view space.old) (S.view space.new)) }
 {
     match call {

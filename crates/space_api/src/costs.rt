@@ -14,7 +14,8 @@ use symk_task::{Memory, Task};
 
 /// The set of the operators' costs.
 fn cost_set(alloc: Global, task: &Task) -> Result<BTreeSet<u64>, Memory>
-    ensures { IfOk result (λ set. (c : ℕ) → IsTrue (contains nat_cmp set c) ↔ ((op : ℕ) × (op < length task.now.operators) × (cost_at task.now op ≡ c))) }
+    ensures { IfOk result (λ set. (c : ℕ) → IsTrue (contains nat_cmp set c) ↔
+        ((op : ℕ) × (op < length task.now.operators) × (cost_at task.now op ≡ c))) }
 {
     let mut set = BTreeSet::new(alloc);
     'operators: for operator in 0..task.operators() {

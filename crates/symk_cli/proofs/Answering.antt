@@ -15,7 +15,7 @@ use Rattle.run_status.specs.declared.status.Status.{Status}
 use Rattle.run_status.specs.declared.status.Status.TheVariants as status
 use Rattle.run_status.specs.Sent.{Sent, nothing, IsOne}
 use Rattle.run_status.specs.Ends.{Ends, FrontOf, AsOne, OrFront, Puts}
-use Rattle.symk_cli.specs.Wishes.{Ask, Further, Wish, lists, continues, checks, shows}
+use Rattle.symk_cli.specs.Wishes.{Ask, Further, Wish, lists, continues, checks, shows, proves, refutes}
 use Rattle.symk_cli.specs.Refusals.{IsTaskText, FileRefused}
 use Rattle.plan_run.specs.Lists.{Aim, aim, Listing, MayCome, end_status}
 use Rattle.plan_run.specs.Reaches.{NoListing, IfPercent, MayList, MayPart, OrReached}
@@ -37,6 +37,10 @@ front_answers wish F P May whole status.Reached out m = (whole status.Reached ou
 front_answers wish F P May whole status.MoreLeft out m = (whole status.MoreLeft out.pieces m.0, m.1)
 front_answers wish F P May whole status.Good out m = (whole status.Good out.pieces m.0, m.1)
 front_answers wish F P May whole status.Shown out m = (whole status.Shown out.pieces m.0, m.1)
+front_answers wish F P May whole status.Proved out m = (whole status.Proved out.pieces m.0, m.1)
+front_answers wish F P May whole status.HasPlan out m = (whole status.HasPlan out.pieces m.0, m.1)
+front_answers wish F P May whole status.Refuted out m = (whole status.Refuted out.pieces m.0, m.1)
+front_answers wish F P May whole status.NotShown out m = (whole status.NotShown out.pieces m.0, m.1)
 front_answers wish F P May whole status.Exhausted out m = (whole status.Exhausted out.pieces m.0, m.1)
 front_answers wish F P May whole status.BadList out m = (whole status.BadList out.pieces m.0, m.1)
 front_answers wish F P May whole status.Gap out m = (whole status.Gap out.pieces m.0, m.1)
@@ -47,7 +51,7 @@ front_answers wish F P May whole status.TooLong out m = (whole status.TooLong ou
 front_answers wish F P May whole status.Unreadable out m = (whole status.Unreadable out.pieces m.0, m.1)
 front_answers wish F P May whole status.CostRange out m = (whole status.CostRange out.pieces m.0, m.1)
 
-front_answered : (wish : Option Wish) (told : Option Told) (F P : Option Bytes) (May : Status → Bytes → Type 0) (old new : SinkView) (result : Status) → ((result : Status) (pieces : List Bytes) → AsOne May result pieces → Whole wish F P result pieces) → AreTexts told wish F P → Puts (OrFront May) old new result → Answered wish told old new result
+pub front_answered : (wish : Option Wish) (told : Option Told) (F P : Option Bytes) (May : Status → Bytes → Type 0) (old new : SinkView) (result : Status) → ((result : Status) (pieces : List Bytes) → AsOne May result pieces → Whole wish F P result pieces) → AreTexts told wish F P → Puts (OrFront May) old new result → Answered wish told old new result
 front_answered wish told F P May old new result whole texts p = record { F = F; P = P; texts = texts; out = p.0; taken = p.1; answer = front_answers wish F P May whole result p.0 p.2 }
 
 -- nothing was read
@@ -57,6 +61,8 @@ nothing_read told (Some (lists ask)) = tt
 nothing_read told (Some (continues ask)) = (tt, tt)
 nothing_read told (Some (checks file plans mode)) = (tt, tt)
 nothing_read told (Some (shows number)) = tt
+nothing_read told (Some (proves file)) = tt
+nothing_read told (Some (refutes file cert)) = (tt, tt)
 
 -- want of memory, before anything is put
 pub memory_answered : (wish : Option Wish) (told : Option Told) (old : SinkView) → Answered wish told old old status.Memory

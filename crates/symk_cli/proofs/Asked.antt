@@ -7,10 +7,10 @@ use Rattle.std.proofs.lemmas.Bool.Decides.{nat_tests}
 use Rattle.symk_text.specs.Numbers.{value_of, number_at}
 use Rattle.symk_io.specs.View.{Bytes}
 use Rattle.symk_task.specs.declared.parts.Mode.{Mode}
-use Rattle.symk_words.specs.Texts.{Texts, PlanTexts, texts_asked, plan, check, demo}
+use Rattle.symk_words.specs.Texts.{Texts, PlanTexts, texts_asked, plan, check, demo, prove, refute}
 use Rattle.plan_run.specs.declared.asking.Direction.{Direction}
 use Rattle.plan_run.specs.declared.asking.Reach.{Reach}
-use Rattle.symk_cli.specs.Wishes.{Wish, checks, shows, number_within, mode_of, direction_of, reach_of, serves, lists_after, lists_if_served, ask_of, spelled, wish_of}
+use Rattle.symk_cli.specs.Wishes.{Wish, checks, shows, proves, refutes, number_within, mode_of, direction_of, reach_of, serves, lists_after, lists_if_served, ask_of, spelled, wish_of}
 
 and_step : (b : Bool) (x : ℕ) (xs rest : List ℕ) (all : Bool) → (b && all) ≡ true → (all ≡ true → rest ≡ xs) → cond b (x ∷ rest) [] ≡ x ∷ xs
 and_step true x xs rest all h r = ap (λ z. x ∷ z) (r h)
@@ -136,6 +136,15 @@ check_spelled file plans mode o e = ap (λ x. option_map (λ m. checks file plan
 pub demo_spelled : (n : Bytes) (o : Option ℕ) → number_within 1 64 n ≡ o → spelled (demo n) ≡ option_map (λ number. shows number) o
 unfolding spelled
 demo_spelled n o e = ap (λ x. option_map (λ number. shows number) x) e
+
+-- those of a `prove`, and of a `refute`
+pub prove_spelled : (file : Bytes) → spelled (prove file) ≡ Some (proves file)
+unfolding spelled
+prove_spelled file = refl
+
+pub refute_spelled : (file cert : Bytes) → spelled (refute file cert) ≡ Some (refutes file cert)
+unfolding spelled
+refute_spelled file cert = refl
 
 is_equal : (m n : ℕ) → m ≡ n → (m == n) ≡ true
 is_equal m n e = grind (arith, nat_tests)

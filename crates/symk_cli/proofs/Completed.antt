@@ -6,6 +6,9 @@ use Rattle.symk_io.specs.Causes.{Rose}
 use Rattle.symk_task.specs.declared.parts.Mode.{Mode}
 use Rattle.symk_task.specs.declared.parts.TaskParts.{TaskParts}
 use Rattle.sas_reader.specs.Format.{IsFileOf}
+use Rattle.sas_reader.proofs.Whole.{one_task}
+use Rattle.certificates.specs.Texts.{state_width, IsCertOf}
+use Rattle.cert_run.specs.Proofs.{CertOffence}
 use Rattle.plan_out.specs.declared.blocks.ReadBlock.{ReadBlock}
 use Rattle.plan_out.specs.Plans.{IsPlansOf}
 use Rattle.symk_text.specs.Lines.{lines}
@@ -13,11 +16,12 @@ use Rattle.symk_cli.specs.declared.TheConstants.{LIMIT}
 use Rattle.run_status.specs.declared.status.Status.{Status}
 use Rattle.run_status.specs.declared.status.Status.TheVariants as status
 use Rattle.run_status.specs.Ends.{HasCauses}
-use Rattle.symk_cli.specs.Wishes.{Ask, Further, Wish, lists, continues, checks, shows, wish_of}
+use Rattle.symk_cli.specs.Wishes.{Ask, Further, Wish, lists, continues, checks, shows, proves, refutes, wish_of}
 use Rattle.symk_cli.specs.LawfulWords.{AreLawful}
 use Rattle.symk_cli.specs.Named.{IsToldText}
 use Rattle.symk_cli.specs.Refusals.{IsTaskText, FileOffence}
 use Rattle.symk_cli.specs.Plans.{IsPlansText, PlansOffence}
+use Rattle.symk_cli.specs.Certs.{IsCertText, BothAre}
 use Rattle.symk_cli.specs.Goes.{AreGood, aim_from}
 use Rattle.symk_cli.specs.Answer.{Lists, Answer, Answered}
 use Rattle.symk_cli.specs.Complete.{TellsText, TellsTexts, Finishes, IsQuiet, Complete}
@@ -25,6 +29,7 @@ use Rattle.plan_run.specs.Lists.{Aim, MayCome, IsTrueEnd, end_status}
 use Rattle.plan_out.specs.declared.end.End.{End}
 use Rattle.plan_out.specs.declared.end.End.TheVariants as end
 use Rattle.symk_cli.proofs.Answering.{may_status}
+use Rattle.symk_cli.proofs.Certified.{both_not}
 use Rattle.symk_cli.proofs.LawfulWishes.{lawful_asks}
 
 -- a whole text does not offend
@@ -38,6 +43,12 @@ file_offends_not F out task file o = let offends = o.offends.0 in not_offending 
 
 plans_offend_not : (P out : Bytes) (blocks : List ReadBlock) → IsPlansOf (lines P) blocks → PlansOffence P out → ⊥
 plans_offend_not P out blocks plans o = let offends = o.offends in not_offending IsPlansOf (lines P) blocks o.line plans offends.stuck
+
+cert_offends_not : (C out : Bytes) (task : TaskParts) → IsCertText task C → CertOffence task C out → ⊥
+cert_offends_not C out task c o =
+    let offends = o.offends in
+    let cert = c.states in
+    not_offending (IsCertOf (state_width task)) (lines C) cert.0 o.line cert.1 offends.stuck
 
 did_not_rise : (before now : ℕ) → IsQuiet before now → Rose before now → ⊥
 did_not_rise before now q rose = let same = q.0 in let below = q.1 in omega (arith, same, below, rose)
@@ -54,6 +65,10 @@ read_task told name F task (Some G) is t texts = subst (λ (x : Bytes). IsTaskTe
 read_plans : (told : Option Told) (name P : Bytes) (blocks : List ReadBlock) (read : Option Bytes) → TellsText told name P → IsPlansText P blocks → IfSome read (IsToldText told name) → IfSome read (λ text. IsPlansText text blocks)
 read_plans told name P blocks None is t texts = tt
 read_plans told name P blocks (Some G) is t texts = subst (λ (x : Bytes). IsPlansText x blocks) (told_same told name P G is texts) t
+
+read_cert : (told : Option Told) (name C : Bytes) (task : TaskParts) (read : Option Bytes) → TellsText told name C → IsCertText task C → IfSome read (IsToldText told name) → IfSome read (IsCertText task)
+read_cert told name C task None is t texts = tt
+read_cert told name C task (Some G) is t texts = subst (λ (x : Bytes). IsCertText task x) (told_same told name C G is texts) t
 
 -- so it is not too long, and no line of it offends
 too_long : (F : Bytes) → length F ≤ LIMIT → LIMIT < length F → ⊥
@@ -74,6 +89,18 @@ plans_short blocks (Some P) t long = too_long P t.short long
 plans_lawful : (blocks : List ReadBlock) (out : Bytes) (read : Option Bytes) → IfSome read (λ text. IsPlansText text blocks) → IsSomeAnd read (λ text. PlansOffence text out) → ⊥
 plans_lawful blocks out None t offence = offence
 plans_lawful blocks out (Some P) t offence = plans_offend_not P out blocks t.plans offence
+
+cert_short : (task : TaskParts) (read : Option Bytes) → IfSome read (IsCertText task) → IsSomeAnd read (λ text. LIMIT < length text) → ⊥
+cert_short task None t long = long
+cert_short task (Some C) t long = too_long C t.short long
+
+cert_lawful : (task : TaskParts) (out : Bytes) (F C : Option Bytes) → IfSome F (λ text. IsTaskText text task) → IfSome C (IsCertText task) → BothAre F C (λ stated bytes. CertOffence stated bytes out) → ⊥
+cert_lawful task out None C t c o = o
+cert_lawful task out (Some F) None t c o = o.2
+cert_lawful task out (Some F) (Some C) t c o =
+    let same : o.0 ≡ task = one_task (lines F) o.0 task o.1.file t.file in
+    let last = o.2 in
+    cert_offends_not C out task c (subst (λ (x : TaskParts). CertOffence x C out) same last.1)
 
 not_both : (wish : Option Wish) → IsSome wish → wish ≡ None → ⊥
 not_both wish some none = let h = subst (λ o. IsSome o) none some in cc
@@ -108,9 +135,7 @@ lists_finish told ask old new status.TooLong t u w a =
 lists_finish told ask old new status.Offending t u w a =
     absurd (task_lawful t.1 a.answer.0.0 a.F (read_task told ask.file t.0 t.1 a.F t.2 t.3 a.texts) a.answer.0.2)
 lists_finish told ask old new status.Gap t u w a = absurd (no_gap_listed ask a.F a.P a.out.pieces a.answer.0)
-lists_finish told ask old new status.Good t u w a = absurd a.answer.0.2
-lists_finish told ask old new status.BadList t u w a = absurd a.answer.0.2
-lists_finish told ask old new status.Shown t u w a = absurd a.answer.0.2
+lists_finish told ask old new result t u w a = absurd a.answer.0.2
 
 -- one of the two texts is too long, or offends
 either : (A B C : Type 0) → (A → ⊥) → (C → ⊥) → A ⊎ (B × C) → ⊥
@@ -136,7 +161,7 @@ checks_finish told file plans mode old new status.Bounded t u w a = absurd a.ans
 checks_finish told file plans mode old new status.Exhausted t u w a = absurd a.answer.0
 checks_finish told file plans mode old new status.CostRange t u w a = absurd a.answer.0
 checks_finish told file plans mode old new status.Gap t u w a = absurd a.answer.0
-checks_finish told file plans mode old new status.Shown t u w a = absurd a.answer.0.2
+checks_finish told file plans mode old new result t u w a = absurd a.answer.0.2
 
 -- without a greatest cost no list ends as bounded
 ends_bounded : (a : Aim) (limit : a.limit ≡ None) (plans : List (List ℕ)) (why : End) → status.Bounded ≡ end_status why → IsTrueEnd a.task a.mode a.limit plans (Some why) → ⊥
@@ -176,8 +201,7 @@ continues_finish told ask old new status.TooLong t u w a =
 continues_finish told ask old new status.Offending t u w a =
     absurd (either _ _ _ (λ h. task_lawful t.0.1 a.answer.0.0 a.F (read_task told ask.file t.0.0 t.0.1 a.F t.0.2 t.0.3 a.texts.0) h) (λ h. plans_lawful t.1.1 a.answer.0.0 a.P (read_plans told ask.plans t.1.0 t.1.1 a.P t.1.2 t.1.3 a.texts.1) h) a.answer.0.2)
 continues_finish told ask old new status.Bounded t u w a = absurd (never_bounded ask a.F a.P a.out.pieces a.answer.0)
-continues_finish told ask old new status.Good t u w a = absurd a.answer.0.2
-continues_finish told ask old new status.Shown t u w a = absurd a.answer.0.2
+continues_finish told ask old new result t u w a = absurd a.answer.0.2
 
 shows_finish : (told : Option Told) (number : ℕ) (old new : SinkView) (result : Status) → (result ≡ status.WriteFault → ⊥) → Answered (Some (shows number)) told old new result → (result ≡ status.Shown) ⊎ (result ≡ status.Memory)
 shows_finish told number old new status.Shown w a = inl refl
@@ -192,11 +216,68 @@ shows_finish told number old new status.CostRange w a = absurd a.answer.0
 shows_finish told number old new status.Gap w a = absurd a.answer.0
 shows_finish told number old new result w a = absurd a.answer.0.2
 
+-- a certificate, over a task file
+no_proof : (F : Option Bytes) → IsSomeAnd F (λ text. (task : TaskParts) × IsTaskText text task × ⊥) → ⊥
+no_proof None c = c
+no_proof (Some F) c = c.2
+
+proves_finish : (told : Option Told) (file : Bytes) (old new : SinkView) (result : Status) → TellsTexts told (proves file)
+    → (result ≡ status.Unreadable → ⊥) → (result ≡ status.WriteFault → ⊥) → Answered (Some (proves file)) told old new result → Finishes (proves file) result ⊎ (result ≡ status.Memory)
+proves_finish told file old new status.Proved t u w a = inl (inl refl)
+proves_finish told file old new status.HasPlan t u w a = inl (inr refl)
+proves_finish told file old new status.Memory t u w a = inr refl
+proves_finish told file old new status.Unreadable t u w a = absurd (u refl)
+proves_finish told file old new status.WriteFault t u w a = absurd (w refl)
+proves_finish told file old new status.Usage t u w a = absurd (some_none (proves file) a.answer.0.2.0)
+proves_finish told file old new status.TooLong t u w a = absurd (task_short t.1 a.F (read_task told file t.0 t.1 a.F t.2 t.3 a.texts) a.answer.0.2.0)
+proves_finish told file old new status.Offending t u w a = absurd (task_lawful t.1 a.answer.0.0 a.F (read_task told file t.0 t.1 a.F t.2 t.3 a.texts) a.answer.0.2)
+proves_finish told file old new status.Refuted t u w a = absurd (no_proof a.F a.answer.0.2)
+proves_finish told file old new status.NotShown t u w a = absurd (no_proof a.F a.answer.0.2)
+proves_finish told file old new status.Reached t u w a = absurd a.answer.0
+proves_finish told file old new status.MoreLeft t u w a = absurd a.answer.0
+proves_finish told file old new status.Bounded t u w a = absurd a.answer.0
+proves_finish told file old new status.Exhausted t u w a = absurd a.answer.0
+proves_finish told file old new status.CostRange t u w a = absurd a.answer.0
+proves_finish told file old new status.Gap t u w a = absurd a.answer.0
+proves_finish told file old new result t u w a = absurd a.answer.0.2
+
+-- a verdict on one, over a task file and the text of a certificate for the task
+either_way : (A B : Type 0) → (A → ⊥) → (B → ⊥) → A ⊎ B → ⊥
+either_way A B f g (inl a) = f a
+either_way A B f g (inr b) = g b
+
+refutes_finish : (told : Option Told) (file cert : Bytes) (old new : SinkView) (result : Status) → TellsTexts told (refutes file cert)
+    → (result ≡ status.Unreadable → ⊥) → (result ≡ status.WriteFault → ⊥) → Answered (Some (refutes file cert)) told old new result → Finishes (refutes file cert) result ⊎ (result ≡ status.Memory)
+refutes_finish told file cert old new status.Refuted t u w a = inl (inl refl)
+refutes_finish told file cert old new status.NotShown t u w a = inl (inr refl)
+refutes_finish told file cert old new status.Memory t u w a = inr refl
+refutes_finish told file cert old new status.Unreadable t u w a = absurd (u refl)
+refutes_finish told file cert old new status.WriteFault t u w a = absurd (w refl)
+refutes_finish told file cert old new status.Usage t u w a = absurd (some_none (refutes file cert) a.answer.0.2.0)
+refutes_finish told file cert old new status.TooLong t u w a =
+    let second = t.4 in
+    absurd (either _ _ _ (λ h. task_short t.1 a.F (read_task told file t.0 t.1 a.F t.2 t.3 a.texts.0) h.0) (λ h. cert_short t.1 a.P (read_cert told cert second.0 t.1 a.P second.1 second.2 a.texts.1) h.0) a.answer.0.2)
+refutes_finish told file cert old new status.Offending t u w a =
+    let second = t.4 in
+    let first = read_task told file t.0 t.1 a.F t.2 t.3 a.texts.0 in
+    absurd (either_way _ _ (λ h. task_lawful t.1 a.answer.0.0 a.F first h) (λ h. cert_lawful t.1 a.answer.0.0 a.F a.P first (read_cert told cert second.0 t.1 a.P second.1 second.2 a.texts.1) h) a.answer.0.2)
+refutes_finish told file cert old new status.Proved t u w a = absurd (both_not a.F a.P (λ task bytes. ⊥) (λ task bytes n. n) a.answer.0.2)
+refutes_finish told file cert old new status.HasPlan t u w a = absurd (both_not a.F a.P (λ task bytes. ⊥) (λ task bytes n. n) a.answer.0.2)
+refutes_finish told file cert old new status.Reached t u w a = absurd a.answer.0
+refutes_finish told file cert old new status.MoreLeft t u w a = absurd a.answer.0
+refutes_finish told file cert old new status.Bounded t u w a = absurd a.answer.0
+refutes_finish told file cert old new status.Exhausted t u w a = absurd a.answer.0
+refutes_finish told file cert old new status.CostRange t u w a = absurd a.answer.0
+refutes_finish told file cert old new status.Gap t u w a = absurd a.answer.0
+refutes_finish told file cert old new result t u w a = absurd a.answer.0.2
+
 finish : (told : Option Told) (wish : Wish) (old new : SinkView) (result : Status) → TellsTexts told wish → (result ≡ status.Unreadable → ⊥) → (result ≡ status.WriteFault → ⊥) → Answered (Some wish) told old new result → Finishes wish result ⊎ (result ≡ status.Memory)
 finish told (lists ask) old new result t u w a = lists_finish told ask old new result t u w a
 finish told (continues ask) old new result t u w a = continues_finish told ask old new result t u w a
 finish told (checks file plans mode) old new result t u w a = checks_finish told file plans mode old new result t u w a
 finish told (shows number) old new result t u w a = shows_finish told number old new result w a
+finish told (proves file) old new result t u w a = proves_finish told file old new result t u w a
+finish told (refutes file cert) old new result t u w a = refutes_finish told file cert old new result t u w a
 
 pub completed : (asked : Option Wish) (files files' : FilesView) (sink sink' : SinkView) (result : Status) → Answered asked files.told sink sink' result → HasCauses result files.faults files'.faults sink.faults sink'.faults → Complete asked files files' sink sink' result
 completed asked files files' sink sink' result a causes wish e t quiet silent =

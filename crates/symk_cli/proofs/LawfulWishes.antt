@@ -6,9 +6,9 @@ use Rattle.std.proofs.lemmas.Bool.Decides.{nat_tests}
 use Rattle.symk_text.specs.Numbers.{value_of}
 use Rattle.symk_io.specs.View.{Bytes}
 use Rattle.symk_task.specs.declared.parts.Mode.{Mode}
-use Rattle.symk_words.specs.Texts.{Texts, texts_asked, plan, check, demo}
+use Rattle.symk_words.specs.Texts.{Texts, texts_asked, plan, check, demo, prove, refute}
 use Rattle.symk_words.specs.Lawful.{Plain, PlainIfSome}
-use Rattle.symk_words.proofs.LawfulWords.{plan_law, check_law, demo_law}
+use Rattle.symk_words.proofs.LawfulWords.{plan_law, check_law, demo_law, prove_law, refute_law}
 use Rattle.plan_run.specs.declared.asking.Direction.{Direction}
 use Rattle.symk_cli.specs.Wishes.{number_within, mode_named, mode_of, direction_named, direction_of, reach_of, lists_if_served, ask_of, spelled, wish_of}
 use Rattle.plan_run.specs.declared.asking.Reach.{Reach}
@@ -126,6 +126,8 @@ by_texts (check file plans mode) words form h =
     ap texts_asked form.1 ∙ check_law form.0 file plans mode form.2 form.3 (plain_mode mode (map_first _ (mode_of mode) h))
 by_texts (demo n) words form h =
     ap texts_asked form.1 ∙ demo_law form.0 n (plain_number 1 64 n (map_first _ (number_within 1 64 n) h))
+by_texts (prove file) words form h = ap texts_asked form.1 ∙ prove_law form.0 file form.2
+by_texts (refute file cert) words form h = ap texts_asked form.1 ∙ refute_law form.0 file cert form.2 form.3
 
 -- lawful words ask for something
 pub lawful_asks : (words : List Bytes) → AreLawful words → IsSome (wish_of words)

@@ -8,3 +8,4 @@ pub mod Opening
 pub mod Completed
 pub mod Long
 pub mod Continued
+pub mod Certified

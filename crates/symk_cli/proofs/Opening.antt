@@ -5,11 +5,10 @@ use Rattle.symk_io.specs.View.{Bytes, Tells, SinkView, Told}
 use Rattle.symk_io.specs.Told.{Opened}
 use Rattle.symk_io.specs.Causes.{Rose}
 use Rattle.symk_cli.specs.declared.reading.Named.{Named}
-use Rattle.symk_cli.specs.declared.reading.Named.TheVariants.{File, Plans}
+use Rattle.symk_cli.specs.declared.reading.Named.TheVariants.{File}
 use Rattle.run_status.specs.declared.status.Status.{Status}
 use Rattle.run_status.specs.declared.status.Status.TheVariants as status
 use Rattle.run_status.specs.Ends.{HasCauses, OrFront, Puts}
-use Rattle.symk_cli.specs.Plans.{PlansRefused}
 use Rattle.symk_cli.specs.Named.{IsToldText, HasText, HasRead, StopsAt}
 use Rattle.symk_cli.specs.Opens.{Opens}
 
@@ -35,68 +34,69 @@ same_names a b name e f =
     omega (arith, m, n)
 
 -- FILE was
-pub file_opened : (file : Bytes) (others : List Bytes) (told told' : Option Told) (old new : Option Bytes) (result : Status) → Tells (Opened file) told told' → (result ≡ status.Unreadable → ⊥) → Opens (file ∷ others) told told' old new result
+pub file_opened : (file : Bytes) (others : List (Named × Bytes)) (told told' : Option Told) (old new : Option Bytes) (result : Status) → Tells (Opened file) told told' → (result ≡ status.Unreadable → ⊥) → Opens ((File, file) ∷ others) told told' old new result
 file_opened file others None None old new result t other = record { count = 1; within = omega arith; first = tt; last = λ e. absurd (other e) }
 file_opened file others None (Some b) old new result t other = absurd t
 file_opened file others (Some a) None old new result t other = absurd t
 file_opened file others (Some a) (Some b) old new result t other = record { count = 1; within = omega arith; first = record { texts = t.texts; opened = t.names }; last = λ e. absurd (other e) }
 
-may_by : (file : Bytes) (others : List Bytes) (a b : Told) (old new : Option Bytes) (result : Status) → StopsAt File file (Some a) (Some b) old new result → (b.opened ≡ a.opened) ⊎ (b.opened ≡ a.opened ++ (file ∷ [])) → Opens (file ∷ others) (Some a) (Some b) old new result
+may_by : (file : Bytes) (others : List (Named × Bytes)) (a b : Told) (old new : Option Bytes) (result : Status) → StopsAt File file (Some a) (Some b) old new result → (b.opened ≡ a.opened) ⊎ (b.opened ≡ a.opened ++ (file ∷ []))
+    → Opens ((File, file) ∷ others) (Some a) (Some b) old new result
 may_by file others a b old new result s (inl e) = record {
   count = 0;
   within = omega arith;
   first = record { texts = s.names.texts; opened = e ∙ sym (append-nil a.opened) };
   last = λ is. absurd (same_names a.opened b.opened file e (s.opened is).names);
 }
-may_by file others a b old new result s (inr e) = record {
-  count = 1;
-  within = omega arith;
-  first = record { texts = s.names.texts; opened = e };
-  last = λ is. inl (refl, s.unreadable is);
-}
+may_by file others a b old new result s (inr e) = record { count = 1; within = omega arith; first = record { texts = s.names.texts; opened = e }; last = λ is. s.unreadable is }
 
 -- FILE was, if anything, and its text is refused
-pub file_stops : (file : Bytes) (others : List Bytes) (told told' : Option Told) (old new : Option Bytes) (result : Status) → StopsAt File file told told' old new result → Opens (file ∷ others) told told' old new result
-file_stops file others None None old new result s = record { count = 1; within = omega arith; first = tt; last = λ is. inl (refl, s.unreadable is) }
+pub file_stops : (file : Bytes) (others : List (Named × Bytes)) (told told' : Option Told) (old new : Option Bytes) (result : Status) → StopsAt File file told told' old new result → Opens ((File, file) ∷ others) told told' old new result
+file_stops file others None None old new result s = record { count = 1; within = omega arith; first = tt; last = λ is. s.unreadable is }
 file_stops file others None (Some b) old new result s = absurd s.names
 file_stops file others (Some a) None old new result s = absurd s.names
 file_stops file others (Some a) (Some b) old new result s = may_by file others a b old new result s s.names.names
 
--- FILE was, and PLANS after it
-two_names : (a b c : List Bytes) (file plans : Bytes) → b ≡ a ++ (file ∷ []) → c ≡ b ++ (plans ∷ []) → c ≡ a ++ (file ∷ plans ∷ [])
-two_names a b c file plans e f = f ∙ ap (λ x. x ++ (plans ∷ [])) e ∙ append_assoc a (file ∷ []) (plans ∷ [])
+-- FILE was, and another after it
+two_names : (a b c : List Bytes) (file name : Bytes) → b ≡ a ++ (file ∷ []) → c ≡ b ++ (name ∷ []) → c ≡ a ++ (file ∷ name ∷ [])
+two_names a b c file name e f = f ∙ ap (λ x. x ++ (name ∷ [])) e ∙ append_assoc a (file ∷ []) (name ∷ [])
 
-pub both_opened : (file plans : Bytes) (told mid told' : Option Told) (old new : Option Bytes) (result : Status) → Tells (Opened file) told mid → Tells (Opened plans) mid told' → (result ≡ status.Unreadable → ⊥) → Opens (file ∷ plans ∷ []) told told' old new result
-both_opened file plans None None None old new result t u other = record { count = 2; within = omega arith; first = tt; last = λ e. absurd (other e) }
-both_opened file plans None None (Some c) old new result t u other = absurd u
-both_opened file plans None (Some b) c old new result t u other = absurd t
-both_opened file plans (Some a) None c old new result t u other = absurd t
-both_opened file plans (Some a) (Some b) None old new result t u other = absurd u
-both_opened file plans (Some a) (Some b) (Some c) old new result t u other =
-    record { count = 2; within = omega arith; first = record { texts = u.texts ∙ t.texts; opened = two_names a.opened b.opened c.opened file plans t.names u.names }; last = λ e. absurd (other e) }
+module _ (file : Bytes) (other : Named) (name : Bytes) where
+  -- the two files
+  abbrev both : List (Named × Bytes)
+  both = (File, file) ∷ (other, name) ∷ []
 
-plans_by : (file plans : Bytes) (a b c : Told) (old new : Option Bytes) (result : Status) → Opened file a b → StopsAt Plans plans (Some b) (Some c) old new result → (c.opened ≡ b.opened) ⊎ (c.opened ≡ b.opened ++ (plans ∷ [])) → Opens (file ∷ plans ∷ []) (Some a) (Some c) old new result
-plans_by file plans a b c old new result t s (inl e) = record {
-  count = 1;
-  within = omega arith;
-  first = record { texts = s.names.texts ∙ t.texts; opened = e ∙ t.names };
-  last = λ is. absurd (same_names b.opened c.opened plans e (s.opened is).names);
-}
-plans_by file plans a b c old new result t s (inr e) = record {
-  count = 2;
-  within = omega arith;
-  first = record { texts = s.names.texts ∙ t.texts; opened = two_names a.opened b.opened c.opened file plans t.names e };
-  last = λ is. inr (refl, s.unreadable is);
-}
+  pub both_opened : (told mid told' : Option Told) (old new : Option Bytes) (result : Status) → Tells (Opened file) told mid → Tells (Opened name) mid told' → (result ≡ status.Unreadable → ⊥) → Opens both told told' old new result
+  both_opened None None None old new result t u readable = record { count = 2; within = omega arith; first = tt; last = λ e. absurd (readable e) }
+  both_opened None None (Some c) old new result t u readable = absurd u
+  both_opened None (Some b) c old new result t u readable = absurd t
+  both_opened (Some a) None c old new result t u readable = absurd t
+  both_opened (Some a) (Some b) None old new result t u readable = absurd u
+  both_opened (Some a) (Some b) (Some c) old new result t u readable =
+      record { count = 2; within = omega arith; first = record { texts = u.texts ∙ t.texts; opened = two_names a.opened b.opened c.opened file name t.names u.names }; last = λ e. absurd (readable e) }
 
--- FILE was, and PLANS after it, if anything, and its text is refused
-pub plans_stop : (file plans : Bytes) (told mid told' : Option Told) (old new : Option Bytes) (result : Status) → Tells (Opened file) told mid → StopsAt Plans plans mid told' old new result → Opens (file ∷ plans ∷ []) told told' old new result
-plans_stop file plans None None None old new result t s = record { count = 2; within = omega arith; first = tt; last = λ is. inr (refl, s.unreadable is) }
-plans_stop file plans None None (Some c) old new result t s = absurd s.names
-plans_stop file plans None (Some b) c old new result t s = absurd t
-plans_stop file plans (Some a) None c old new result t s = absurd t
-plans_stop file plans (Some a) (Some b) None old new result t s = absurd s.names
-plans_stop file plans (Some a) (Some b) (Some c) old new result t s = plans_by file plans a b c old new result t s s.names.names
+  other_by : (a b c : Told) (old new : Option Bytes) (result : Status) → Opened file a b → StopsAt other name (Some b) (Some c) old new result → (c.opened ≡ b.opened) ⊎ (c.opened ≡ b.opened ++ (name ∷ [])) → Opens both (Some a) (Some c) old new result
+  other_by a b c old new result t s (inl e) = record {
+    count = 1;
+    within = omega arith;
+    first = record { texts = s.names.texts ∙ t.texts; opened = e ∙ t.names };
+    last = λ is. absurd (same_names b.opened c.opened name e (s.opened is).names);
+  }
+  other_by a b c old new result t s (inr e) = record {
+    count = 2;
+    within = omega arith;
+    first = record { texts = s.names.texts ∙ t.texts; opened = two_names a.opened b.opened c.opened file name t.names e };
+    last = λ is. s.unreadable is;
+  }
+
+  -- FILE was, and the other after it, if anything, and its text is refused
+  pub other_stops : (told mid told' : Option Told) (old new : Option Bytes) (result : Status) → Tells (Opened file) told mid → StopsAt other name mid told' old new result → Opens both told told' old new result
+  other_stops None None None old new result t s = record { count = 2; within = omega arith; first = tt; last = λ is. s.unreadable is }
+  other_stops None None (Some c) old new result t s = absurd s.names
+  other_stops None (Some b) c old new result t s = absurd t
+  other_stops (Some a) None c old new result t s = absurd t
+  other_stops (Some a) (Some b) None old new result t s = absurd s.names
+  other_stops (Some a) (Some b) (Some c) old new result t s = other_by a b c old new result t s s.names.names
 
 -- what is so of a text that is told after a file was opened is so of the one told before
 pub text_of_before : (IsSo : Bytes → Type 0) (name other : Bytes) (old new : Option Told) → Tells (Opened name) old new → HasText new other IsSo → HasText old other IsSo
@@ -106,7 +106,9 @@ text_of_before IsSo name other old new t h = (h.0, text_before name other old ne
 pub stops_after : (named : Named) (name : Bytes) (told told' : Option Told) (old mid new : SinkView) (result : Status) → mid ≡ old → StopsAt named name told told' mid.taken new.taken result → StopsAt named name told told' old.taken new.taken result
 stops_after named name told told' old mid new result same s = subst (λ (v : SinkView). StopsAt named name told told' v.taken new.taken result) same s
 
-pub plans_refused_before : (told mid : Option Told) (file plans : Bytes) (old then new : SinkView) (result : Status) → Tells (Opened file) told mid → then ≡ old → HasRead mid plans (λ P. Puts (OrFront (PlansRefused P)) then new result) → HasRead told plans (λ P. Puts (OrFront (PlansRefused P)) old new result)
-plans_refused_before told mid file plans old then new result t same h =
+-- and what is refused after it
+pub refused_before : (May : Option Bytes → Status → Bytes → Type 0) (told mid : Option Told) (file name : Bytes) (old then new : SinkView) (result : Status) → Tells (Opened file) told mid → then ≡ old
+    → HasRead mid name (λ read. Puts (OrFront (May read)) then new result) → HasRead told name (λ read. Puts (OrFront (May read)) old new result)
+refused_before May told mid file name old then new result t same h =
     let p = h.2 in
-    (h.0, read_before file plans told mid h.0 t h.1, subst (λ (v : SinkView). Puts (OrFront (PlansRefused h.0)) v new result) same p)
+    (h.0, read_before file name told mid h.0 t h.1, subst (λ (v : SinkView). Puts (OrFront (May h.0)) v new result) same p)

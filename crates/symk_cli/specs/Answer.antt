@@ -4,14 +4,16 @@ use Rattle.symk_io.specs.View.{Bytes, SinkView, Told}
 use Rattle.symk_task.specs.declared.parts.Mode.{Mode}
 use Rattle.symk_task.specs.declared.parts.TaskParts.{TaskParts}
 use Rattle.plan_out.specs.declared.blocks.ReadBlock.{ReadBlock}
-use Rattle.symk_cli.specs.Wishes.{Wish, lists, continues, checks, shows}
+use Rattle.symk_cli.specs.Wishes.{Wish, lists, continues, checks, shows, proves, refutes}
 use Rattle.symk_cli.specs.Named.{IsToldText}
 use Rattle.symk_cli.specs.Refusals.{IsTaskText, IsTask, FileRefused}
 use Rattle.symk_cli.specs.Plans.{IsPlansText, PlansRefused, Judged}
+use Rattle.symk_cli.specs.Certs.{BothAre, CertRefused}
 use Rattle.symk_cli.specs.Goes.{AreGood, aim_from}
 use Rattle.run_status.specs.Sent.{Sent, nothing, Took, IsWhole, IsOne, IsFront}
 use Rattle.plan_run.specs.Lists.{MayCome, PartListing}
 use Rattle.plan_run.specs.Reaches.{MayList, MayPart}
+use Rattle.cert_run.specs.Proofs.{Proves, Refutes}
 use Rattle.symk_cli.specs.Shown.{IsSummary}
 use Rattle.run_status.specs.declared.status.Status.{Status}
 use Rattle.run_status.specs.declared.status.Status.TheVariants as status
@@ -19,16 +21,20 @@ use Rattle.run_status.specs.declared.status.Status.TheVariants as status
 -- what the program may be asked for
 unfoldable pub usage_text : Bytes
 usage_text =
-    codes "usage: symk plan FILE --k K [--mode topk|loopless|unordered] [--search auto|forward|backward|bidirectional] [--more] [--bound Q | --quality P] [--after PLANS]\n"
+    codes "usage: symk plan FILE --k K [--mode topk|loopless|unordered] [--search auto|forward|backward|bidirectional] [--more] [--bound Q | --quality P] [--after PLANS] [--mutex]\n"
     ++ codes "       symk check FILE PLANS [--mode topk|loopless|unordered]\n"
     ++ codes "       symk demo N\n"
+    ++ codes "       symk prove FILE\n"
+    ++ codes "       symk refute FILE CERT\n"
 
--- a file that is asked for is refused: FILE, or PLANS after a FILE that is a task file
+-- a file that is asked for is refused: FILE, or PLANS or CERT after a FILE that is a task file
 abbrev pub Refused : Option Wish → Option Bytes → Option Bytes → Status → Bytes → Type 0
 Refused (Some (lists ask)) F P result out = FileRefused F result out
 Refused (Some (continues ask)) F P result out = FileRefused F result out ⊎ (IsTask F × PlansRefused P result out)
 Refused (Some (checks file plans mode)) F P result out = FileRefused F result out ⊎ (IsTask F × PlansRefused P result out)
 Refused (Some (shows number)) F P result out = ⊥
+Refused (Some (proves file)) F P result out = FileRefused F result out
+Refused (Some (refutes file cert)) F C result out = FileRefused F result out ⊎ CertRefused F C result out
 Refused None F P result out = ⊥
 
 -- FILE states a task, and PLANS states blocks, each of which is good
@@ -59,6 +65,12 @@ abbrev pub Shows : Option Wish → Status → Bytes → Type 0
 Shows (Some (shows number)) result out = IsSummary number result out
 Shows wish result out = ⊥
 
+-- a certificate that the task that FILE states has no plan, or that it has one; what the certificate in CERT shows of it
+abbrev pub Certifies : Option Wish → Option Bytes → Option Bytes → Status → Bytes → Type 0
+Certifies (Some (proves file)) F P result out = IsSomeAnd F (λ text. (task : TaskParts) × IsTaskText text task × Proves task result out)
+Certifies (Some (refutes file cert)) F C result out = BothAre F C (λ task bytes. Refutes task bytes result out)
+Certifies wish F P result out = ⊥
+
 -- the whole pieces that a status comes with: the blocks of a list and its end line, or one text
 abbrev pub Whole : Option Wish → Option Bytes → Option Bytes → Status → List Bytes → Type 0
 Whole wish F P status.Usage pieces = IsOne (λ out. (wish ≡ None) × (out ≡ usage_text)) pieces
@@ -74,6 +86,10 @@ Whole wish F P status.Gap pieces = Lists wish F P status.Gap pieces
 Whole wish F P status.Good pieces = IsOne (Judges wish F P status.Good) pieces
 Whole wish F P status.BadList pieces = IsOne (Judges wish F P status.BadList) pieces
 Whole wish F P status.Shown pieces = IsOne (Shows wish status.Shown) pieces
+Whole wish F P status.Proved pieces = IsOne (Certifies wish F P status.Proved) pieces
+Whole wish F P status.HasPlan pieces = IsOne (Certifies wish F P status.HasPlan) pieces
+Whole wish F P status.Refuted pieces = IsOne (Certifies wish F P status.Refuted) pieces
+Whole wish F P status.NotShown pieces = IsOne (Certifies wish F P status.NotShown) pieces
 Whole wish F P status.WriteFault pieces = ⊥
 Whole wish F P status.Memory pieces = ⊥
 
@@ -81,8 +97,8 @@ Whole wish F P status.Memory pieces = ⊥
 abbrev pub Part : Option Wish → Option Bytes → Option Bytes → Sent → Type 0
 Part wish F P out = (out ≡ nothing) ⊎ ((result : Status) × (whole : List Bytes) × Whole wish F P result whole × IsFront out whole) ⊎ PartLists wish F P out
 
--- What the sink took under a status, given what is asked for and the texts that were read of FILE and PLANS: whole pieces, or a
--- part of them where the sink failed or memory was wanting.
+-- What the sink took under a status, given what is asked for and the texts that were read of FILE and of PLANS or CERT: whole
+-- pieces, or a part of them where the sink failed or memory was wanting.
 abbrev pub Answer : Option Wish → Option Bytes → Option Bytes → Status → Sent → Type 0
 Answer wish F P status.WriteFault out = Part wish F P out
 Answer wish F P status.Memory out = Part wish F P out
@@ -95,9 +111,11 @@ AreTexts told (Some (lists ask)) F P = IfSome F (IsToldText told ask.file)
 AreTexts told (Some (continues ask)) F P = IfSome F (IsToldText told ask.file) × IfSome P (IsToldText told ask.plans)
 AreTexts told (Some (checks file plans mode)) F P = IfSome F (IsToldText told file) × IfSome P (IsToldText told plans)
 AreTexts told (Some (shows number)) F P = ⊤
+AreTexts told (Some (proves file)) F P = IfSome F (IsToldText told file)
+AreTexts told (Some (refutes file cert)) F C = IfSome F (IsToldText told file) × IfSome C (IsToldText told cert)
 
--- There are texts that were read of FILE and PLANS, which are those told, and pieces and bytes, which are those taken, with one
--- flush for each piece, and they answer what is asked for.
+-- There are texts that were read of FILE and of PLANS or CERT, which are those told, and pieces and bytes, which are those taken,
+-- with one flush for each piece, and they answer what is asked for.
 pub record Answered (wish : Option Wish) (told : Option Told) (old new : SinkView) (result : Status) : Type 0 where
   pub F : Option Bytes
   pub P : Option Bytes

@@ -1,7 +1,7 @@
 -- Which texts are too long.
 use Rattle.std.specs.Prelude.{◌≡◌, ◌⊎◌, ◌<◌, ◌≤◌, length, ⊤, Option, Some, None}
 use Rattle.symk_io.specs.View.{Bytes, Told}
-use Rattle.symk_cli.specs.Wishes.{Wish, lists, continues, checks, shows}
+use Rattle.symk_cli.specs.Wishes.{Wish, lists, continues, checks, shows, proves, refutes}
 use Rattle.symk_cli.specs.Named.{HasText}
 use Rattle.symk_cli.specs.Refusals.{FileOffence}
 use Rattle.symk_cli.specs.declared.TheConstants.{LIMIT}
@@ -20,31 +20,34 @@ IsLong told name = HasText told name (λ text. LIMIT < length text)
 abbrev pub IsOffending : Option Told → Bytes → Type 0
 IsOffending told name = HasText told name (λ text. (out : Bytes) × FileOffence text out)
 
--- `plan`: too long only where FILE is, an offending line only where FILE isn't and offends, and a listing's end only where it isn't
-abbrev pub PlanLengths : Option Told → Bytes → Status → Type 0
-PlanLengths told file status.TooLong = IsLong told file
-PlanLengths told file status.Usage = ⊤
-PlanLengths told file status.Unreadable = ⊤
-PlanLengths told file status.WriteFault = ⊤
-PlanLengths told file status.Memory = ⊤
-PlanLengths told file status.Offending = IsOffending told file
-PlanLengths told file result = IsShort told file
+-- where FILE alone is read: too long only where it is, an offending line only where it isn't and offends, and any other end only
+-- where it isn't
+abbrev pub FileLengths : Option Told → Bytes → Status → Type 0
+FileLengths told file status.TooLong = IsLong told file
+FileLengths told file status.Usage = ⊤
+FileLengths told file status.Unreadable = ⊤
+FileLengths told file status.WriteFault = ⊤
+FileLengths told file status.Memory = ⊤
+FileLengths told file status.Offending = IsOffending told file
+FileLengths told file result = IsShort told file
 
--- where PLANS is read too: too long only where FILE is, or PLANS after a FILE that isn't; an offending line only where FILE
--- isn't and offends, or neither is; a verdict and a listing's end only where neither is
-abbrev pub CheckLengths : Option Told → Bytes → Bytes → Status → Type 0
-CheckLengths told file plans status.TooLong = IsLong told file ⊎ (IsShort told file × IsLong told plans)
-CheckLengths told file plans status.Usage = ⊤
-CheckLengths told file plans status.Unreadable = ⊤
-CheckLengths told file plans status.WriteFault = ⊤
-CheckLengths told file plans status.Memory = ⊤
-CheckLengths told file plans status.Offending = IsOffending told file ⊎ (IsShort told file × IsShort told plans)
-CheckLengths told file plans result = IsShort told file × IsShort told plans
+-- where PLANS or CERT is read too: too long only where FILE is, or the other after a FILE that isn't; an offending line only where
+-- FILE isn't and offends, or neither is; any other end only where neither is
+abbrev pub BothLengths : Option Told → Bytes → Bytes → Status → Type 0
+BothLengths told file other status.TooLong = IsLong told file ⊎ (IsShort told file × IsLong told other)
+BothLengths told file other status.Usage = ⊤
+BothLengths told file other status.Unreadable = ⊤
+BothLengths told file other status.WriteFault = ⊤
+BothLengths told file other status.Memory = ⊤
+BothLengths told file other status.Offending = IsOffending told file ⊎ (IsShort told file × IsShort told other)
+BothLengths told file other result = IsShort told file × IsShort told other
 
 -- What a status says of the lengths of the texts of the files that are asked for.
 abbrev pub Lengths : Option Wish → Option Told → Status → Type 0
 Lengths None told result = (result ≡ status.TooLong) → ⊥
-Lengths (Some (lists ask)) told result = PlanLengths told ask.file result
-Lengths (Some (continues ask)) told result = CheckLengths told ask.file ask.plans result
-Lengths (Some (checks file plans mode)) told result = CheckLengths told file plans result
+Lengths (Some (lists ask)) told result = FileLengths told ask.file result
+Lengths (Some (continues ask)) told result = BothLengths told ask.file ask.plans result
+Lengths (Some (checks file plans mode)) told result = BothLengths told file plans result
 Lengths (Some (shows number)) told result = (result ≡ status.TooLong) → ⊥
+Lengths (Some (proves file)) told result = FileLengths told file result
+Lengths (Some (refutes file cert)) told result = BothLengths told file cert result

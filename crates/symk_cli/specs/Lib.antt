@@ -7,6 +7,7 @@ pub mod Verdicts
 pub mod Goes
 pub mod Shown
 pub mod Plans
+pub mod Certs
 pub mod Answer
 pub mod Named
 pub mod Opens

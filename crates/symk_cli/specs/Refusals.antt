@@ -10,7 +10,7 @@ use Rattle.sas_reader.specs.Refused.{RefusedAt}
 use Rattle.sas_reader.specs.Printed.{printed}
 use Rattle.symk_cli.specs.declared.TheConstants.{LIMIT}
 use Rattle.symk_cli.specs.declared.reading.Named.{Named}
-use Rattle.symk_cli.specs.declared.reading.Named.TheVariants.{File, Plans}
+use Rattle.symk_cli.specs.declared.reading.Named.TheVariants.{File, Plans, Cert}
 use Rattle.run_status.specs.declared.status.Status.{Status}
 use Rattle.run_status.specs.declared.status.Status.TheVariants as status
 
@@ -22,10 +22,12 @@ pub record IsTaskText (F : Bytes) (task : TaskParts) : Type 0 where
 unfoldable pub unreadable_text : Named → Bytes
 unreadable_text File = codes "file unreadable\n"
 unreadable_text Plans = codes "plans unreadable\n"
+unreadable_text Cert = codes "cert unreadable\n"
 
 unfoldable pub too_long_text : Named → Bytes
 too_long_text File = codes "file too long\n"
 too_long_text Plans = codes "plans too long\n"
+too_long_text Cert = codes "cert too long\n"
 
 -- the line that offends, and what is wanted there
 unfoldable pub offence_text : ℕ → Shape → Bytes

@@ -7,35 +7,41 @@ use Rattle.symk_text.specs.Numbers.{value_of}
 use Rattle.symk_io.specs.View.{Bytes}
 use Rattle.symk_task.specs.declared.parts.Mode.{Mode}
 use Rattle.symk_task.specs.declared.parts.Mode.TheVariants.{TopK, Loopless, Unordered}
-use Rattle.symk_words.specs.Texts.{Texts, PlanTexts, texts_asked, plan, check, demo}
+use Rattle.symk_words.specs.Texts.{Texts, PlanTexts, texts_asked, plan, check, demo, prove, refute}
 use Rattle.plan_run.specs.declared.asking.Wanted.{Wanted}
 use Rattle.plan_run.specs.declared.asking.Reach.{Reach}
 use Rattle.plan_run.specs.declared.asking.Reach.TheVariants.{All, UpTo, Percent}
+use Rattle.plan_run.specs.declared.asking.Search.{Search}
 use Rattle.plan_run.specs.declared.asking.Direction.{Direction}
 use Rattle.plan_run.specs.declared.asking.Direction.TheVariants.{Auto, Forward, Backward, Bidirectional}
+use Rattle.symk_cli.specs.declared.reading.Named.{Named}
+use Rattle.symk_cli.specs.declared.reading.Named.TheVariants.{File, Plans, Cert}
 
--- what a list is asked to be: so many plans of FILE in a mode, found in a direction, up to a cost
+-- what a list is asked to be: so many plans of FILE in a mode, searched for so, up to a cost
 pub record Ask : Type 0 where
   pub file : Bytes
   pub wanted : Wanted
   pub mode : Mode
-  pub direction : Direction
+  pub search : Search
   pub reach : Reach
 
--- what a list that goes on is asked to be: so many plans of FILE in a mode, found in a direction, after those in PLANS
+-- what a list that goes on is asked to be: so many plans of FILE in a mode, searched for so, after those in PLANS
 pub record Further : Type 0 where
   pub file : Bytes
   pub plans : Bytes
   pub wanted : Wanted
   pub mode : Mode
-  pub direction : Direction
+  pub search : Search
 
--- a list of plans; one that goes on from that in PLANS; a verdict on the plans in PLANS; so many switches shown
+-- a list of plans; one that goes on from that in PLANS; a verdict on the plans in PLANS; so many switches shown; a certificate that
+-- FILE has no plan; a verdict on the one in CERT
 pub data Wish : Type 0 where
   lists : Ask → Wish
   continues : Further → Wish
   checks : Bytes → Bytes → Mode → Wish
   shows : ℕ → Wish
+  proves : Bytes → Wish
+  refutes : Bytes → Bytes → Wish
 
 -- the number that a whole word spells: 1 to 20 digits, and a value within the bounds
 unfoldable pub number_within : ℕ → ℕ → Bytes → Option ℕ
@@ -88,14 +94,15 @@ continues_if_all (Percent percent) ask = None
 -- a list, or one that goes on from that in a file that is named
 abbrev pub lists_after : Option Bytes → Ask → Option Wish
 lists_after None ask = Some (lists ask)
-lists_after (Some plans) ask = continues_if_all ask.reach (record { file = ask.file; plans = plans; wanted = ask.wanted; mode = ask.mode; direction = ask.direction })
+lists_after (Some plans) ask = continues_if_all ask.reach (record { file = ask.file; plans = plans; wanted = ask.wanted; mode = ask.mode; search = ask.search })
 
 abbrev pub lists_if_served : Option Bytes → Ask → Option Wish
-lists_if_served after ask = if serves ask.mode ask.direction then lists_after after ask else None
+lists_if_served after ask = if serves ask.mode ask.search.direction then lists_after after ask else None
 
 -- the list that the texts ask for, once its number, its mode, its direction and its reach are known
 abbrev pub ask_of : PlanTexts → ℕ → Mode → Direction → Reach → Ask
-ask_of t count mode direction reach = record { file = t.file; wanted = record { count = count; more = t.more }; mode = mode; direction = direction; reach = reach }
+ask_of t count mode direction reach =
+    record { file = t.file; wanted = record { count = count; more = t.more }; mode = mode; search = record { direction = direction; mutex = t.mutex }; reach = reach }
 
 -- what the texts spell, None where one of them isn't as the usage text says
 unfoldable pub spelled : Texts → Option Wish
@@ -104,15 +111,19 @@ spelled (plan t) =
     (reach_of t.bound t.quality)) (direction_of t.search)) (mode_of t.mode)) (number_within 1 1000000000 t.k)
 spelled (check file plans mode) = option_map (λ m. checks file plans m) (mode_of mode)
 spelled (demo n) = option_map (λ number. shows number) (number_within 1 64 n)
+spelled (prove file) = Some (proves file)
+spelled (refute file cert) = Some (refutes file cert)
 
 -- what the words ask for, None where the answer is the usage text
 unfoldable pub wish_of : List Bytes → Option Wish
 wish_of words = option_and_then spelled (texts_asked words)
 
--- the names of the files that are asked for, in the order in which they are read
-abbrev pub names_of : Option Wish → List Bytes
-names_of None = []
-names_of (Some (lists ask)) = ask.file ∷ []
-names_of (Some (continues ask)) = ask.file ∷ ask.plans ∷ []
-names_of (Some (checks file plans mode)) = file ∷ plans ∷ []
-names_of (Some (shows number)) = []
+-- the files that are asked for, by what they are and their names, in the order in which they are read
+abbrev pub files_of : Option Wish → List (Named × Bytes)
+files_of None = []
+files_of (Some (lists ask)) = (File, ask.file) ∷ []
+files_of (Some (continues ask)) = (File, ask.file) ∷ (Plans, ask.plans) ∷ []
+files_of (Some (checks file plans mode)) = (File, file) ∷ (Plans, plans) ∷ []
+files_of (Some (shows number)) = []
+files_of (Some (proves file)) = (File, file) ∷ []
+files_of (Some (refutes file cert)) = (File, file) ∷ (Cert, cert) ∷ []

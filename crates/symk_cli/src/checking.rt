@@ -21,7 +21,8 @@ pub fn judge<K: Sink>(
     sink: &mut K,
 ) -> Status
     requires { All (λ block. length block.names ≡ length block.ops) blocks.now.list }
-    ensures verdict { Puts (OrFront (Verdict task.now mode blocks.now.list)) (K.view sink.old) (K.view sink.new) result }
+    ensures verdict { Puts (OrFront (Verdict task.now mode blocks.now.list)) (K.view sink.old)
+        (K.view sink.new) result }
     ensures causes { HasCauses result 0 0 (K.view sink.old).faults (K.view sink.new).faults }
 {
     match check_list(alloc, task, mode, blocks) {

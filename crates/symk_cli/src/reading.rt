@@ -22,6 +22,7 @@ use symk_text::{Text, push_bytes, push_number};
 pub enum Named {
     File,
     Plans,
+    Cert,
 }
 
 impl Named {
@@ -32,6 +33,7 @@ impl Named {
         match self {
             Named::File => b"file unreadable\n",
             Named::Plans => b"plans unreadable\n",
+            Named::Cert => b"cert unreadable\n",
         }
     }
 
@@ -42,6 +44,7 @@ impl Named {
         match self {
             Named::File => b"file too long\n",
             Named::Plans => b"plans too long\n",
+            Named::Cert => b"cert too long\n",
         }
     }
 }
@@ -57,12 +60,15 @@ pub fn text_of<F: Files, K: Sink>(
     ensures text { IfOk result (λ text. IsToldText (F.view files.old).told name.now text.items) }
     ensures within { IfOk result (λ text. length text.items ≤ LIMIT) }
     ensures opened { OnOk result (Tells (Opened name.now) (F.view files.old).told (F.view files.new).told) }
-    ensures quiet { OnOk result (((F.view files.new).faults ≡ (F.view files.old).faults) × ((K.view sink.new).faults ≡ (K.view sink.old).faults)) }
+    ensures quiet { OnOk result (((F.view files.new).faults ≡ (F.view files.old).faults)
+        × ((K.view sink.new).faults ≡ (K.view sink.old).faults)) }
     ensures untouched { OnOk result (K.view sink.new ≡ K.view sink.old) }
     ensures refused { IfErr result (λ status. HasRead (F.view files.old).told name.now
         (λ read. Puts (OrFront (TextRefused named read)) (K.view sink.old) (K.view sink.new) status)) }
-    ensures stops { IfErr result (StopsAt named name.now (F.view files.old).told (F.view files.new).told (K.view sink.old).taken (K.view sink.new).taken) }
-    ensures causes { IfErr result (λ status. HasCauses status (F.view files.old).faults (F.view files.new).faults (K.view sink.old).faults (K.view sink.new).faults) }
+    ensures stops { IfErr result (StopsAt named name.now (F.view files.old).told (F.view files.new).told
+        (K.view sink.old).taken (K.view sink.new).taken) }
+    ensures causes { IfErr result (λ status. HasCauses status (F.view files.old).faults
+        (F.view files.new).faults (K.view sink.old).faults (K.view sink.new).faults) }
 {
     match read_all(alloc, files, name, LIMIT) {
         Ok(text) => Ok(text),
@@ -81,12 +87,15 @@ pub fn task_of<F: Files, K: Sink>(
 ) -> Result<Task, Status>
     ensures task { IfOk result (λ task. HasText (F.view files.old).told name.now (λ text. IsTaskText text task)) }
     ensures opened { OnOk result (Tells (Opened name.now) (F.view files.old).told (F.view files.new).told) }
-    ensures quiet { OnOk result (((F.view files.new).faults ≡ (F.view files.old).faults) × ((K.view sink.new).faults ≡ (K.view sink.old).faults)) }
+    ensures quiet { OnOk result (((F.view files.new).faults ≡ (F.view files.old).faults)
+        × ((K.view sink.new).faults ≡ (K.view sink.old).faults)) }
     ensures untouched { OnOk result (K.view sink.new ≡ K.view sink.old) }
     ensures refused { IfErr result (λ status. HasRead (F.view files.old).told name.now
         (λ read. Puts (OrFront (FileRefused read)) (K.view sink.old) (K.view sink.new) status)) }
-    ensures stops { IfErr result (StopsAt Named.File name.now (F.view files.old).told (F.view files.new).told (K.view sink.old).taken (K.view sink.new).taken) }
-    ensures causes { IfErr result (λ status. HasCauses status (F.view files.old).faults (F.view files.new).faults (K.view sink.old).faults (K.view sink.new).faults) }
+    ensures stops { IfErr result (StopsAt Named.File name.now (F.view files.old).told (F.view files.new).told
+        (K.view sink.old).taken (K.view sink.new).taken) }
+    ensures causes { IfErr result (λ status. HasCauses status (F.view files.old).faults
+        (F.view files.new).faults (K.view sink.old).faults (K.view sink.new).faults) }
 {
     let text = text_of(alloc, files, sink, Named::File, name)?;
     match read_task(alloc, &text) {
@@ -108,14 +117,18 @@ pub fn plans_of<F: Files, K: Sink>(
     name: &str,
 ) -> Result<Blocks, Status>
     ensures names { IfOk result (λ blocks. All (λ block. length block.names ≡ length block.ops) blocks.list) }
-    ensures blocks { IfOk result (λ blocks. HasText (F.view files.old).told name.now (λ text. IsPlansText text blocks.list)) }
+    ensures blocks { IfOk result (λ blocks. HasText (F.view files.old).told name.now
+        (λ text. IsPlansText text blocks.list)) }
     ensures opened { OnOk result (Tells (Opened name.now) (F.view files.old).told (F.view files.new).told) }
-    ensures quiet { OnOk result (((F.view files.new).faults ≡ (F.view files.old).faults) × ((K.view sink.new).faults ≡ (K.view sink.old).faults)) }
+    ensures quiet { OnOk result (((F.view files.new).faults ≡ (F.view files.old).faults)
+        × ((K.view sink.new).faults ≡ (K.view sink.old).faults)) }
     ensures untouched { OnOk result (K.view sink.new ≡ K.view sink.old) }
     ensures refused { IfErr result (λ status. HasRead (F.view files.old).told name.now
         (λ read. Puts (OrFront (PlansRefused read)) (K.view sink.old) (K.view sink.new) status)) }
-    ensures stops { IfErr result (StopsAt Named.Plans name.now (F.view files.old).told (F.view files.new).told (K.view sink.old).taken (K.view sink.new).taken) }
-    ensures causes { IfErr result (λ status. HasCauses status (F.view files.old).faults (F.view files.new).faults (K.view sink.old).faults (K.view sink.new).faults) }
+    ensures stops { IfErr result (StopsAt Named.Plans name.now (F.view files.old).told (F.view files.new).told
+        (K.view sink.old).taken (K.view sink.new).taken) }
+    ensures causes { IfErr result (λ status. HasCauses status (F.view files.old).faults
+        (F.view files.new).faults (K.view sink.old).faults (K.view sink.new).faults) }
 {
     let text = text_of(alloc, files, sink, Named::Plans, name)?;
     match read_plans(alloc, &text) {

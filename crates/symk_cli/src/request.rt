@@ -6,7 +6,7 @@ ghost use Rattle.plan_run.specs.Reaches.{IsNear};
 ghost use Rattle.symk_cli.specs.Wishes.{number_within, mode_named, mode_of, direction_named, direction_of, reach_of, serves, lists_after, spelled};
 ghost use Rattle.symk_cli.specs.Requests.{wished, IsWithin};
 
-use plan_run::{Direction, Reach, Wanted};
+use plan_run::{Direction, Reach, Search, Wanted};
 use symk_task::Mode;
 use symk_text::number;
 use symk_words::Asked;
@@ -18,7 +18,7 @@ pub enum Request<'a> {
         file: &'a str,
         wanted: Wanted,
         mode: Mode,
-        direction: Direction,
+        search: Search,
         reach: Reach,
     },
     Further {
@@ -26,7 +26,7 @@ pub enum Request<'a> {
         plans: &'a str,
         wanted: Wanted,
         mode: Mode,
-        direction: Direction,
+        search: Search,
     },
     Check {
         file: &'a str,
@@ -35,6 +35,13 @@ pub enum Request<'a> {
     },
     Demo {
         switches: u32,
+    },
+    Prove {
+        file: &'a str,
+    },
+    Refute {
+        file: &'a str,
+        cert: &'a str,
     },
 }
 
@@ -53,13 +60,22 @@ pub fn request_of<'a>(asked: &Asked<'a>) -> Option<Request<'a>>
             bound,
             quality,
             after,
+            mutex,
         } => {
             let count = number_within(k, 1, 1_000_000_000)?;
             let mode = mode_of(mode)?;
             let direction = direction_of(search)?;
             let reach = reach_of(bound, quality)?;
             if is_served(mode, direction) {
-                list_request(file, after, Wanted { count, more }, mode, direction, reach)
+                let wanted = Wanted { count, more };
+                list_request(
+                    file,
+                    after,
+                    wanted,
+                    mode,
+                    Search { direction, mutex },
+                    reach,
+                )
             } else {
                 None
             }
@@ -72,6 +88,8 @@ pub fn request_of<'a>(asked: &Asked<'a>) -> Option<Request<'a>>
         Asked::Demo { n } => Some(Request::Demo {
             switches: number_within(n, 1, 64)? as u32,
         }),
+        Asked::Prove { file } => Some(Request::Prove { file }),
+        Asked::Refute { file, cert } => Some(Request::Refute { file, cert }),
     }
 }
 
@@ -81,14 +99,14 @@ fn list_request<'a>(
     after: Option<&'a str>,
     wanted: Wanted,
     mode: Mode,
-    direction: Direction,
+    search: Search,
     reach: Reach,
 ) -> Option<Request<'a>>
     requires least { 1 ≤ wanted.count }
     requires most { wanted.count ≤ 1000000000 }
     requires near { IsNear reach }
     ensures wish { option_map wished result ≡ lists_after (option_map (λ s. s.now) after.entry)
-        (record { file = file.now; wanted = wanted; mode = mode; direction = direction; reach = reach }) }
+        (record { file = file.now; wanted = wanted; mode = mode; search = search; reach = reach }) }
     ensures within { IfSome result IsWithin }
 {
     match (after, reach) {
@@ -96,7 +114,7 @@ fn list_request<'a>(
             file,
             wanted,
             mode,
-            direction,
+            search,
             reach,
         }),
         (Some(plans), Reach::All) => Some(Request::Further {
@@ -104,7 +122,7 @@ fn list_request<'a>(
             plans,
             wanted,
             mode,
-            direction,
+            search,
         }),
         (Some(_), _) => None,
     }

@@ -1,5 +1,6 @@
 //! Runs over files and a sink in memory: the worked examples, and each call that fails once.
 
+mod certs;
 mod checks;
 mod cuts;
 mod drawn;
@@ -9,6 +10,7 @@ mod files;
 mod further;
 mod large;
 mod memory;
+mod mutexes;
 mod plans;
 mod refusals;
 mod rows;
@@ -25,7 +27,8 @@ struct Outcome {
     bytes: Vec<u8>,
 }
 
-// The files of a run, and which of its calls fail. A count of blanks stands in the place of a text.
+// The files of a run, and which of its calls fail. PLANS and CERT are two names of one text. A count of blanks stands in the
+// place of a text.
 #[derive(Clone, Copy)]
 struct World<'a> {
     file: &'a [u8],
@@ -66,7 +69,7 @@ fn file(
     })
 }
 
-// Runs the words, which stand in one text with a space between two of them, over FILE and PLANS.
+// Runs the words, which stand in one text with a space between two of them, over FILE, PLANS and CERT.
 fn answer(alloc: Global, world: &World, words: &str) -> Result<Outcome, AllocError> {
     let mut given = Vec::new(alloc);
     given.push(String::from_str(alloc, "symk")?)?;
@@ -75,7 +78,9 @@ fn answer(alloc: Global, world: &World, words: &str) -> Result<Outcome, AllocErr
     }
     let mut shelf = Vec::new(alloc);
     shelf.push(file(alloc, "FILE", world.file, world.blank_file)?)?;
-    shelf.push(file(alloc, "PLANS", world.plans, world.blank_plans)?)?;
+    for name in ["PLANS", "CERT"] {
+        shelf.push(file(alloc, name, world.plans, world.blank_plans)?)?;
+    }
     let mut files = MemFiles::new(shelf, Vec::from_slice(alloc, world.failing_files)?);
     let failing = Vec::from_slice(alloc, world.failing_sink)?;
     let mut sink = MemSink::new(alloc, failing, world.most);

@@ -3,20 +3,21 @@
 ghost use Rattle.std.specs.Prelude.{◌≡◌, ◌≢◌, ◌≤◌, [], ◌∷◌, Some, None, IfOk, IsErrOf, map, string_bytes};
 ghost use Rattle.run_status.specs.Ends.{HasCauses};
 ghost use Rattle.plan_run.specs.Reaches.{IsNear};
-ghost use Rattle.symk_cli.specs.Wishes.{wish_of, names_of, lists, continues, checks};
+ghost use Rattle.symk_cli.specs.Wishes.{wish_of, files_of, lists, continues, checks, proves, refutes};
 ghost use Rattle.symk_cli.specs.Requests.{wished, IsWithin};
 ghost use Rattle.symk_cli.specs.LawfulWords.{AreLawful};
 ghost use Rattle.symk_cli.specs.Answer.{Answered, usage_text};
 ghost use Rattle.symk_cli.specs.Opens.{Opens};
+ghost use Rattle.symk_cli.specs.Certs.{IsSettled};
 ghost use Rattle.symk_cli.specs.Complete.{Complete};
 ghost use Rattle.symk_cli.specs.Lengths.{Lengths};
 
 use crate::checking::judge;
 use crate::continuing::go_on;
-use crate::reading::{plans_of, task_of};
+use crate::reading::{Named, plans_of, task_of, text_of};
 use crate::request::{Request, request_of};
 use crate::showing::show;
-use plan_run::{Direction, Reach, Wanted, list_reached};
+use plan_run::{Reach, Search, Wanted, list_reached};
 use run_status::{Status, end};
 use std::alloc::Global;
 use symk_io::{Files, NoFaultFiles, NoFaultSink, Sink};
@@ -25,9 +26,10 @@ use symk_words::{WordsFault, read_words};
 
 /// What the program may be asked for.
 pub const USAGE: &[u8] =
-    b"usage: symk plan FILE --k K [--mode topk|loopless|unordered] [--search auto|forward|backward|bidirectional] [--more] [--bound Q | --quality P] [--after PLANS]\n       symk check FILE PLANS [--mode topk|loopless|unordered]\n       symk demo N\n";
+    b"usage: symk plan FILE --k K [--mode topk|loopless|unordered] [--search auto|forward|backward|bidirectional] [--more] [--bound Q | --quality P] [--after PLANS] [--mutex]\n       symk check FILE PLANS [--mode topk|loopless|unordered]\n       symk demo N\n       symk prove FILE\n       symk refute FILE CERT\n";
 
-/// Answers the words: lists the plans of a task, checks a list of plans, or shows a task that is made from a number.
+/// Answers the words: lists the plans of a task, checks a list of plans, shows a task that is made from a number, or writes or
+/// checks a certificate that a task has no plan.
 ///
 /// The first word is the program's name and isn't looked at. What is read comes from `files`, and every byte goes to `sink`,
 /// each block of a plan as one piece, which is flushed before the next plan is asked for. A refusal writes its text, as one
@@ -39,16 +41,25 @@ pub fn run<F: Files, K: Sink>(
     sink: &mut K,
 ) -> Status
     // The bytes and the status answer the words, for the texts of the files, with one flush for each piece.
-    ensures answer { Answered (wish_of (map (λ w. string_bytes w) words.now)) (F.view files.old).told (K.view sink.old) (K.view sink.new) result }
+    ensures answer { Answered (wish_of (map (λ w. string_bytes w) words.now)) (F.view files.old).told
+        (K.view sink.old) (K.view sink.new) result }
     // A fault is answered only where one was counted, and where one was, no other status comes but want of memory.
-    ensures causes { HasCauses result (F.view files.old).faults (F.view files.new).faults (K.view sink.old).faults (K.view sink.new).faults }
+    ensures causes { HasCauses result (F.view files.old).faults (F.view files.new).faults
+        (K.view sink.old).faults (K.view sink.new).faults }
     // The files are opened in their order, and none but those asked for, each at most once.
-    ensures opened { Opens (names_of (wish_of (map (λ w. string_bytes w) words.now))) (F.view files.old).told (F.view files.new).told (K.view sink.old).taken (K.view sink.new).taken result }
+    ensures opened { Opens (files_of (wish_of (map (λ w. string_bytes w) words.now))) (F.view files.old).told
+        (F.view files.new).told (K.view sink.old).taken (K.view sink.new).taken result }
     // Usage comes of no lawful words, and too long of no text that isn't.
     ensures lawful { AreLawful (map (λ w. string_bytes w) words.now) → result ≢ Status.Usage }
     ensures lengths { Lengths (wish_of (map (λ w. string_bytes w) words.now)) (F.view files.old).told result }
+    // A certificate goes out, and one is taken, only where the task has no plan, whoever wrote it.
+    ensures proved { result ≡ Status.Proved → IsSettled (wish_of (map (λ w. string_bytes w) words.now))
+        (F.view files.old).told }
+    ensures refuted { result ≡ Status.Refuted → IsSettled (wish_of (map (λ w. string_bytes w) words.now))
+        (F.view files.old).told }
     // Where nothing stands against it, what is asked for comes, unless memory is wanting.
-    ensures complete { Complete (wish_of (map (λ w. string_bytes w) words.now)) (F.view files.old) (F.view files.new) (K.view sink.old) (K.view sink.new) result }
+    ensures complete { Complete (wish_of (map (λ w. string_bytes w) words.now)) (F.view files.old)
+        (F.view files.new) (K.view sink.old) (K.view sink.new) result }
 {
     answer(alloc, words, files, sink)
 }
@@ -68,9 +79,12 @@ pub fn run_in_memory(
 
 // Answers the words.
 fn answer<F: Files, K: Sink>(alloc: Global, words: &[String], files: &mut F, sink: &mut K) -> Status
-    ensures answer { Answered (wish_of (map (λ w. string_bytes w) words.now)) (F.view files.old).told (K.view sink.old) (K.view sink.new) result }
-    ensures causes { HasCauses result (F.view files.old).faults (F.view files.new).faults (K.view sink.old).faults (K.view sink.new).faults }
-    ensures opened { Opens (names_of (wish_of (map (λ w. string_bytes w) words.now))) (F.view files.old).told (F.view files.new).told (K.view sink.old).taken (K.view sink.new).taken result }
+    ensures answer { Answered (wish_of (map (λ w. string_bytes w) words.now)) (F.view files.old).told
+        (K.view sink.old) (K.view sink.new) result }
+    ensures causes { HasCauses result (F.view files.old).faults (F.view files.new).faults
+        (K.view sink.old).faults (K.view sink.new).faults }
+    ensures opened { Opens (files_of (wish_of (map (λ w. string_bytes w) words.now))) (F.view files.old).told
+        (F.view files.new).told (K.view sink.old).taken (K.view sink.new).taken result }
 {
     match request_in(alloc, words) {
         Ok(request) => serve(alloc, request, files, sink),
@@ -102,27 +116,32 @@ fn serve<F: Files, K: Sink>(
     sink: &mut K,
 ) -> Status
     requires { IsWithin request }
-    ensures answer { Answered (Some (wished request.entry)) (F.view files.old).told (K.view sink.old) (K.view sink.new) result }
-    ensures causes { HasCauses result (F.view files.old).faults (F.view files.new).faults (K.view sink.old).faults (K.view sink.new).faults }
-    ensures opened { Opens (names_of (Some (wished request.entry))) (F.view files.old).told (F.view files.new).told (K.view sink.old).taken (K.view sink.new).taken result }
+    ensures answer { Answered (Some (wished request.entry)) (F.view files.old).told (K.view sink.old)
+        (K.view sink.new) result }
+    ensures causes { HasCauses result (F.view files.old).faults (F.view files.new).faults
+        (K.view sink.old).faults (K.view sink.new).faults }
+    ensures opened { Opens (files_of (Some (wished request.entry))) (F.view files.old).told
+        (F.view files.new).told (K.view sink.old).taken (K.view sink.new).taken result }
 {
     match request {
         Request::Plan {
             file,
             wanted,
             mode,
-            direction,
+            search,
             reach,
-        } => plan(alloc, files, sink, file, mode, direction, wanted, reach),
+        } => plan(alloc, files, sink, file, mode, search, wanted, reach),
         Request::Further {
             file,
             plans,
             wanted,
             mode,
-            direction,
-        } => further(alloc, files, sink, file, plans, mode, direction, wanted),
+            search,
+        } => further(alloc, files, sink, file, plans, mode, search, wanted),
         Request::Check { file, plans, mode } => check(alloc, files, sink, file, plans, mode),
         Request::Demo { switches } => show(alloc, switches, sink),
+        Request::Prove { file } => prove(alloc, files, sink, file),
+        Request::Refute { file, cert } => refute(alloc, files, sink, file, cert),
     }
 }
 
@@ -133,19 +152,23 @@ fn plan<F: Files, K: Sink>(
     sink: &mut K,
     file: &str,
     mode: Mode,
-    direction: Direction,
+    search: Search,
     wanted: Wanted,
     reach: Reach,
 ) -> Status
     requires least { 1 ≤ wanted.count }
     requires count { wanted.count ≤ 1000000000 }
     requires near { IsNear reach }
-    ensures answer { Answered (Some (lists (record { file = file.now; wanted = wanted; mode = mode; direction = direction; reach = reach }))) (F.view files.old).told (K.view sink.old) (K.view sink.new) result }
-    ensures causes { HasCauses result (F.view files.old).faults (F.view files.new).faults (K.view sink.old).faults (K.view sink.new).faults }
-    ensures opened { Opens (file.now ∷ []) (F.view files.old).told (F.view files.new).told (K.view sink.old).taken (K.view sink.new).taken result }
+    ensures answer { Answered (Some
+        (lists (record { file = file.now; wanted = wanted; mode = mode; search = search; reach = reach })))
+        (F.view files.old).told (K.view sink.old) (K.view sink.new) result }
+    ensures causes { HasCauses result (F.view files.old).faults (F.view files.new).faults
+        (K.view sink.old).faults (K.view sink.new).faults }
+    ensures opened { Opens ((Named.File, file.now) ∷ []) (F.view files.old).told (F.view files.new).told
+        (K.view sink.old).taken (K.view sink.new).taken result }
 {
     match task_of(alloc, files, sink, file) {
-        Ok(task) => list_reached(alloc, &task, mode, direction, wanted, reach, sink),
+        Ok(task) => list_reached(alloc, &task, mode, search, wanted, reach, sink),
         Err(status) => status,
     }
 }
@@ -158,21 +181,25 @@ fn further<F: Files, K: Sink>(
     file: &str,
     plans: &str,
     mode: Mode,
-    direction: Direction,
+    search: Search,
     wanted: Wanted,
 ) -> Status
     requires least { 1 ≤ wanted.count }
     requires count { wanted.count ≤ 1000000000 }
-    ensures answer { Answered (Some (continues (record { file = file.now; plans = plans.now; wanted = wanted; mode = mode; direction = direction }))) (F.view files.old).told (K.view sink.old) (K.view sink.new) result }
-    ensures causes { HasCauses result (F.view files.old).faults (F.view files.new).faults (K.view sink.old).faults (K.view sink.new).faults }
-    ensures opened { Opens (file.now ∷ plans.now ∷ []) (F.view files.old).told (F.view files.new).told (K.view sink.old).taken (K.view sink.new).taken result }
+    ensures answer { Answered (Some
+        (continues (record { file = file.now; plans = plans.now; wanted = wanted; mode = mode; search =
+        search }))) (F.view files.old).told (K.view sink.old) (K.view sink.new) result }
+    ensures causes { HasCauses result (F.view files.old).faults (F.view files.new).faults
+        (K.view sink.old).faults (K.view sink.new).faults }
+    ensures opened { Opens ((Named.File, file.now) ∷ (Named.Plans, plans.now) ∷ []) (F.view files.old).told
+        (F.view files.new).told (K.view sink.old).taken (K.view sink.new).taken result }
 {
     let task = match task_of(alloc, files, sink, file) {
         Ok(task) => task,
         Err(status) => return status,
     };
     match plans_of(alloc, files, sink, plans) {
-        Ok(blocks) => go_on(alloc, &task, mode, direction, wanted, &blocks, sink),
+        Ok(blocks) => go_on(alloc, &task, mode, search, wanted, &blocks, sink),
         Err(status) => status,
     }
 }
@@ -186,9 +213,12 @@ fn check<F: Files, K: Sink>(
     plans: &str,
     mode: Mode,
 ) -> Status
-    ensures answer { Answered (Some (checks file.now plans.now mode)) (F.view files.old).told (K.view sink.old) (K.view sink.new) result }
-    ensures causes { HasCauses result (F.view files.old).faults (F.view files.new).faults (K.view sink.old).faults (K.view sink.new).faults }
-    ensures opened { Opens (file.now ∷ plans.now ∷ []) (F.view files.old).told (F.view files.new).told (K.view sink.old).taken (K.view sink.new).taken result }
+    ensures answer { Answered (Some (checks file.now plans.now mode)) (F.view files.old).told
+        (K.view sink.old) (K.view sink.new) result }
+    ensures causes { HasCauses result (F.view files.old).faults (F.view files.new).faults
+        (K.view sink.old).faults (K.view sink.new).faults }
+    ensures opened { Opens ((Named.File, file.now) ∷ (Named.Plans, plans.now) ∷ []) (F.view files.old).told
+        (F.view files.new).told (K.view sink.old).taken (K.view sink.new).taken result }
 {
     let task = match task_of(alloc, files, sink, file) {
         Ok(task) => task,
@@ -196,6 +226,46 @@ fn check<F: Files, K: Sink>(
     };
     match plans_of(alloc, files, sink, plans) {
         Ok(blocks) => judge(alloc, &task, mode, &blocks, sink),
+        Err(status) => status,
+    }
+}
+
+// `prove`
+fn prove<F: Files, K: Sink>(alloc: Global, files: &mut F, sink: &mut K, file: &str) -> Status
+    ensures answer { Answered (Some (proves file.now)) (F.view files.old).told (K.view sink.old)
+        (K.view sink.new) result }
+    ensures causes { HasCauses result (F.view files.old).faults (F.view files.new).faults
+        (K.view sink.old).faults (K.view sink.new).faults }
+    ensures opened { Opens ((Named.File, file.now) ∷ []) (F.view files.old).told (F.view files.new).told
+        (K.view sink.old).taken (K.view sink.new).taken result }
+{
+    match task_of(alloc, files, sink, file) {
+        Ok(task) => cert_run::prove(alloc, &task, sink),
+        Err(status) => status,
+    }
+}
+
+// `refute`
+fn refute<F: Files, K: Sink>(
+    alloc: Global,
+    files: &mut F,
+    sink: &mut K,
+    file: &str,
+    cert: &str,
+) -> Status
+    ensures answer { Answered (Some (refutes file.now cert.now)) (F.view files.old).told (K.view sink.old)
+        (K.view sink.new) result }
+    ensures causes { HasCauses result (F.view files.old).faults (F.view files.new).faults
+        (K.view sink.old).faults (K.view sink.new).faults }
+    ensures opened { Opens ((Named.File, file.now) ∷ (Named.Cert, cert.now) ∷ []) (F.view files.old).told
+        (F.view files.new).told (K.view sink.old).taken (K.view sink.new).taken result }
+{
+    let task = match task_of(alloc, files, sink, file) {
+        Ok(task) => task,
+        Err(status) => return status,
+    };
+    match text_of(alloc, files, sink, Named::Cert, cert) {
+        Ok(bytes) => cert_run::refute(alloc, &task, &bytes, sink),
         Err(status) => status,
     }
 }

@@ -45,15 +45,18 @@ pub fn read_all<F: Files>(
     // What is read is the text, where it is told, and is within the limit; a text past the limit is the other answer.
     ensures whole { IfOk result (λ text. IsTextOf (F.view files.old).told name.now text.items) }
     ensures within { IfOk result (λ text. length text.items ≤ limit) }
-    ensures long { IsErrOf result ReadStop.TooLong → (text : Bytes) × (limit < length text) × IsTextOf (F.view files.old).told name.now text }
+    ensures long { IsErrOf result ReadStop.TooLong → (text : Bytes) × (limit < length text)
+        × IsTextOf (F.view files.old).told name.now text }
     // Where texts are told, both come only for a name that has one.
-    ensures named { (IsErrOf result ReadStop.Unreadable → ⊥) → (IsErrOf result ReadStop.Memory → ⊥) → IsNamed (F.view files.old).told name.now }
+    ensures named { (IsErrOf result ReadStop.Unreadable → ⊥) → (IsErrOf result ReadStop.Memory → ⊥)
+        → IsNamed (F.view files.old).told name.now }
     // A fault is named only where it was counted, and all other answers leave the count.
     ensures unreadable { IsErrOf result ReadStop.Unreadable → Rose (F.view files.old).faults (F.view files.new).faults }
     ensures later { (F.view files.old).faults ≤ (F.view files.new).faults }
     ensures quiet { (IsErrOf result ReadStop.Unreadable → ⊥) → (F.view files.new).faults ≡ (F.view files.old).faults }
     // The name is the only one opened, and is opened unless memory was wanting.
-    ensures opened { (IsErrOf result ReadStop.Memory → ⊥) → Tells (Opened name.now) (F.view files.old).told (F.view files.new).told }
+    ensures opened { (IsErrOf result ReadStop.Memory → ⊥) → Tells (Opened name.now) (F.view files.old).told
+        (F.view files.new).told }
     ensures names { Tells (MayOpen name.now) (F.view files.old).told (F.view files.new).told }
 {
     if let Err(e) = files.open_file(name) {

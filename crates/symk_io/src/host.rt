@@ -64,7 +64,8 @@ impl<R: System + Drop> Files for HostFiles<R> {
         ensures cause { HasCause self.old.faults self.new.faults result }
         // Nothing is left where no file is open; what the open one is known to have left loses what was given.
         ensures closed { self.old.file ≡ None → result ≡ Ok 0 }
-        ensures given { ReadConsumes (option_and_then (λ f. R.File.remaining f) self.old.file) (option_and_then (λ f. R.File.remaining f) self.new.file) result buf.new }
+        ensures given { ReadConsumes (option_and_then (λ f. R.File.remaining f) self.old.file)
+            (option_and_then (λ f. R.File.remaining f) self.new.file) result buf.new }
     {
         let Some(file) = &mut self.file else {
             return Ok(0);

@@ -91,7 +91,8 @@ impl Files for MemFiles {
         ensures told { Tells (Opens name.now result) (files_view self.old).told (files_view self.new).told }
         ensures cause { HasCause (files_view self.old).faults (files_view self.new).faults result }
         // A call that is listed fails, and another one only where the name isn't there.
-        ensures listed { Meets (text_in self.old.shelf.files.items name.now ≡ None) self.old.failing self.new.failing result }
+        ensures listed { Meets (text_in self.old.shelf.files.items name.now ≡ None) self.old.failing
+            self.new.failing result }
     {
         let fails = self.failing.count_call();
         self.shelf.note(name)?;

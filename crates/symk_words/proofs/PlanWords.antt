@@ -267,28 +267,32 @@ after_option = record {
   use_right = λ rows value h. simp h refl;
 }
 
--- the option without a value
-more_walks : (rows : List Row) (pending : Option (Text × List Text)) → walked leaf.rules [] (idle_at rows pending) (codes "--more")
-    ≡ idle_at (with_values (codes "more") AsWritten CommandLine (codes "true" ∷ []) (without (codes "more") (settled_rows leaf.rules pending rows))) None
-unfolding clap_on_literals
-more_walks rows pending = refl
+-- The option of this name, written so, has no value, and is used at once.
+record IsFlag (id word : Text) : Type 0 where
+  walks : (rows : List Row) (pending : Option (Text × List Text)) → walked leaf.rules [] (idle_at rows pending) word
+      ≡ idle_at (with_values id AsWritten CommandLine (codes "true" ∷ []) (without id (settled_rows leaf.rules pending rows))) None
+  right : (rows : List Row) (pending : Option (Text × List Text)) → settle_fault leaf.rules false (held_at rows pending) ≡ [] → has_row id (settled_rows leaf.rules pending rows) ≡ false
+      → turn_fault leaf [] (idle_at rows pending) word ≡ []
 
-more_right : (rows : List Row) (pending : Option (Text × List Text)) → settle_fault leaf.rules false (held_at rows pending) ≡ [] → has_row (codes "more") (settled_rows leaf.rules pending rows) ≡ false
-    → turn_fault leaf [] (idle_at rows pending) (codes "--more") ≡ []
+more_flag : IsFlag (codes "more") (codes "--more")
 unfolding clap_on_literals
-more_right rows pending e h = simp (e, h) refl
+more_flag = record { walks = λ rows pending. refl; right = λ rows pending e h. simp (e, h) refl }
 
-may_be_set : (given : Bool) (words : List Text) (rows : List Row) → has_row (codes "more") rows ≡ false → Gives words rows → Gives (words ++ flag_words (codes "--more") given) (rows ++ flag_rows (codes "more") given)
-may_be_set false words rows lacks g = gives_same words (words ++ []) rows (rows ++ []) (append-nil words) (append-nil rows) g
-may_be_set true words rows lacks g =
-    let last = rows ++ flag_row (codes "more") (codes "true") CommandLine ∷ [] in
-    let there = more_walks g.before g.pending ∙ ap (λ x. idle_at (with_values (codes "more") AsWritten CommandLine (codes "true" ∷ []) (without (codes "more") x)) None) g.uses
-    ∙ ap (λ x. idle_at x None) (new_row (codes "more") AsWritten CommandLine (codes "true" ∷ []) rows lacks) in
-    let lacks_it = ap (λ x. has_row (codes "more") x) g.uses ∙ lacks in
+mutex_flag : IsFlag (codes "mutex") (codes "--mutex")
+unfolding clap_on_literals
+mutex_flag = record { walks = λ rows pending. refl; right = λ rows pending e h. simp (e, h) refl }
+
+may_be_set : (id word : Text) (given : Bool) (words : List Text) (rows : List Row) → IsFlag id word → has_row id rows ≡ false → Gives words rows → Gives (words ++ flag_words word given) (rows ++ flag_rows id given)
+may_be_set id word false words rows is lacks g = gives_same words (words ++ []) rows (rows ++ []) (append-nil words) (append-nil rows) g
+may_be_set id word true words rows is lacks g =
+    let last = rows ++ flag_row id (codes "true") CommandLine ∷ [] in
+    let there = is.walks g.before g.pending ∙ ap (λ x. idle_at (with_values id AsWritten CommandLine (codes "true" ∷ []) (without id x)) None) g.uses
+    ∙ ap (λ x. idle_at x None) (new_row id AsWritten CommandLine (codes "true" ∷ []) rows lacks) in
+    let lacks_it = ap (λ x. has_row id x) g.uses ∙ lacks in
     record {
       before = last;
       pending = None;
-      goes = goes_on _ _ _ words (codes "--more" ∷ []) g.goes (one_word _ _ (codes "--more") there (more_right g.before g.pending g.right lacks_it));
+      goes = goes_on _ _ _ words (word ∷ []) g.goes (one_word _ _ word there (is.right g.before g.pending g.right lacks_it));
       uses = refl;
       right = refl;
     }
@@ -327,7 +331,7 @@ least_rows F K = row (codes "file") F ∷ row (codes "k") K ∷ []
 gives_least : (F K : Text) → Plain F → Plain K → Gives (F ∷ codes "--k" ∷ K ∷ []) (least_rows F K)
 gives_least F K f k = with_option (codes "k") (codes "--k") K (F ∷ []) (row (codes "file") F ∷ []) k_option k refl (gives_file F f)
 
--- The end of the words: one option alone, which has no value, has a default.
+-- The end of the words: the two options without a value alone have a default.
 
 or_true : (t : Bool) (k : Kinds) → cond (t || true) [] k ≡ []
 or_true true k = refl
@@ -358,7 +362,7 @@ rows_past : (rows : List Row) (rules rest : List Rule) → NoDefaults rules → 
 rows_past rows [] rest e = refl
 rows_past rows (a ∷ rules) rest e = ap (λ r. fold with_default r (rules ++ rest)) (no_default rows a e.0) ∙ rows_past rows rules rest e.1
 
--- the options before the one without a value, and those after it
+-- the options before the first one without a value, and those between it and the last one
 abbrev first_rules : List Rule
 first_rules = filled_from 1 (place (codes "file") ∷ wanted (codes "k") ∷ wished (codes "mode") ∷ wished (codes "search") ∷ [])
 
@@ -368,7 +372,13 @@ more_rule = filled (flag (codes "more"))
 abbrev later_rules : List Rule
 later_rules = filled_from 3 (wished (codes "bound") ∷ wished (codes "quality") ∷ wished (codes "after") ∷ [])
 
-rules_are : leaf.rules ≡ first_rules ++ more_rule ∷ later_rules
+abbrev mutex_rule : Rule
+mutex_rule = filled (flag (codes "mutex"))
+
+abbrev last_rules : List Rule
+last_rules = later_rules ++ mutex_rule ∷ []
+
+rules_are : leaf.rules ≡ first_rules ++ more_rule ∷ last_rules
 unfolding clap_on_literals
 rules_are = refl
 
@@ -380,26 +390,61 @@ later_have_none : NoDefaults later_rules
 unfolding clap_on_literals
 later_have_none = (refl, (refl, (refl, tt)))
 
+-- an option without a value has its default where it isn't given
 more_fault : (rows : List Row) (given : Bool) → has_row (codes "more") rows ≡ given → default_fault rows more_rule ≡ []
 unfolding clap_on_literals
 more_fault rows true h = simp h refl
 more_fault rows false h = simp h refl
 
-more_default : (rows : List Row) (given : Bool) → has_row (codes "more") rows ≡ given → with_default rows more_rule ≡ rows ++ default_rows_of (codes "more") given
+more_row : (rows : List Row) (given : Bool) → has_row (codes "more") rows ≡ given → with_default rows more_rule ≡ rows ++ default_rows_of (codes "more") given
 unfolding clap_on_literals
-more_default rows true h = simp h (sym (append-nil rows))
-more_default rows false h = simp h (appended (codes "more") (more_values DefaultValue (codes "false" ∷ [])) _ rows h)
+more_row rows true h = simp h (sym (append-nil rows))
+more_row rows false h = simp h (appended (codes "more") (more_values DefaultValue (codes "false" ∷ [])) _ rows h)
 
-no_fault_left : (rows : List Row) (given : Bool) → has_row (codes "more") rows ≡ given → defaults_fault rows leaf.rules ≡ []
+mutex_fault : (rows : List Row) (given : Bool) → has_row (codes "mutex") rows ≡ given → default_fault rows mutex_rule ≡ []
+unfolding clap_on_literals
+mutex_fault rows true h = simp h refl
+mutex_fault rows false h = simp h refl
+
+mutex_row : (rows : List Row) (given : Bool) → has_row (codes "mutex") rows ≡ given → with_default rows mutex_rule ≡ rows ++ default_rows_of (codes "mutex") given
+unfolding clap_on_literals
+mutex_row rows true h = simp h (sym (append-nil rows))
+mutex_row rows false h = simp h (appended (codes "mutex") (more_values DefaultValue (codes "false" ∷ [])) _ rows h)
+
+-- whether the options without a value are given
+record HasFlags (rows : List Row) (has_more has_mutex : Bool) : Type 0 where
+  more : has_row (codes "more") rows ≡ has_more
+  mutex : has_row (codes "mutex") rows ≡ has_mutex
+
+or_no : (b : Bool) → (b || false) ≡ b
+or_no true = refl
+or_no false = refl
+
+-- rows with those of the one that isn't given, and then of the other
+abbrev with_more : List Row → Bool → List Row
+with_more rows more = rows ++ default_rows_of (codes "more") more
+
+abbrev with_both : List Row → Bool → Bool → List Row
+with_both rows more mutex = with_more rows more ++ default_rows_of (codes "mutex") mutex
+
+mutex_then : (rows : List Row) (more mutex : Bool) → HasFlags rows more mutex → has_row (codes "mutex") (with_more rows more) ≡ mutex
+mutex_then rows more mutex h =
+    let test = λ (r : Row). bytes_eq r.id (codes "mutex") in
+    list_any-append test rows _ ∙ ap (λ b. list_any test rows || b) (lacks_default (codes "mutex") (codes "more") more refl) ∙ or_no _ ∙ h.mutex
+
+no_fault_left : (rows : List Row) (more mutex : Bool) → HasFlags rows more mutex → defaults_fault rows leaf.rules ≡ []
 unfolding defaults_fault
-no_fault_left rows given h =
-    ap (λ r. defaults_fault rows r) rules_are ∙ fault_past rows first_rules (more_rule ∷ later_rules) first_have_none
-    ∙ ap₂ or_else (more_fault rows given h) (fault_past (with_default rows more_rule) later_rules [] later_have_none)
+no_fault_left rows more mutex h =
+    let then = ap (λ r. has_row (codes "mutex") r) (more_row rows more h.more) ∙ mutex_then rows more mutex h in
+    ap (λ r. defaults_fault rows r) rules_are ∙ fault_past rows first_rules (more_rule ∷ last_rules) first_have_none
+    ∙ ap₂ or_else (more_fault rows more h.more) (fault_past (with_default rows more_rule) later_rules (mutex_rule ∷ []) later_have_none
+    ∙ ap (λ k. or_else k []) (mutex_fault (with_default rows more_rule) mutex then))
 
-rows_at_end : (rows : List Row) (given : Bool) → has_row (codes "more") rows ≡ given → fold with_default rows leaf.rules ≡ rows ++ default_rows_of (codes "more") given
-rows_at_end rows given h =
-    ap (λ r. fold with_default rows r) rules_are ∙ rows_past rows first_rules (more_rule ∷ later_rules) first_have_none
-    ∙ rows_past (with_default rows more_rule) later_rules [] later_have_none ∙ more_default rows given h
+rows_at_end : (rows : List Row) (more mutex : Bool) → HasFlags rows more mutex → fold with_default rows leaf.rules ≡ with_both rows more mutex
+rows_at_end rows more mutex h =
+    ap (λ r. fold with_default rows r) rules_are ∙ rows_past rows first_rules (more_rule ∷ last_rules) first_have_none
+    ∙ rows_past (with_default rows more_rule) later_rules (mutex_rule ∷ []) later_have_none
+    ∙ ap (λ r. with_default r mutex_rule) (more_row rows more h.more) ∙ mutex_row (with_more rows more) mutex (mutex_then rows more mutex h)
 
 required_there : (F K : Text) (others : List Row) → check_fault leaf (row (codes "file") F ∷ row (codes "k") K ∷ others) false ≡ []
 unfolding clap_on_literals
@@ -407,17 +452,19 @@ required_there F K others = refl
 
 -- What the words give at the end.
 
-finished_rows : (words : List Text) (rows : List Row) (given : Bool) (g : Gives words rows) → has_row (codes "more") rows ≡ given
-    → finished leaf.rules (walk leaf.rules [] nothing_held words).held ≡ rows ++ default_rows_of (codes "more") given
-finished_rows words rows given g h =
-    ap (λ (w : Walk). finished leaf.rules w.held) g.goes.there ∙ ap (λ r. fold with_default r leaf.rules) g.uses ∙ rows_at_end rows given h
+finished_rows : (words : List Text) (rows : List Row) (more mutex : Bool) (g : Gives words rows) → HasFlags rows more mutex → finished leaf.rules (walk leaf.rules [] nothing_held words).held ≡ with_both rows more mutex
+finished_rows words rows more mutex g h =
+    ap (λ (w : Walk). finished leaf.rules w.held) g.goes.there ∙ ap (λ r. fold with_default r leaf.rules) g.uses ∙ rows_at_end rows more mutex h
 
-level_right : (F K : Text) (words : List Text) (others : List Row) (given : Bool) (g : Gives words (row (codes "file") F ∷ row (codes "k") K ∷ others)) → has_row (codes "more") (row (codes "file") F ∷ row (codes "k") K ∷ others) ≡ given
-    → level_fault leaf [] nothing_held words false [] ≡ []
-level_right F K words others given g h =
-    let rows = row (codes "file") F ∷ row (codes "k") K ∷ others in
-    let defaults = ap (λ r. defaults_fault r leaf.rules) g.uses ∙ no_fault_left rows given h in
-    let checks = ap (λ r. check_fault leaf (fold with_default r leaf.rules) false) g.uses ∙ ap (λ r. check_fault leaf r false) (rows_at_end rows given h) ∙ required_there F K (others ++ default_rows_of (codes "more") given) in
+-- the rows of a file and of how many plans, and others
+abbrev from_least : Text → Text → List Row → List Row
+from_least F K others = row (codes "file") F ∷ row (codes "k") K ∷ others
+
+level_right : (F K : Text) (words : List Text) (others : List Row) (more mutex : Bool) (g : Gives words (from_least F K others)) → HasFlags (from_least F K others) more mutex → level_fault leaf [] nothing_held words false [] ≡ []
+level_right F K words others more mutex g h =
+    let rows = from_least F K others in
+    let defaults = ap (λ r. defaults_fault r leaf.rules) g.uses ∙ no_fault_left rows more mutex h in
+    let checks = ap (λ r. check_fault leaf (fold with_default r leaf.rules) false) g.uses ∙ ap (λ r. check_fault leaf r false) (rows_at_end rows more mutex h) ∙ required_there F K (with_both others more mutex) in
     ap₂ or_else g.goes.right (ap (λ (w : Walk). end_fault leaf w.held) g.goes.there ∙ ap₂ or_else g.right (ap₂ or_else defaults checks))
 
 -- From the words of the program to those of the subcommand.
@@ -465,28 +512,24 @@ top_rows : (prog : Text) (words : List Text) → subcommand_of symk_app (prog �
 unfolding clap_on_literals
 top_rows prog words = enters_rows prog words ∙ ap (λ (w : Walk). entered (built symk_app) w.stopped) (passes_over [] words)
 
-given_texts : (prog : Text) (words : List Text) (F K : Text) (others : List Row) (given : Bool) → Gives words (row (codes "file") F ∷ row (codes "k") K ∷ others) → has_row (codes "more") (row (codes "file") F ∷ row (codes "k") K ∷ others) ≡ given
-    → texts_asked (prog ∷ codes "plan" ∷ words) ≡ Some (plan (plan_with (row (codes "file") F ∷ row (codes "k") K ∷ others ++ default_rows_of (codes "more") given) F K))
+given_texts : (prog : Text) (words : List Text) (F K : Text) (others : List Row) (more mutex : Bool) → Gives words (from_least F K others) → HasFlags (from_least F K others) more mutex
+    → texts_asked (prog ∷ codes "plan" ∷ words) ≡ Some (plan (plan_with (from_least F K (with_both others more mutex)) F K))
 unfolding texts_asked
-given_texts prog words F K others given g h =
-    let rows = row (codes "file") F ∷ row (codes "k") K ∷ others in
-    let none = top_fault prog words ∙ ap (λ k. or_else k []) (level_right F K words others given g h) in
-    let found = top_rows prog words ∙ ap (λ r. Some (codes "plan", r)) (finished_rows words rows given g h) in
+given_texts prog words F K others more mutex g h =
+    let rows = from_least F K others in
+    let none = top_fault prog words ∙ ap (λ k. or_else k []) (level_right F K words others more mutex g h) in
+    let found = top_rows prog words ∙ ap (λ r. Some (codes "plan", r)) (finished_rows words rows more mutex g h) in
     ap₂ unless_fault none (ap texts_of found)
 
 -- Lawful words.
 
-has_flag : (given : Bool) → has_row (codes "more") (flag_rows (codes "more") given) ≡ given
-has_flag false = refl
-has_flag true = refl
+has_flag : (id : Text) (given : Bool) → bytes_eq id id ≡ true → has_row id (flag_rows id given) ≡ given
+has_flag id false e = refl
+has_flag id true e = ap (λ b. b || false) e
 
-is_set_given : (given : Bool) → is_set (first_of (codes "more") (flag_rows (codes "more") given ++ default_rows_of (codes "more") given)) ≡ given
-is_set_given false = refl
-is_set_given true = refl
-
-or_no : (b : Bool) → (b || false) ≡ b
-or_no true = refl
-or_no false = refl
+is_set_given : (id : Text) (given : Bool) → bytes_eq id id ≡ true → is_set (first_of id (flag_rows id given ++ default_rows_of id given)) ≡ given
+is_set_given id false e = ap (λ b. is_set (option_and_then (λ r. slice_get r.values 0) (cond b (Some (flag_row id (codes "false") DefaultValue)) None))) e
+is_set_given id true e = ap (λ b. is_set (option_and_then (λ r. slice_get r.values 0) (cond b (Some (flag_row id (codes "true") CommandLine)) None))) e
 
 -- The rows of the texts, without defaults: those of the options up to each.
 abbrev to_mode : PlanTexts → List Row
@@ -507,8 +550,14 @@ to_quality t = to_bound t ++ option_rows (codes "quality") t.quality
 abbrev to_after : PlanTexts → List Row
 to_after t = to_quality t ++ option_rows (codes "after") t.after
 
+abbrev to_mutex : PlanTexts → List Row
+to_mutex t = to_after t ++ flag_rows (codes "mutex") t.mutex
+
+abbrev to_default : PlanTexts → List Row
+to_default t = with_more (to_mutex t) t.more
+
 abbrev all_rows : PlanTexts → List Row
-all_rows t = to_after t ++ default_rows_of (codes "more") t.more
+all_rows t = with_both (to_mutex t) t.more t.mutex
 
 -- No row up to an option is that of a later one.
 lacks_to_mode : (id : Text) (t : PlanTexts) → has_row id (least_rows t.file t.k) ≡ false → bytes_eq (codes "mode") id ≡ false → has_row id (to_mode t) ≡ false
@@ -543,23 +592,34 @@ after_new t =
     let bound = lacks_to_bound id t (lacks_to_more id t (lacks_to_search id t (lacks_to_mode id t refl refl) refl) refl) refl in
     lacks_both id (to_bound t) _ bound (lacks_option id (codes "quality") t.quality refl)
 
-gives_all : (t : PlanTexts) → ArePlain t → Gives (((((((t.file ∷ codes "--k" ∷ t.k ∷ []) ++ option_words (codes "--mode") t.mode) ++ option_words (codes "--search") t.search) ++ flag_words (codes "--more") t.more)
-    ++ option_words (codes "--bound") t.bound) ++ option_words (codes "--quality") t.quality) ++ option_words (codes "--after") t.after) (to_after t)
+mutex_new : (t : PlanTexts) → has_row (codes "mutex") (to_after t) ≡ false
+mutex_new t =
+    let id = codes "mutex" in
+    let bound = lacks_to_bound id t (lacks_to_more id t (lacks_to_search id t (lacks_to_mode id t refl refl) refl) refl) refl in
+    lacks_both id (to_quality t) _ (lacks_both id (to_bound t) _ bound (lacks_option id (codes "quality") t.quality refl)) (lacks_option id (codes "after") t.after refl)
+
+gives_all : (t : PlanTexts) → ArePlain t → Gives ((((((((t.file ∷ codes "--k" ∷ t.k ∷ []) ++ option_words (codes "--mode") t.mode) ++ option_words (codes "--search") t.search) ++ flag_words (codes "--more") t.more)
+    ++ option_words (codes "--bound") t.bound) ++ option_words (codes "--quality") t.quality) ++ option_words (codes "--after") t.after) ++ flag_words (codes "--mutex") t.mutex) (to_mutex t)
 gives_all t p =
     let mode = may_have (codes "mode") (codes "--mode") t.mode _ (least_rows t.file t.k) mode_option p.mode refl (gives_least t.file t.k p.file p.k) in
     let search = may_have (codes "search") (codes "--search") t.search _ (to_mode t) search_option p.search (search_new t) mode in
-    let more = may_be_set t.more _ (to_search t) (more_new t) search in
+    let more = may_be_set (codes "more") (codes "--more") t.more _ (to_search t) more_flag (more_new t) search in
     let bound = may_have (codes "bound") (codes "--bound") t.bound _ (to_more t) bound_option p.bound (bound_new t) more in
     let quality = may_have (codes "quality") (codes "--quality") t.quality _ (to_bound t) quality_option p.quality (quality_new t) bound in
-    may_have (codes "after") (codes "--after") t.after _ (to_quality t) after_option p.after (after_new t) quality
+    let after = may_have (codes "after") (codes "--after") t.after _ (to_quality t) after_option p.after (after_new t) quality in
+    may_be_set (codes "mutex") (codes "--mutex") t.mutex _ (to_after t) mutex_flag (mutex_new t) after
 
 -- What the rows say of each option: what stands after its row is passed over, and what stands before it.
-past_last : (id : Text) (t : PlanTexts) → bytes_eq (codes "more") id ≡ false → bytes_eq (codes "after") id ≡ false → first_of id (all_rows t) ≡ first_of id (to_quality t)
-past_last id t m a =
-    first_earlier id (to_after t) _ (lacks_default id (codes "more") t.more m) ∙ first_earlier id (to_quality t) _ (lacks_option id (codes "after") t.after a)
+past_flags : (id : Text) (t : PlanTexts) → bytes_eq (codes "more") id ≡ false → bytes_eq (codes "mutex") id ≡ false → first_of id (all_rows t) ≡ first_of id (to_after t)
+past_flags id t m x =
+    first_earlier id (to_default t) _ (lacks_default id (codes "mutex") t.mutex x) ∙ first_earlier id (to_mutex t) _ (lacks_default id (codes "more") t.more m)
+    ∙ first_earlier id (to_after t) _ (lacks_flag id (codes "mutex") t.mutex x)
 
-past_end : (id : Text) (t : PlanTexts) → bytes_eq (codes "more") id ≡ false → bytes_eq (codes "after") id ≡ false → bytes_eq (codes "quality") id ≡ false → first_of id (all_rows t) ≡ first_of id (to_bound t)
-past_end id t m a q = past_last id t m a ∙ first_earlier id (to_bound t) _ (lacks_option id (codes "quality") t.quality q)
+past_last : (id : Text) (t : PlanTexts) → bytes_eq (codes "more") id ≡ false → bytes_eq (codes "mutex") id ≡ false → bytes_eq (codes "after") id ≡ false → first_of id (all_rows t) ≡ first_of id (to_quality t)
+past_last id t m x a = past_flags id t m x ∙ first_earlier id (to_quality t) _ (lacks_option id (codes "after") t.after a)
+
+past_end : (id : Text) (t : PlanTexts) → bytes_eq (codes "more") id ≡ false → bytes_eq (codes "mutex") id ≡ false → bytes_eq (codes "after") id ≡ false → bytes_eq (codes "quality") id ≡ false → first_of id (all_rows t) ≡ first_of id (to_bound t)
+past_end id t m x a q = past_last id t m x a ∙ first_earlier id (to_bound t) _ (lacks_option id (codes "quality") t.quality q)
 
 past_more : (id : Text) (t : PlanTexts) → bytes_eq (codes "bound") id ≡ false → bytes_eq (codes "more") id ≡ false → first_of id (to_bound t) ≡ first_of id (to_search t)
 past_more id t b m = first_earlier id (to_more t) _ (lacks_option id (codes "bound") t.bound b) ∙ first_earlier id (to_search t) _ (lacks_flag id (codes "more") t.more m)
@@ -567,39 +627,48 @@ past_more id t b m = first_earlier id (to_more t) _ (lacks_option id (codes "bou
 mode_is : (t : PlanTexts) → first_of (codes "mode") (all_rows t) ≡ t.mode
 mode_is t =
     let id = codes "mode" in
-    past_end id t refl refl refl ∙ past_more id t refl refl ∙ first_earlier id (to_mode t) _ (lacks_option id (codes "search") t.search refl)
+    past_end id t refl refl refl refl ∙ past_more id t refl refl ∙ first_earlier id (to_mode t) _ (lacks_option id (codes "search") t.search refl)
     ∙ first_later id (least_rows t.file t.k) (option_rows id t.mode) refl ∙ first_option id t.mode refl
 
 search_is : (t : PlanTexts) → first_of (codes "search") (all_rows t) ≡ t.search
 search_is t =
     let id = codes "search" in
-    past_end id t refl refl refl ∙ past_more id t refl refl ∙ first_later id (to_mode t) (option_rows id t.search) (search_new t) ∙ first_option id t.search refl
+    past_end id t refl refl refl refl ∙ past_more id t refl refl ∙ first_later id (to_mode t) (option_rows id t.search) (search_new t) ∙ first_option id t.search refl
 
 bound_is : (t : PlanTexts) → first_of (codes "bound") (all_rows t) ≡ t.bound
 bound_is t =
     let id = codes "bound" in
-    past_end id t refl refl refl ∙ first_later id (to_more t) (option_rows id t.bound) (bound_new t) ∙ first_option id t.bound refl
+    past_end id t refl refl refl refl ∙ first_later id (to_more t) (option_rows id t.bound) (bound_new t) ∙ first_option id t.bound refl
 
 quality_is : (t : PlanTexts) → first_of (codes "quality") (all_rows t) ≡ t.quality
 quality_is t =
     let id = codes "quality" in
-    past_last id t refl refl ∙ first_later id (to_bound t) (option_rows id t.quality) (quality_new t) ∙ first_option id t.quality refl
+    past_last id t refl refl refl ∙ first_later id (to_bound t) (option_rows id t.quality) (quality_new t) ∙ first_option id t.quality refl
 
 after_is : (t : PlanTexts) → first_of (codes "after") (all_rows t) ≡ t.after
 after_is t =
     let id = codes "after" in
-    first_earlier id (to_after t) _ (lacks_default id (codes "more") t.more refl) ∙ first_later id (to_quality t) (option_rows id t.after) (after_new t) ∙ first_option id t.after refl
+    past_flags id t refl refl ∙ first_later id (to_quality t) (option_rows id t.after) (after_new t) ∙ first_option id t.after refl
 
--- the option without a value: given, or by default
-given_is : (t : PlanTexts) → has_row (codes "more") (to_after t) ≡ t.more
-given_is t =
+-- the options without a value: given, or by default
+more_given : (t : PlanTexts) → has_row (codes "more") (to_mutex t) ≡ t.more
+more_given t =
     let id = codes "more" in
     let test = λ (r : Row). bytes_eq r.id id in
+    let end = list_any-append test (to_after t) _ ∙ ap (λ b. list_any test (to_after t) || b) (lacks_flag id (codes "mutex") t.mutex refl) in
     let last = list_any-append test (to_quality t) _ ∙ ap (λ b. list_any test (to_quality t) || b) (lacks_option id (codes "after") t.after refl) in
     let next = list_any-append test (to_bound t) _ ∙ ap (λ b. list_any test (to_bound t) || b) (lacks_option id (codes "quality") t.quality refl) in
     let third = list_any-append test (to_more t) _ ∙ ap (λ b. list_any test (to_more t) || b) (lacks_option id (codes "bound") t.bound refl) in
-    let flag = list_any-append test (to_search t) _ ∙ ap₂ (λ a b. a || b) (more_new t) (has_flag t.more) in
-    last ∙ or_no _ ∙ next ∙ or_no _ ∙ third ∙ or_no _ ∙ flag
+    let flag = list_any-append test (to_search t) _ ∙ ap₂ (λ a b. a || b) (more_new t) (has_flag id t.more refl) in
+    end ∙ or_no _ ∙ last ∙ or_no _ ∙ next ∙ or_no _ ∙ third ∙ or_no _ ∙ flag
+
+mutex_given : (t : PlanTexts) → has_row (codes "mutex") (to_mutex t) ≡ t.mutex
+mutex_given t =
+    let id = codes "mutex" in
+    list_any-append (λ (r : Row). bytes_eq r.id id) (to_after t) _ ∙ ap₂ (λ a b. a || b) (mutex_new t) (has_flag id t.mutex refl)
+
+flags_are : (t : PlanTexts) → HasFlags (to_mutex t) t.more t.mutex
+flags_are t = record { more = more_given t; mutex = mutex_given t }
 
 -- rows without it are passed over in the middle
 first_around : (id : Text) (xs ys zs : List Row) → has_row id ys ≡ false → first_of id ((xs ++ ys) ++ zs) ≡ first_of id (xs ++ zs)
@@ -613,14 +682,24 @@ more_is : (t : PlanTexts) → is_set (first_of (codes "more") (all_rows t)) ≡ 
 more_is t =
     let id = codes "more" in
     let default = default_rows_of id t.more in
-    let around = first_around id (to_quality t) _ default (lacks_option id (codes "after") t.after refl)
+    let around = first_earlier id (to_default t) _ (lacks_default id (codes "mutex") t.mutex refl)
+    ∙ first_around id (to_after t) _ default (lacks_flag id (codes "mutex") t.mutex refl)
+    ∙ first_around id (to_quality t) _ default (lacks_option id (codes "after") t.after refl)
     ∙ first_around id (to_bound t) _ default (lacks_option id (codes "quality") t.quality refl)
     ∙ first_around id (to_more t) _ default (lacks_option id (codes "bound") t.bound refl) in
     let flag = ap (λ r. first_of id r) (append_assoc (to_search t) (flag_rows id t.more) default) ∙ first_later id (to_search t) (flag_rows id t.more ++ default) (more_new t) in
-    ap is_set (around ∙ flag) ∙ is_set_given t.more
+    ap is_set (around ∙ flag) ∙ is_set_given id t.more refl
 
-abbrev texts_with : PlanTexts → Option Text → Option Text → Bool → Option Text → Option Text → Option Text → PlanTexts
-texts_with t mode search more bound quality after = record { file = t.file; k = t.k; mode = mode; search = search; more = more; bound = bound; quality = quality; after = after }
+mutex_is : (t : PlanTexts) → is_set (first_of (codes "mutex") (all_rows t)) ≡ t.mutex
+mutex_is t =
+    let id = codes "mutex" in
+    let default = default_rows_of id t.mutex in
+    let around = first_around id (to_mutex t) _ default (lacks_default id (codes "more") t.more refl) in
+    let flag = ap (λ r. first_of id r) (append_assoc (to_after t) (flag_rows id t.mutex) default) ∙ first_later id (to_after t) (flag_rows id t.mutex ++ default) (mutex_new t) in
+    ap is_set (around ∙ flag) ∙ is_set_given id t.mutex refl
+
+abbrev texts_with : PlanTexts → Option Text → Option Text → Bool → Option Text → Option Text → Option Text → Bool → PlanTexts
+texts_with t mode search more bound quality after mutex = record { file = t.file; k = t.k; mode = mode; search = search; more = more; bound = bound; quality = quality; after = after; mutex = mutex }
 
 texts_are : (t : PlanTexts) → plan_with (all_rows t) t.file t.k ≡ t
 texts_are t =
@@ -629,9 +708,11 @@ texts_are t =
     let bound = first_of (codes "bound") rows in
     let quality = first_of (codes "quality") rows in
     let after = first_of (codes "after") rows in
-    ap (λ x. texts_with t x (first_of (codes "search") rows) more bound quality after) (mode_is t) ∙ ap (λ x. texts_with t t.mode x more bound quality after) (search_is t)
-    ∙ ap (λ x. texts_with t t.mode t.search x bound quality after) (more_is t) ∙ ap (λ x. texts_with t t.mode t.search t.more x quality after) (bound_is t)
-    ∙ ap (λ x. texts_with t t.mode t.search t.more t.bound x after) (quality_is t) ∙ ap (λ x. texts_with t t.mode t.search t.more t.bound t.quality x) (after_is t)
+    let mutex = is_set (first_of (codes "mutex") rows) in
+    ap (λ x. texts_with t x (first_of (codes "search") rows) more bound quality after mutex) (mode_is t) ∙ ap (λ x. texts_with t t.mode x more bound quality after mutex) (search_is t)
+    ∙ ap (λ x. texts_with t t.mode t.search x bound quality after mutex) (more_is t) ∙ ap (λ x. texts_with t t.mode t.search t.more x quality after mutex) (bound_is t)
+    ∙ ap (λ x. texts_with t t.mode t.search t.more t.bound x after mutex) (quality_is t) ∙ ap (λ x. texts_with t t.mode t.search t.more t.bound t.quality x mutex) (after_is t)
+    ∙ ap (λ x. texts_with t t.mode t.search t.more t.bound t.quality t.after x) (mutex_is t)
 
 pub lawful_plan : (prog : Text) (t : PlanTexts) → ArePlain t → texts_asked (plan_words prog t) ≡ Some (plan t)
-lawful_plan prog t p = given_texts prog _ t.file t.k _ t.more (gives_all t p) (given_is t) ∙ ap (λ x. Some (plan x)) (texts_are t)
+lawful_plan prog t p = given_texts prog _ t.file t.k _ t.more t.mutex (gives_all t p) (flags_are t) ∙ ap (λ x. Some (plan x)) (texts_are t)

@@ -1,8 +1,8 @@
 //! The words of the command line, read by `clap`.
 //!
 //! `read_words` gives what the words ask for as texts: a number or a mode is still a text here, and may be no such thing.
-//! It promises that these are the texts that `clap`, by its own definitions, gives for the command `plan`, `check` or `demo`,
-//! and that the words are refused only where there are none. `lawful_words` says for each lawful form which texts those are.
+//! It promises that these are the texts that `clap`, by its own definitions, gives for the command `plan`, `check`, `demo`,
+//! `prove` or `refute`, and that the words are refused only where there are none. `lawful_words` says for each lawful form which texts those are.
 //! The first word is the program's name and isn't looked at. There is no help and no version.
 //! It stands on `clap` alone, and by itself, since each crate that calls `clap` takes long to prove.
 #![tactic(auto)]
@@ -11,13 +11,13 @@ ghost use Rattle.std.specs.Prelude.{◌≡◌, IfOk, IsErrOf, Some, None, false,
 ghost use Rattle.clap.specs.Walk.{first_of, rule_of, rows_of};
 ghost use Rattle.clap.specs.Matches.{found_of};
 ghost use Rattle.clap.specs.Simple.{subcommand_rows_of};
-ghost use Rattle.symk_words.specs.Texts.{PlanTexts, plan_texts, is_set, check_texts, demo_texts, texts_of, texts_asked, view_of, plan, check, demo};
-ghost use Rattle.symk_words.specs.Lawful.{Plain, PlainIfSome, ArePlain, plan_words, check_words, demo_words};
+ghost use Rattle.symk_words.specs.Texts.{PlanTexts, plan_texts, is_set, check_texts, demo_texts, prove_texts, refute_texts, texts_of, texts_asked, view_of, plan, check, demo, prove, refute};
+ghost use Rattle.symk_words.specs.Lawful.{Plain, PlainIfSome, ArePlain, plan_words, check_words, demo_words, prove_words, refute_words};
 ghost use Rattle.clap.specs.Walk.{Text};
 ghost use Rattle.std.specs.declared.option.Option.{Option};
 ghost use Rattle.clap.specs.Simple.{app_of};
 ghost use Rattle.clap.specs.declared.builder.command.Command.TheViews.{out-Command};
-ghost use Rattle.symk_words.specs.App.{symk_app, found_app, plan_app, check_app, demo_app, place as place_rule, wanted as wanted_rule, wished as wished_rule, flag as flag_rule};
+ghost use Rattle.symk_words.specs.App.{symk_app, found_app, reach_app, plan_app, check_app, demo_app, prove_app, refute_app, place as place_rule, wanted as wanted_rule, wished as wished_rule, flag as flag_rule};
 
 use clap::error::ErrorKind;
 use clap::{Arg, ArgAction, ArgMatches, Command};
@@ -67,16 +67,25 @@ fn found_command<'a>(alloc: Global) -> Result<Command<'a>, AllocError>
     command.arg(wished(alloc, "search"))
 }
 
-// And with what says how far the list goes, and from where on.
-fn plan_command<'a>(alloc: Global) -> Result<Command<'a>, AllocError>
-    ensures app { IfOk result (λ c. app_of c ≡ plan_app) }
+// And with what says how far the list goes.
+fn reach_command<'a>(alloc: Global) -> Result<Command<'a>, AllocError>
+    ensures app { IfOk result (λ c. app_of c ≡ reach_app) }
     ensures local { IfOk result (λ c. (out-Command c).has_globals ≡ false) }
 {
     let command = found_command(alloc)?;
     let command = command.arg(flag(alloc, "more"))?;
     let command = command.arg(wished(alloc, "bound"))?;
-    let command = command.arg(wished(alloc, "quality"))?;
-    command.arg(wished(alloc, "after"))
+    command.arg(wished(alloc, "quality"))
+}
+
+// And with what says from where on, and whether groups may cut the search.
+fn plan_command<'a>(alloc: Global) -> Result<Command<'a>, AllocError>
+    ensures app { IfOk result (λ c. app_of c ≡ plan_app) }
+    ensures local { IfOk result (λ c. (out-Command c).has_globals ≡ false) }
+{
+    let command = reach_command(alloc)?;
+    let command = command.arg(wished(alloc, "after"))?;
+    command.arg(flag(alloc, "mutex"))
 }
 
 fn check_command<'a>(alloc: Global) -> Result<Command<'a>, AllocError>
@@ -96,6 +105,22 @@ fn demo_command<'a>(alloc: Global) -> Result<Command<'a>, AllocError>
     Command::new(alloc, "demo").arg(place(alloc, "n"))
 }
 
+fn prove_command<'a>(alloc: Global) -> Result<Command<'a>, AllocError>
+    ensures app { IfOk result (λ c. app_of c ≡ prove_app) }
+    ensures local { IfOk result (λ c. (out-Command c).has_globals ≡ false) }
+{
+    Command::new(alloc, "prove").arg(place(alloc, "file"))
+}
+
+fn refute_command<'a>(alloc: Global) -> Result<Command<'a>, AllocError>
+    ensures app { IfOk result (λ c. app_of c ≡ refute_app) }
+    ensures local { IfOk result (λ c. (out-Command c).has_globals ≡ false) }
+{
+    let command = Command::new(alloc, "refute");
+    let command = command.arg(place(alloc, "file"))?;
+    command.arg(place(alloc, "cert"))
+}
+
 // The command of the program.
 fn symk_command<'a>(alloc: Global) -> Result<Command<'a>, AllocError>
     ensures { IfOk result (λ c. app_of c ≡ symk_app) }
@@ -106,13 +131,15 @@ fn symk_command<'a>(alloc: Global) -> Result<Command<'a>, AllocError>
         .disable_help_subcommand(true);
     let command = command.subcommand(plan_command(alloc)?)?;
     let command = command.subcommand(check_command(alloc)?)?;
-    command.subcommand(demo_command(alloc)?)
+    let command = command.subcommand(demo_command(alloc)?)?;
+    let command = command.subcommand(prove_command(alloc)?)?;
+    command.subcommand(refute_command(alloc)?)
 }
 
 /// What the words ask for. Each text is a part of a word, as it stands there: it may be empty, and no number or name.
 #[derive(Clone, Copy, Debug, PartialEq, Eq)]
 pub enum Asked<'a> {
-    /// `plan FILE --k K [--mode M] [--search S] [--more] [--bound Q] [--quality P] [--after PLANS]`.
+    /// `plan FILE --k K [--mode M] [--search S] [--more] [--bound Q] [--quality P] [--after PLANS] [--mutex]`.
     Plan {
         /// The name of the task file.
         file: &'a str,
@@ -130,6 +157,8 @@ pub enum Asked<'a> {
         quality: Option<&'a str>,
         /// The name of the file with the list to go on from, if one is named.
         after: Option<&'a str>,
+        /// Whether stated mutex groups are to cut the search.
+        mutex: bool,
     },
     /// `check FILE PLANS [--mode M]`.
     Check {
@@ -144,6 +173,18 @@ pub enum Asked<'a> {
     Demo {
         /// How many switches there are to be.
         n: &'a str,
+    },
+    /// `prove FILE`.
+    Prove {
+        /// The name of the task file.
+        file: &'a str,
+    },
+    /// `refute FILE CERT`.
+    Refute {
+        /// The name of the task file.
+        file: &'a str,
+        /// The name of the file with the certificate.
+        cert: &'a str,
     },
 }
 
@@ -183,6 +224,7 @@ fn plan_of<'a>(matches: &ArgMatches<'a>) -> Option<Asked<'a>>
         bound: matches.get_str("bound"),
         quality: matches.get_str("quality"),
         after: matches.get_str("after"),
+        mutex: is_given(matches, "mutex"),
     })
 }
 
@@ -209,6 +251,25 @@ fn demo_of<'a>(matches: &ArgMatches<'a>) -> Option<Asked<'a>>
     Some(Asked::Demo { n })
 }
 
+// The text of a `prove`.
+#[tactic(auto, using(crate::proofs::Getters::read_first))]
+fn prove_of<'a>(matches: &ArgMatches<'a>) -> Option<Asked<'a>>
+    ensures { option_map view_of result ≡ prove_texts (rows_of (found_of matches.now)) }
+{
+    let file = matches.get_str("file")?;
+    Some(Asked::Prove { file })
+}
+
+// The texts of a `refute`.
+#[tactic(auto, using(crate::proofs::Getters::read_first))]
+fn refute_of<'a>(matches: &ArgMatches<'a>) -> Option<Asked<'a>>
+    ensures { option_map view_of result ≡ refute_texts (rows_of (found_of matches.now)) }
+{
+    let file = matches.get_str("file")?;
+    let cert = matches.get_str("cert")?;
+    Some(Asked::Refute { file, cert })
+}
+
 // The texts of whichever subcommand was given.
 fn asked_of<'a>(matches: &ArgMatches<'a>) -> Option<Asked<'a>>
     ensures { option_map view_of result ≡ texts_of (subcommand_rows_of matches.now) }
@@ -218,6 +279,8 @@ fn asked_of<'a>(matches: &ArgMatches<'a>) -> Option<Asked<'a>>
         "plan" => plan_of(inner),
         "check" => check_of(inner),
         "demo" => demo_of(inner),
+        "prove" => prove_of(inner),
+        "refute" => refute_of(inner),
         _ => None,
     }
 }
@@ -254,8 +317,11 @@ pub fn read_words<'a>(alloc: Global, words: &'a [String]) -> Result<Asked<'a>, W
 /// No text of theirs is empty or begins with `-`.
 pub fn lawful_words()
     ensures plan { (prog : Text) (t : PlanTexts) → ArePlain t → texts_asked (plan_words prog t) ≡ Some (plan t) }
-    ensures check { (prog F P : Text) (mode : Option Text) → Plain F → Plain P → PlainIfSome mode → texts_asked (check_words prog F P mode) ≡ Some (check F P mode) }
+    ensures check { (prog F P : Text) (mode : Option Text) → Plain F → Plain P → PlainIfSome mode
+        → texts_asked (check_words prog F P mode) ≡ Some (check F P mode) }
     ensures demo { (prog N : Text) → Plain N → texts_asked (demo_words prog N) ≡ Some (demo N) }
+    ensures prove { (prog F : Text) → Plain F → texts_asked (prove_words prog F) ≡ Some (prove F) }
+    ensures refute { (prog F C : Text) → Plain F → Plain C → texts_asked (refute_words prog F C) ≡ Some (refute F C) }
 {}
 
 #[cfg(test)]

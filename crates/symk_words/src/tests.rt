@@ -23,6 +23,7 @@ fn takes_each_form(rt: HostRuntime) {
         bound: None,
         quality: None,
         after: None,
+        mutex: false,
     };
     let further = Asked::Plan {
         file: "A",
@@ -33,6 +34,7 @@ fn takes_each_form(rt: HostRuntime) {
         bound: Some("7"),
         quality: Some(""),
         after: Some("B"),
+        mutex: true,
     };
     for (line, want) in [
         ("plan A --k 3", plan(None, None)),
@@ -41,11 +43,11 @@ fn takes_each_form(rt: HostRuntime) {
         ("plan A --k 3 --mode loopless", plan(Some("loopless"), None)),
         ("plan A --k 3 --search no", plan(None, Some("no"))),
         (
-            "plan A --k 3 --search auto --more --bound 7 --quality= --after B",
+            "plan A --k 3 --search auto --more --bound 7 --quality= --after B --mutex",
             further,
         ),
         (
-            "plan --quality= --after=B --more --k 3 A --bound 7 --search auto",
+            "plan --mutex --quality= --after=B --more --k 3 A --bound 7 --search auto",
             further,
         ),
         (
@@ -66,6 +68,14 @@ fn takes_each_form(rt: HostRuntime) {
         ("check A B --mode topk", check(Some("topk"))),
         ("check --mode=topk A B", check(Some("topk"))),
         ("demo 12", Asked::Demo { n: "12" }),
+        ("prove A", Asked::Prove { file: "A" }),
+        (
+            "refute A B",
+            Asked::Refute {
+                file: "A",
+                cert: "B",
+            },
+        ),
     ] {
         let words = words(rt.alloc(), line).expect(&rt, "memory");
         assert!(rt; read_words(rt.alloc(), &words) == Ok(want), "{line}");
@@ -88,6 +98,8 @@ fn refuses_all_else(rt: HostRuntime) {
         "plan A --k 3 --more 1",
         "plan A --k 3 --more=true",
         "plan A --k 3 --more --more",
+        "plan A --k 3 --mutex 1",
+        "plan A --k 3 --mutex --mutex",
         "plan A --k 3 --depth 2",
         "check",
         "check A",
@@ -98,6 +110,12 @@ fn refuses_all_else(rt: HostRuntime) {
         "demo",
         "demo 1 2",
         "demo 1 --k 3",
+        "prove",
+        "prove A B",
+        "prove A --mutex",
+        "refute A",
+        "refute A B C",
+        "refute A B --mode topk",
         "foo",
         "help",
         "help plan",

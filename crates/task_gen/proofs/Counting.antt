@@ -1,14 +1,11 @@
 -- Lists that have a member for each number below a bound.
-use Rattle.std.proofs.Common.{◌≡◌, ℕ, zero, suc, ◌+◌, ◌<◌, ◌≤◌, ◌⊎◌, inl, inr, List, [], ◌∷◌, ◌++◌, length, get_or, refl, sym, ap, ◌∙◌, subst, arith, add-one, zero-add, ◌*◌}
+use Rattle.std.proofs.Common.{◌≡◌, ℕ, zero, suc, ◌+◌, ◌<◌, ◌≤◌, ◌⊎◌, inl, inr, [], ◌∷◌, ◌++◌, length, get_or, refl, sym, ap, ◌∙◌, subst, arith, add-one, zero-add, ◌*◌}
 use Rattle.std.specs.Prelude.{All, sum_by}
 use Rattle.std.proofs.lemmas.Bool.{cases_lt}
 use Rattle.std.proofs.lemmas.List.{get_or_append_left, get_or_push, length_push}
 use Rattle.std.proofs.lemmas.List.Elements.{All-nil, All-push}
 use Rattle.std.proofs.lemmas.List.Sums.{sum_by-append}
 use Rattle.task_gen.specs.Switches.{up_to}
-
-pub up_to_more : {X : Type 0} (f : ℕ → X) (n : ℕ) → up_to f (n + 1) ≡ up_to f n ++ f n ∷ []
-up_to_more f n = ap (λ k. up_to f k) (add-one n)
 
 pub length_up_to : {X : Type 0} (f : ℕ → X) (n : ℕ) → length (up_to f n) ≡ n
 length_up_to f zero = refl

@@ -20,7 +20,8 @@ pub struct Counting {
 fn counting_layer(parts: &TaskParts, rule: &Rule) -> Option<u32>
     requires initial { length parts.now.initial ≡ length parts.now.variables }
     requires rule { FitsRule parts.now rule.now }
-    ensures { MatchOption result (rule.now.new ≡ slice_index parts.now.initial rule.now.var) (λ layer. IsOwn parts.now layer rule.now) }
+    ensures { MatchOption result (rule.now.new ≡ slice_index parts.now.initial rule.now.var)
+        (λ layer. IsOwn parts.now layer rule.now) }
 {
     let var = rule.var as usize;
     if rule.new == parts.initial.as_slice()[var] {

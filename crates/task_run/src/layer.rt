@@ -24,8 +24,10 @@ fn next_raising(
     requires passed { Passed parts.now layer values.now work.old.places.items }
     ensures kept { OnOk result (Kept parts.now work.new.stack.items work.new.waiting.items) }
     ensures passed { OnOk result (Passed parts.now layer values.now work.new.places.items) }
-    ensures none { IfOk result (λ x. MatchOption x (IsStuck parts.now layer values.now) (λ x. AllBut x parts.now layer values.now work.new.stack.items work.new.waiting.items)) }
-    ensures raises { IfOk result (λ x. IfSome x (λ x. (x < length parts.now.rules) × IfSome (slice_get parts.now.rules x) (Raises parts.now layer values.now))) }
+    ensures none { IfOk result (λ x. MatchOption x (IsStuck parts.now layer values.now)
+        (λ x. AllBut x parts.now layer values.now work.new.stack.items work.new.waiting.items)) }
+    ensures raises { IfOk result (λ x. IfSome x (λ x. (x < length parts.now.rules)
+        × IfSome (slice_get parts.now.rules x) (Raises parts.now layer values.now))) }
 {
     let rules = parts.rules.as_slice();
     'looking: while let Some(number) = work.stack.pop() {

@@ -19,7 +19,8 @@ pub(crate) enum Look {
 /// The place of the first fact from a place on that does not have its value.
 fn unmet(facts: &[Fact], from: usize, values: &[u32]) -> Option<usize>
     requires { AreBelow (length values.now) facts.now }
-    ensures { MatchOption result (HaveBetween values.now facts.now from (length facts.now)) (FirstUnmet values.now facts.now from) }
+    ensures { MatchOption result (HaveBetween values.now facts.now from (length facts.now))
+        (FirstUnmet values.now facts.now from) }
 {
     for i in from..facts.len() {
         if values[facts[i].var as usize] != facts[i].val {

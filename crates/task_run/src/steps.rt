@@ -138,7 +138,8 @@ pub fn step(
 ) -> Result<Option<State>, Memory>
     requires operator { operator < length task.now.operators }
     requires state { IsState task.now state.now }
-    ensures step { IfOk result (λ next. MatchOption next (¬ Applies task.now state.now operator) (Step task.now state.now operator)) }
+    ensures step { IfOk result (λ next. MatchOption next (¬ Applies task.now state.now operator)
+        (Step task.now state.now operator)) }
     ensures state { IfOk result (λ next. IfSome next (IsState task.now)) }
 {
     let values = closed(alloc, task, state)?;

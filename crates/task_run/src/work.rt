@@ -36,7 +36,8 @@ impl Work {
     pub fn wait(&mut self, rule: u32, place: usize, var: u32) -> Result<(), Memory>
         requires rule { rule < length self.old.places.items }
         requires var { var < length self.old.waiting.items }
-        ensures waiting { OnOk result (self.new.waiting.items ≡ slice_set self.old.waiting.items var (waiting_at self.old.waiting.items var ++ rule ∷ [])) }
+        ensures waiting { OnOk result (self.new.waiting.items ≡ slice_set self.old.waiting.items var
+            (waiting_at self.old.waiting.items var ++ rule ∷ [])) }
         ensures stack { self.new.stack.items ≡ self.old.stack.items }
         ensures places { self.new.places.items ≡ slice_set self.old.places.items rule place }
     {
@@ -48,7 +49,8 @@ impl Work {
     pub fn wake(&mut self, alloc: Global, var: u32) -> Result<(), Memory>
         requires { var < length self.old.waiting.items }
         ensures waiting { OnOk result (self.new.waiting.items ≡ slice_set self.old.waiting.items var []) }
-        ensures stack { OnOk result (self.new.stack.items ≡ self.old.stack.items ++ waiting_at self.old.waiting.items var) }
+        ensures stack { OnOk result (self.new.stack.items ≡ self.old.stack.items ++ waiting_at
+            self.old.waiting.items var) }
         ensures places { self.new.places.items ≡ self.old.places.items }
     {
         let none = List::of(Vec::new(alloc));
@@ -66,8 +68,10 @@ impl Work {
     ) -> Result<usize, Memory>
         requires { from ≤ length rules.now }
         ensures layer { IfOk result (λ end. IsLayer rules.now layer from end) }
-        ensures stacked { IfOk result (λ end. (k : ℕ) (d : Counting) → from ≤ k → k < end → Stands self.new.stack.items (slice_index_or rules.now k d).rule) }
-        ensures only { IfOk result (λ end. (x : ℕ) → Stands self.new.stack.items x → Stands self.old.stack.items x ⊎ Any (λ counting. counting.rule ≡ x) rules.now) }
+        ensures stacked { IfOk result (λ end. (k : ℕ) (d : Counting) → from ≤ k → k < end
+            → Stands self.new.stack.items (slice_index_or rules.now k d).rule) }
+        ensures only { IfOk result (λ end. (x : ℕ) → Stands self.new.stack.items x
+            → Stands self.old.stack.items x ⊎ Any (λ counting. counting.rule ≡ x) rules.now) }
         ensures waiting { self.new.waiting.items ≡ self.old.waiting.items }
         ensures places { self.new.places.items ≡ self.old.places.items }
     {

@@ -21,7 +21,8 @@ pub fn what_a_task_says_is_one()
         After task s a t → After task s a u → t ≡ u }
     ensures end { (task : TaskParts) (p : List ℕ) (s t u : State) → Fits task → IsState task s →
         meaning.Runs task s p t → meaning.Runs task s p u → t ≡ u }
-    ensures trace { (task : TaskParts) (p : List ℕ) (s : State) (passed other : List State) → Fits task → IsState task s →
+    ensures trace { (task : TaskParts) (p : List ℕ) (s : State) (passed other : List State) → Fits task
+        → IsState task s →
         Trace task s p passed → Trace task s p other → passed ≡ other }
 {}
 

@@ -1,14 +1,11 @@
 -- Relations joined by halves, from two halves.
-use Rattle.std.proofs.Common.{◌≡◌, ◌∙◌, ℕ, zero, suc, ◌<◌, inl, inr, Bool, true, false, List, [], ◌∷◌, ◌++◌, length, get_or, refl, sym, subst, arith}
+use Rattle.std.proofs.Common.{◌≡◌, ℕ, zero, suc, ◌<◌, inl, inr, Bool, true, false, List, [], ◌∷◌, ◌++◌, length, get_or, refl, sym, subst, arith}
 use Rattle.std.specs.List.{All}
 use Rattle.std.proofs.lemmas.List.Elements.{All-append}
 use Rattle.bdd_table.specs.declared.node.Node.{Node}
-use Rattle.bdd_table.specs.Diagram.{Bits, means, IsReduced, Keeps}
-use Rattle.bdd_table.proofs.Canonical.{canonical}
+use Rattle.bdd_table.specs.Diagram.{IsReduced, Keeps}
 use Rattle.var_order.specs.Layout.{Layout}
-use Rattle.var_order.specs.Codes.{IsCode}
 use Rattle.transitions.specs.declared.relations.Relation.{Relation}
-use Rattle.transitions.specs.Levels.{stepped}
 use Rattle.trans_merge.specs.Merging.{IsRelation, IsJoined, IsHalved, AreHalves, StayApart, Combines}
 use Rattle.trans_merge.specs.Merging.IsHalved.{nothing, single, joins, apart}
 use Rattle.axiom_layers.proofs.RootValues.{keeps_itself}
@@ -21,17 +18,6 @@ same_truth false true f g = g refl
 same_truth false false f g = refl
 
 module _ (o : Layout) where
-  within_joined : (nodes : List Node) (a b r q : Relation) → IsJoined o nodes a b nodes r → IsJoined o nodes a b nodes q → (c : Bits) → means nodes r.root c ≡ true → means nodes q.root c ≡ true
-  within_joined nodes a b r q x y c h =
-      let (s, t, ss, st, code, next, steps) = (x.relation.steps c).0 h in
-      let places = x.touched ∙ sym y.touched in
-      (y.relation.steps c).1 (s, t, ss, st, code, subst (λ (ps : List ℕ). IsCode o 0 t (stepped ps c)) places next, (y.leads s t ss st).1 ((x.leads s t ss st).0 steps))
-
-  -- two relations are joined to one diagram, whichever Ids led to it: so it is this one whose nodes the bound is about
-  pub joined_once : (nodes : List Node) (a b r q : Relation) → IsReduced nodes → IsJoined o nodes a b nodes r → IsJoined o nodes a b nodes q → r.root ≡ q.root
-  joined_once nodes a b r q reduced x y =
-      canonical nodes reduced r.root q.root x.relation.known y.relation.known (λ c. same_truth (means nodes r.root c) (means nodes q.root c) (within_joined nodes a b r q x y c) (within_joined nodes a b q r y x c))
-
   -- a joined relation stays joined as the table grows
   joined_kept : (old mid new : List Node) (a b r : Relation) → Keeps old new → Keeps mid new → a.root < length old → b.root < length old → IsJoined o old a b mid r → IsJoined o new a b new r
   joined_kept old mid new a b r k l known_a known_b is = record {

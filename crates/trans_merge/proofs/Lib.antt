@@ -6,5 +6,4 @@ pub mod Joined
 pub mod Visiting
 pub mod Merged
 pub mod Found
-pub mod Unions
 pub mod Halved

@@ -48,11 +48,6 @@ abbrev first_or : Relation → List Relation → Relation
 first_or d [] = d
 first_or d (x ∷ xs) = x
 
--- what all have, one has
-pub part_holds : (P : Relation → Type 0) (done rest : List Relation) (x : Relation) → All P (done ++ x ∷ rest) → P x
-part_holds P [] rest x h = h 0 x (omega arith)
-part_holds P (y ∷ done) rest x h = part_holds P done rest x (λ i d lt. h (suc i) d (omega (arith, lt)))
-
 -- and those before it
 pub front_holds : (P : Relation → Type 0) (done rest : List Relation) → All P (done ++ rest) → All P done
 front_holds P [] rest h i d lt = absurd (omega (arith, lt))

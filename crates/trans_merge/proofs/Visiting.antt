@@ -215,16 +215,6 @@ differ_at k q ne = elim (order k q) [
 abbrev pub in_keys : List ℕ → ℕ → Bool
 in_keys keys q = list_any (is_at (nat_cmp q)) keys
 
-pub put_law : (id q : ℕ) (old new : Bool) → 2 ≤ id → new ≡ cond (is_eq (nat_cmp id q)) true old → (new ≡ true) ↔ (((q ≡ id) × (2 ≤ id)) ⊎ (old ≡ true))
-put_law id q old new two is = elim (cases_eq id q) [
-  | inl e ↦ (
-      let all : new ≡ true = is ∙ ap (λ (t : Bool). cond t true old) (ap (λ (x : ℕ). is_eq (nat_cmp id x)) (sym e) ∙ same_at id) in
-      ((λ h. inl (sym e, two)), (λ h. all)))
-  | inr ne ↦ (
-      let rest : new ≡ old = is ∙ ap (λ (t : Bool). cond t true old) (differ_at id q ne) in
-      ((λ h. inr (sym rest ∙ h)), (λ h. elim h [ inl x ↦ absurd (ne (sym x.0)) | inr o ↦ rest ∙ o ])))
-]
-
 pub put_none : (id q : ℕ) (old : Bool) → id < 2 → (old ≡ true) ↔ (((q ≡ id) × (2 ≤ id)) ⊎ (old ≡ true))
 put_none id q old low = ((λ h. inr h), (λ h. elim h [ inl x ↦ (let two = x.1 in absurd (omega (arith, two, low))) | inr o ↦ o ]))
 

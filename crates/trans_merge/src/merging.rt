@@ -23,7 +23,8 @@ fn join_both(
 ) -> Result<Option<Relation>, TableFault>
     requires left { All (IsRelation order.now ops.old) left.now }
     requires right { All (IsRelation order.now ops.old) right.now }
-    ensures joined { IfOk result (λ found. IfSome found (JoinsBoth order.now ops.old left.now right.now bound ops.new)) }
+    ensures joined { IfOk result (λ found. IfSome found (JoinsBoth order.now ops.old left.now right.now bound
+        ops.new)) }
     ensures apart { IfOk result (λ found. IfNone found (StayApart order.now ops.old left.now right.now bound ops.new)) }
     ensures kept { Keeps ops.old ops.new }
     ensures reduced { IsReduced ops.new }
@@ -58,7 +59,8 @@ fn combine(
 ) -> Result<Vec<Relation>, TableFault>
     requires left { All (IsRelation order.now ops.old) left.items }
     requires right { All (IsRelation order.now ops.old) right.items }
-    ensures combined { IfOk result (λ results. Combines order.now ops.old left.items right.items bound ops.new results.items) }
+    ensures combined { IfOk result (λ results. Combines order.now ops.old left.items right.items bound ops.new
+        results.items) }
     ensures kept { Keeps ops.old ops.new }
     ensures reduced { IsReduced ops.new }
 {

@@ -78,10 +78,3 @@ set_by o op F G H l none sf sg is b = (to, back)
         let f = same_truth (F b) (F c) (set_turns o F b c l sf other) (set_turns o F c b l sf agree) in
         let g = same_truth (G b) (G c) (set_turns o G b c l sg other) (set_turns o G c b l sg agree) in
         is b ∙ ap (λ (t : Bool). op t (G b)) f ∙ ap (op (F c)) g ∙ sym (is c) ∙ h
-
--- the set of one state
-pub set_of_one : (o : Layout) (s : List ℕ) (F : Bits → Bool) → IsStateOf o s → ((b : Bits) → (F b ≡ true) ↔ IsCode o 0 s b) → IsSet o F
-set_of_one o s F state is b = (
-  (λ h. (let code = (is b).0 h in (s, state, code, (b, code, h)))),
-  (λ (t, st, code, (c, same, h)). (is b).1 (subst (λ (u : List ℕ). IsCode o 0 u b) (one_state o 0 t s c same ((is c).0 h)) code)),
-)

@@ -35,7 +35,8 @@ fn steps_of(
     requires roots { AreRoots task.now order.now ops.old derived.now }
     requires operator { FitsOperator task.now.variables operator.now }
     ensures known { IfOk result (λ id. id < length ops.new) }
-    ensures meaning { IfOk result (λ id. (b : Bits) → (means ops.new id b ≡ true) ↔ IsStepBy task.now order.now operator.now b) }
+    ensures meaning { IfOk result (λ id. (b : Bits) → (means ops.new id b ≡ true) ↔ IsStepBy task.now
+        order.now operator.now b) }
     ensures kept { Keeps ops.old ops.new }
     ensures reduced { IsReduced ops.new }
 {
@@ -63,7 +64,8 @@ pub fn relation(
     ensures known { IfOk result (λ r. r.root < length ops.new) }
     ensures ready { IfOk result IsReady }
     ensures touched { IfOk result (λ r. r.touched.items ≡ touched_places order.now (effects_of task.now op)) }
-    ensures relates { IfOk result (λ r. Relates order.now r.touched.items (λ s t. Step task.now s op t) (means ops.new r.root)) }
+    ensures relates { IfOk result (λ r. Relates order.now r.touched.items (λ s t. Step task.now s op t)
+        (means ops.new r.root)) }
     ensures kept { Keeps ops.old ops.new }
     ensures reduced { IsReduced ops.new }
 {

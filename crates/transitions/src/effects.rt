@@ -21,7 +21,8 @@ use var_order::Order;
 pub fn same_bit(ops: &mut Ops, place: u32) -> Result<Id, TableFault>
     requires { place < 2147483647 }
     ensures known { IfOk result (λ id. id < length ops.new) }
-    ensures meaning { IfOk result (λ id. (b : Bits) → means ops.new id b ≡ agree (b (level_at 0 place)) (b (level_at 1 place))) }
+    ensures meaning { IfOk result (λ id. (b : Bits) → means ops.new id b ≡ agree (b (level_at 0 place))
+        (b (level_at 1 place))) }
     ensures kept { Keeps ops.old ops.new }
     ensures reduced { IsReduced ops.new }
 {
@@ -37,7 +38,8 @@ pub fn same_bit(ops: &mut Ops, place: u32) -> Result<Id, TableFault>
 fn stays(ops: &mut Ops, place: u32, width: u32) -> Result<Id, TableFault>
     requires { 0 < width → place + width < 2147483648 }
     ensures known { IfOk result (λ id. id < length ops.new) }
-    ensures meaning { IfOk result (λ id. (b : Bits) → means ops.new id b ≡ (number b 1 place width == number b 0 place width)) }
+    ensures meaning { IfOk result (λ id. (b : Bits) → means ops.new id b ≡ (number b 1 place width == number b
+        0 place width)) }
     ensures kept { Keeps ops.old ops.new }
     ensures reduced { IsReduced ops.new }
 {

@@ -3,10 +3,9 @@ use Rattle.std.proofs.Common.{◌≡◌, ℕ, ◌+◌, ◌<◌, ◌≤◌, ◌�
 use Rattle.std.specs.List.{count_by, sum_by}
 use Rattle.std.specs.Option.{is_none}
 use Rattle.std.proofs.lemmas.Bool.{cases_lt}
-use Rattle.std.proofs.lemmas.List.{get_or_append_left, get_or_push, length_push, length-take-le, length-replicate, take_all}
-use Rattle.std.proofs.lemmas.List.Sums.{sum_by_more, sum_by_more_le, count_by-le-length}
+use Rattle.std.proofs.lemmas.List.{get_or_append_left, get_or_push, length_push, length-replicate, take_all}
+use Rattle.std.proofs.lemmas.List.Sums.{sum_by_more}
 use Rattle.std.proofs.lemmas.Option.{slice_get_within, slice_get-get_or, slice_get_cases, same_Some}
-use Rattle.symk_task.specs.declared.bits.TheConstants.{STATE_BITS}
 use Rattle.symk_task.specs.declared.parts.Variable.{Variable}
 use Rattle.symk_task.specs.declared.parts.TaskParts.{TaskParts}
 use Rattle.symk_task.specs.Variables.{is_base, range, width, place, IsState}
@@ -24,24 +23,6 @@ pub record Lays (variables : List Variable) (i : ℕ) (o : Layout) : Type 0 wher
   pub blocks : length o.blocks ≡ count_by is_base (take i variables)
   pub bits : bits o ≡ sum_by bits_of (take i variables)
   pub each : (var : ℕ) → var < i → IfSome (slice_get variables var) (IsLaid o var (count_by is_base (take var variables)))
-
-pub lays_none : (variables : List Variable) → Lays variables 0 (record { slots = []; blocks = []; owners = [] })
-lays_none variables = record { within = omega arith; slots = refl; blocks = refl; bits = refl; each = λ var lt. absurd (omega (arith, lt)) }
-
--- there are fewer blocks than variables, and the bits of the next variable fit
-pub room_for_block : (variables : List Variable) (i : ℕ) (o : Layout) → Lays variables i o → i < length variables → length variables ≤ 65536 → length o.blocks < 65536
-room_for_block variables i o lays lt most =
-    let e = lays.blocks in
-    let few = count_by-le-length is_base (take i variables) in
-    let long = length-take-le i variables (omega (arith, lt)) in
-    omega (arith, e, few, long, lt, most)
-
-pub room_for_bits : (variables : List Variable) (i : ℕ) (o : Layout) (v : Variable) → Lays variables i o → i < length variables → v ≡ get_or variables i v → sum_by bits_of variables ≤ STATE_BITS → bits o + bits_of v ≤ STATE_BITS
-room_for_bits variables i o v lays lt is most =
-    let e = lays.bits in
-    let few = sum_by_more_le bits_of variables i v lt in
-    let f : bits_of v ≡ bits_of (get_or variables i v) = ap bits_of is in
-    omega (arith, e, few, f, most)
 
 none_true : (x : Option ℕ) → x ≡ None → is_none x ≡ true
 none_true None e = refl

@@ -52,7 +52,8 @@ impl Queue {
     pub fn replace(&mut self, others: Vec<Entry>)
         requires some { 0 < length (entries_of self.old) }
         requires room { HasRoom self.old (length others.items) }
-        ensures { (e : Entry) → e ≡ slice_index_or (entries_of self.old) 0 e → IsPermutation (entries_of self.old ++ others.items) (e ∷ entries_of self.new) }
+        ensures { (e : Entry) → e ≡ slice_index_or (entries_of self.old) 0 e
+            → IsPermutation (entries_of self.old ++ others.items) (e ∷ entries_of self.new) }
     {
         let mut others = BinaryHeap::from(others);
         if let Some(_) = self.heap.pop() {

@@ -103,5 +103,6 @@ impl<I: LazyPlans> LazyPlans for After<I> {
     ghost fair = { λ x ok. fair_unlisted (I.system x.inner) x.mode (I.mode x.inner) (I.most x.inner) x.keys
         (I.pends x.inner) ok.same_mode ok.keyed (I.fair x.inner ok.lawful) };
 
-    ghost told = { λ x ok p. told_unlisted x.mode x.keys (I.pends x.inner) (I.tells x.inner) p (I.told x.inner ok.lawful p) };
+    ghost told = { λ x ok p. told_unlisted x.mode x.keys (I.pends x.inner) (I.tells x.inner) p
+        (I.told x.inner ok.lawful p) };
 }

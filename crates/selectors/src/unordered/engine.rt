@@ -97,5 +97,6 @@ impl<I: LazyPlans> LazyPlans for Unordered<I> {
     ghost fair = { λ x ok. fair_owes (I.system x.inner) (I.mode x.inner) (I.most x.inner) x.seen x.held
         (I.pends x.inner) ok.topk ok.keyed ok.holds.plan (I.fair x.inner ok.lawful) };
 
-    ghost told = { λ x ok p. told_owes (I.pends x.inner) (I.tells x.inner) x.seen x.held p (I.told x.inner ok.lawful p) };
+    ghost told = { λ x ok p. told_owes (I.pends x.inner) (I.tells x.inner) x.seen x.held p
+        (I.told x.inner ok.lawful p) };
 }

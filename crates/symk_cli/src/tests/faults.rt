@@ -1,5 +1,6 @@
 //! Each call of the files and of the sink fails once.
 
+use super::certs::OFF;
 use super::files::*;
 use super::{World, answer};
 use crate::Status;
@@ -62,6 +63,11 @@ fn stops_at_each_call_of_the_files(rt: HostRuntime) -> Result<(), Fail> {
         ("plan FILE --k 3", 2, b"file unreadable\n".as_slice()),
         ("check FILE PLANS", 4, b"plans unreadable\n".as_slice()),
         ("check FILE PLANS", 5, b"plans unreadable\n".as_slice()),
+        ("prove FILE", 1, b"file unreadable\n".as_slice()),
+        ("prove FILE", 2, b"file unreadable\n".as_slice()),
+        ("refute FILE CERT", 2, b"file unreadable\n".as_slice()),
+        ("refute FILE CERT", 4, b"cert unreadable\n".as_slice()),
+        ("refute FILE CERT", 5, b"cert unreadable\n".as_slice()),
     ];
     for (words, call, text) in rows {
         let failing = [call];
@@ -70,6 +76,30 @@ fn stops_at_each_call_of_the_files(rt: HostRuntime) -> Result<(), Fail> {
         let given = answer(rt.alloc(), &world, words)?;
         assert!(&rt; given.status == Status::Unreadable, "{words}: call {call}");
         assert!(&rt; given.bytes.as_slice() == text, "{words}: call {call}");
+    }
+    Ok(())
+}
+
+// What is asked of the task without an operator, the sink's call that fails, and how many bytes were taken before it.
+const TAKEN_OF_ONE: [(&str, u64, usize); 5] = [
+    ("prove FILE", 1, 0),
+    ("prove FILE", 2, 44),
+    ("refute FILE CERT", 1, 0),
+    ("refute FILE CERT", 2, 8),
+    ("refute OTHER CERT", 2, 16),
+];
+
+#[test]
+fn stops_at_each_call_for_a_certificate(rt: HostRuntime) -> Result<(), Fail> {
+    for (words, call, length) in TAKEN_OF_ONE {
+        let failing = [call];
+        let mut world = World::of(NO_OPERATOR, OFF);
+        world.failing_sink = &failing;
+        let given = answer(rt.alloc(), &world, words)?;
+        assert!(&rt;
+            given.status == Status::WriteFault && given.bytes.len() == length,
+            "{words}: call {call}"
+        );
     }
     Ok(())
 }

@@ -75,3 +75,11 @@ pub const SAME_NAME: &[u8] =
 /// A plan of the greatest cost, and dearer ones.
 pub const GREATEST_COST: &[u8] =
     b"begin_version\n3\nend_version\nbegin_metric\n1\nend_metric\n1\nbegin_variable\nx\n-1\n2\nx0\nx1\nend_variable\n0\nbegin_state\n0\nend_state\nbegin_goal\n1\n0 1\nend_goal\n2\nbegin_operator\ngo\n0\n1\n0 0 0 1\n18446744073709551615\nend_operator\nbegin_operator\nagain\n0\n1\n0 0 1 1\n1\nend_operator\n0\n";
+
+/// Two switches of which one is on, in turn: two stated mutex groups that hold, and one that fails at first.
+pub const IN_TURN: &[u8] =
+    b"begin_version\n3\nend_version\nbegin_metric\n0\nend_metric\n2\nbegin_variable\na\n-1\n2\noff\non\nend_variable\nbegin_variable\nb\n-1\n2\noff\non\nend_variable\n3\nbegin_mutex_group\n2\n0 1\n1 1\nend_mutex_group\nbegin_mutex_group\n2\n0 0\n1 0\nend_mutex_group\nbegin_mutex_group\n2\n0 1\n1 0\nend_mutex_group\nbegin_state\n1\n0\nend_state\nbegin_goal\n1\n1 1\nend_goal\n1\nbegin_operator\nmove\n0\n2\n0 0 1 0\n0 1 0 1\n1\nend_operator\n0\n";
+
+/// Two switches, in either order, and a stated mutex group that plans break.
+pub const FALSE_GROUP: &[u8] =
+    b"begin_version\n3\nend_version\nbegin_metric\n0\nend_metric\n2\nbegin_variable\na\n-1\n2\noff\non\nend_variable\nbegin_variable\nb\n-1\n2\noff\non\nend_variable\n1\nbegin_mutex_group\n2\n0 1\n1 1\nend_mutex_group\nbegin_state\n0\n0\nend_state\nbegin_goal\n2\n0 1\n1 1\nend_goal\n2\nbegin_operator\na-on\n0\n1\n0 0 0 1\n1\nend_operator\nbegin_operator\nb-on\n0\n1\n0 1 0 1\n1\nend_operator\n0\n";

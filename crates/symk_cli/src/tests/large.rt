@@ -24,6 +24,17 @@ fn refuses_long_texts(rt: HostRuntime) -> Result<(), Fail> {
     Ok(())
 }
 
+#[test]
+fn refuses_a_long_certificate(rt: HostRuntime) -> Result<(), Fail> {
+    let mut world = World::of(ONE_SWITCH, b"");
+    world.blank_plans = Some(268_435_457);
+    let given = answer(rt.alloc(), &world, "refute FILE CERT")?;
+    assert!(&rt;
+        given.status == Status::TooLong && given.bytes.as_slice() == b"cert too long\n".as_slice()
+    );
+    Ok(())
+}
+
 // A rule for each of 1,000 derived variables that the one before raises, in the wrong order: each in a layer of its own, or
 // all in one.
 fn chain(alloc: Global, layered: bool) -> Result<Text, AllocError> {

@@ -2,6 +2,7 @@
 //!
 //! With ample memory the whole answer comes; `rt try --test --fail-alloc N` lets the Nth allocation of each test fail.
 
+use super::certs::OFF;
 use super::faults::LISTED;
 use super::files::*;
 use super::{World, answer};
@@ -114,4 +115,19 @@ fn checks_in_pieces(rt: HostRuntime) -> Result<(), Fail> {
     };
     let world = World::of(SWITCH_AND_BACK, LISTED);
     comes_in_pieces(&rt, rt.alloc(), &world, "check FILE PLANS", pieces)
+}
+
+#[test]
+fn settles_in_pieces(rt: HostRuntime) -> Result<(), Fail> {
+    let pieces = |status, text| Pieces {
+        status,
+        text,
+        other: text,
+        ends: &[0],
+    };
+    let world = World::of(NO_OPERATOR, OFF);
+    let proof = pieces(Status::Proved, OFF);
+    comes_in_pieces(&rt, rt.alloc(), &world, "prove FILE", proof)?;
+    let verdict = pieces(Status::Refuted, b"no plan\n".as_slice());
+    comes_in_pieces(&rt, rt.alloc(), &world, "refute FILE CERT", verdict)
 }

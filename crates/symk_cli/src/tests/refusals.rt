@@ -74,6 +74,24 @@ fn refuses_texts(rt: HostRuntime) -> Result<(), Fail> {
             Status::Offending,
             b"line 1: wanted begin_version\n",
         ),
+        ask(
+            "prove OTHER",
+            ONE_SWITCH,
+            Status::Unreadable,
+            b"file unreadable\n",
+        ),
+        ask(
+            "refute FILE OTHER",
+            ONE_SWITCH,
+            Status::Unreadable,
+            b"cert unreadable\n",
+        ),
+        ask(
+            "refute FILE OTHER",
+            b"",
+            Status::Offending,
+            b"line 1: wanted begin_version\n",
+        ),
     ];
     holds(&rt, rt.alloc(), &rows)
 }

@@ -1,6 +1,5 @@
-use Rattle.std.proofs.Common.{◌++◌, take, MatchOption}
+use Rattle.std.proofs.Common.{◌++◌, take}
 use Rattle.entry_turns.specs.Entries.{Makes}
-use Rattle.entry_turns.specs.Ways.{IsWay}
 use Rattle.entry_turns.proofs.Gathering.{SofarFrom}
 use Rattle.entry_turns.proofs.expand.gather.Given as goal
 
@@ -10,7 +9,6 @@ invariant-operators g l =
     let u = view l.fn.space in
     let v = view l.space in
     record {
-      last : MatchOption l.last (Unit {0}) (IsWay v l.front l.back l.entry);
       makes : Makes u v (l.children.level.items ++ l.children.falling.items);
-      sofar : SofarFrom u v l.front l.back l.entry (take l.i l.order) l.children.level.items l.children.falling.items;
+      sofar : SofarFrom u v l.front l.back l.entry (take l.op-index l.order) l.children.level.items l.children.falling.items;
     }

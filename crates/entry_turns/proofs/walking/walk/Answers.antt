@@ -1,6 +1,5 @@
-use Rattle.std.proofs.Common.{arith, ap, sym, ◌∙◌, length, ◌<◌}
+use Rattle.std.proofs.Common.{arith}
 use Rattle.space_api.proofs.Trading.{trades_trans}
-use Rattle.entry_turns.specs.Entries.{plains}
 use Rattle.entry_turns.specs.Walked.{OwesOn}
 use Rattle.entry_turns.proofs.Staying.{held_in, traded}
 use Rattle.entry_turns.proofs.Walks.{walked_first, turn_goes, turn_left, turn_gives, turn_refused, plains_length, err_of, none_traded}

@@ -2,7 +2,7 @@ use Rattle.std.proofs.Common.{◌∙◌, sym, ap, option_map}
 use Rattle.symk_words.specs.Texts.{view_of}
 use Rattle.symk_cli.specs.Wishes.{spelled}
 use Rattle.symk_cli.specs.Requests.{wished}
-use Rattle.symk_cli.proofs.Asked.{plan_no_number, plan_no_mode, plan_no_direction, plan_no_reach, plan_spelled, check_spelled, demo_spelled}
+use Rattle.symk_cli.proofs.Asked.{plan_no_number, plan_no_mode, plan_no_direction, plan_no_reach, plan_spelled, check_spelled, demo_spelled, prove_spelled, refute_spelled}
 use Rattle.symk_cli.proofs.request.request_of.Goals as goal
 
 pub returns-in_err-count-in-Plan-clause-wish : goal.returns-in_err-count-in-Plan-clause-wish
@@ -55,3 +55,9 @@ returns-in_err-number_within-in-Demo-clause-wish c =
 pub returns-in_ok-number_within-in-Demo-clause-wish : goal.returns-in_ok-number_within-in-Demo-clause-wish
 returns-in_ok-number_within-in-Demo-clause-wish c =
     sym (ap (λ a. spelled (view_of a)) c.in-Demo.is ∙ demo_spelled _ _ (sym c.in_ok-number_within-in-Demo.ensures.number))
+
+pub returns-in-Prove-clause-wish : goal.returns-in-Prove-clause-wish
+returns-in-Prove-clause-wish c = sym (ap (λ a. spelled (view_of a)) c.in-Prove.is ∙ prove_spelled _)
+
+pub returns-in-Refute-clause-wish : goal.returns-in-Refute-clause-wish
+returns-in-Refute-clause-wish c = sym (ap (λ a. spelled (view_of a)) c.in-Refute.is ∙ refute_spelled _ _)

@@ -1,18 +1,18 @@
 use Rattle.std.proofs.Common.{[], ◌∷◌, ◌∙◌}
 use Rattle.symk_cli.specs.declared.reading.Named.TheVariants.{Plans}
 use Rattle.run_status.specs.Ends.{OrFront}
-use Rattle.symk_cli.specs.Plans.{IsPlansText}
+use Rattle.symk_cli.specs.Plans.{IsPlansText, PlansRefused}
 use Rattle.symk_cli.specs.Verdicts.{Verdict}
 use Rattle.run_status.proofs.Puts.{puts_after}
 use Rattle.symk_cli.proofs.Answering.{checks_refused, plans_refused, checks_answered}
-use Rattle.symk_cli.proofs.Opening.{text_of_before, stops_after, file_stops, plans_stop, both_opened, sink_readable, plans_refused_before}
+use Rattle.symk_cli.proofs.Opening.{text_of_before, stops_after, file_stops, other_stops, both_opened, sink_readable, refused_before}
 use Rattle.symk_cli.proofs.top.check.Goals as goal
 
 pub returns-in-Err-clause-answer : goal.returns-in-Err-clause-answer
 returns-in-Err-clause-answer g c = checks_refused (g.F.Files.view c.args.files.now).told c.args.file.now c.args.plans.now c.args.mode _ _ _ c.in-Err.ensures.refused
 
 pub returns-in-Err-clause-opened : goal.returns-in-Err-clause-opened
-returns-in-Err-clause-opened g c = file_stops c.args.file.now (c.args.plans.now ∷ []) _ _ _ _ _ c.in-Err.ensures.stops
+returns-in-Err-clause-opened g c = file_stops c.args.file.now ((Plans, c.args.plans.now) ∷ []) _ _ _ _ _ c.in-Err.ensures.stops
 
 pub returns-clause-answer : goal.returns-clause-answer
 returns-clause-answer g c =
@@ -21,11 +21,11 @@ returns-clause-answer g c =
     let mid = g.K.Sink.view c.task_of.new.sink in
     let new = g.K.Sink.view c.plans_of.new.sink in
     plans_refused told c.args.file.now c.args.plans.now c.args.mode c.in-Ok.task old new _ c.in-Ok.ensures.task
-    (plans_refused_before told (g.F.Files.view c.task_of.new.files).told c.args.file.now c.args.plans.now old mid new c.in-Err-plans_of.status c.in-Ok.ensures.opened c.in-Ok.ensures.untouched c.in-Err-plans_of.ensures.refused)
+    (refused_before PlansRefused told (g.F.Files.view c.task_of.new.files).told c.args.file.now c.args.plans.now old mid new c.in-Err-plans_of.status c.in-Ok.ensures.opened c.in-Ok.ensures.untouched c.in-Err-plans_of.ensures.refused)
 
 pub returns-clause-opened : goal.returns-clause-opened
 returns-clause-opened g c =
-    plans_stop c.args.file.now c.args.plans.now _ (g.F.Files.view c.task_of.new.files).told _ _ _ _ c.in-Ok.ensures.opened
+    other_stops c.args.file.now Plans c.args.plans.now _ (g.F.Files.view c.task_of.new.files).told _ _ _ _ c.in-Ok.ensures.opened
     (stops_after Plans c.args.plans.now _ _ (g.K.Sink.view c.args.sink.now) (g.K.Sink.view c.task_of.new.sink) (g.K.Sink.view c.plans_of.new.sink) _ c.in-Ok.ensures.untouched c.in-Err-plans_of.ensures.stops)
 
 pub returns-in-Ok-plans_of-clause-answer : goal.returns-in-Ok-plans_of-clause-answer
@@ -38,4 +38,4 @@ returns-in-Ok-plans_of-clause-answer g c =
 
 pub returns-in-Ok-plans_of-clause-opened : goal.returns-in-Ok-plans_of-clause-opened
 returns-in-Ok-plans_of-clause-opened g c =
-    both_opened c.args.file.now c.args.plans.now _ (g.F.Files.view c.task_of.new.files).told _ _ _ _ c.in-Ok.ensures.opened c.in-Ok-plans_of.ensures.opened (sink_readable _ _ _ c.judge.ensures.causes)
+    both_opened c.args.file.now Plans c.args.plans.now _ (g.F.Files.view c.task_of.new.files).told _ _ _ _ c.in-Ok.ensures.opened c.in-Ok-plans_of.ensures.opened (sink_readable _ _ _ c.judge.ensures.causes)

@@ -1,4 +1,5 @@
 use Rattle.symk_cli.proofs.Completed.{never_usage, completed}
+use Rattle.symk_cli.proofs.Certified.{proved_settles, refuted_settles}
 use Rattle.symk_cli.proofs.Long.{lengths_of}
 use Rattle.symk_cli.proofs.top.run.Goals as goal
 
@@ -10,3 +11,9 @@ returns-clause-complete g c = completed _ (g.F.Files.view c.args.files.now) (g.F
 
 pub returns-clause-lengths : goal.returns-clause-lengths
 returns-clause-lengths g c = lengths_of _ _ _ _ _ c.answer.ensures.answer
+
+pub returns-clause-proved : goal.returns-clause-proved
+returns-clause-proved g c = proved_settles _ _ _ _ _ c.answer.ensures.answer
+
+pub returns-clause-refuted : goal.returns-clause-refuted
+returns-clause-refuted g c = refuted_settles _ _ _ _ _ c.answer.ensures.answer

@@ -1,5 +1,0 @@
-use Rattle.space_api.proofs.Keeping.{given_back}
-use Rattle.entry_turns.proofs.ways.joins_back.Goals as goal
-
-pub returns-clause-stays : goal.returns-clause-stays
-returns-clause-stays g c = given_back c.pre_cost.ensures.kept c.in_ok-found.ensures.ok c.forget.ensures

@@ -1,0 +1,98 @@
+//! Engines that owe all plans of a task, over a space of it.
+
+ghost use Rattle.std.specs.Prelude.{◌≡◌, IsFalse, IfOk, OnOk};
+ghost use Rattle.symk_task.specs.declared.parts.Mode.TheVariants.{TopK, Loopless};
+ghost use Rattle.task_system.specs.Computed.{system_of};
+ghost use Rattle.space_api.specs.View.{View};
+ghost use Rattle.reconstruct.specs.Engine.{IsReadyFor};
+ghost use Rattle.plan_run.specs.Engines.{OwesAll};
+
+use crate::asking::Search;
+use crate::choice::Patient;
+use loopless::LooplessPlans;
+use reconstruct::TopPlans;
+use selectors::LazyPlans;
+use space_api::Space;
+use std::alloc::Global;
+use symk_task::{Memory, Task};
+
+// The set to which the search backward is kept: where the mutex groups are asked for, the states that keep those of the task's
+// that are shown inductive, and else none. Each useful state is one of them. It alone is valid then.
+fn kept_to<S: Space>(
+    alloc: Global,
+    task: &Task,
+    search: Search,
+    space: &mut S,
+) -> Result<Option<S::Set>, Memory>
+    requires task { (S.view space.old).task ≡ task.now }
+    requires none { (a : S.Set) → IsFalse ((S.view space.old).valid a) }
+    ensures ready { IfOk result (IsReadyFor (S.view space.new)) }
+    ensures system { OnOk result ((S.view space.new).system ≡ (S.view space.old).system) }
+{
+    if !search.mutex {
+        return Ok(None);
+    }
+    let kept = mutex_use::within(alloc, space, task)?;
+    Ok(Some(kept))
+}
+
+/// All plans of the task, which grow from the middle outwards, up to a greatest cost where there is one, searched for as is
+/// asked. The space is of the task and has no valid set.
+pub fn top_plans<S: Space + Drop>(
+    alloc: Global,
+    task: &Task,
+    search: Search,
+    space: S,
+    limit: Option<u64>,
+) -> Result<TopPlans<S, Patient>, Memory>
+    requires task { (S.view space).task ≡ task.now }
+    requires system { (S.view space).system ≡ system_of task.now }
+    requires none { (a : S.Set) → IsFalse ((S.view space).valid a) }
+    ensures { IfOk result (OwesAll ⟦<TopPlans<S, Patient> as LazyPlans>⟧.system
+        ⟦<TopPlans<S, Patient> as LazyPlans>⟧.mode
+        ⟦<TopPlans<S, Patient> as LazyPlans>⟧.most ⟦<TopPlans<S, Patient> as LazyPlans>⟧.pends
+        ⟦<TopPlans<S, Patient> as LazyPlans>⟧.lawful task.now TopK limit) }
+{
+    let mut space = space;
+    let choose = Patient::of(search.direction);
+    let within = kept_to(alloc, task, search, &mut space)?;
+    match within {
+        None => match limit {
+            None => TopPlans::new(alloc, space, choose),
+            Some(most) => TopPlans::within(alloc, space, choose, most),
+        },
+        Some(kept) => match limit {
+            None => TopPlans::new_within(alloc, space, choose, kept),
+            Some(most) => TopPlans::within_most(alloc, space, choose, most, kept),
+        },
+    }
+}
+
+/// All loopless plans of the task, in the same way. They are searched for backward, whatever the direction.
+pub fn loopless_plans<S: Space + Drop>(
+    alloc: Global,
+    task: &Task,
+    search: Search,
+    space: S,
+    limit: Option<u64>,
+) -> Result<LooplessPlans<S>, Memory>
+    requires task { (S.view space).task ≡ task.now }
+    requires system { (S.view space).system ≡ system_of task.now }
+    requires none { (a : S.Set) → IsFalse ((S.view space).valid a) }
+    ensures { IfOk result (OwesAll ⟦<LooplessPlans<S> as LazyPlans>⟧.system ⟦<LooplessPlans<S> as LazyPlans>⟧.mode
+        ⟦<LooplessPlans<S> as LazyPlans>⟧.most ⟦<LooplessPlans<S> as LazyPlans>⟧.pends
+        ⟦<LooplessPlans<S> as LazyPlans>⟧.lawful task.now Loopless limit) }
+{
+    let mut space = space;
+    let within = kept_to(alloc, task, search, &mut space)?;
+    match within {
+        None => match limit {
+            None => LooplessPlans::new(alloc, space),
+            Some(most) => LooplessPlans::within(alloc, space, most),
+        },
+        Some(kept) => match limit {
+            None => LooplessPlans::new_within(alloc, space, kept),
+            Some(most) => LooplessPlans::within_most(alloc, space, most, kept),
+        },
+    }
+}

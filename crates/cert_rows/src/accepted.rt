@@ -17,6 +17,24 @@ fn accepted(alloc: Global, task: &Task) -> Result<Option<bool>, CertFault> {
     }
 }
 
+/// Whether 100 certificates are accepted, of tasks that the seeds from this one on draw, 1,000 of them at most.
+fn are_accepted(alloc: Global, first: u64) -> Result<bool, CertFault> {
+    let mut count = 0_u32;
+    for seed in first..first.saturating_add(1000) {
+        if count == 100 {
+            break;
+        }
+        if let Some(task) = random_task(alloc, seed)? {
+            match accepted(alloc, &task)? {
+                Some(true) => count = count.saturating_add(1),
+                Some(false) => return Ok(false),
+                None => {}
+            }
+        }
+    }
+    Ok(count == 100)
+}
+
 #[test]
 fn certificates_of_small_tasks_are_accepted(rt: HostRuntime) -> Result<(), Fail> {
     let alloc = rt.alloc();
@@ -26,20 +44,31 @@ fn certificates_of_small_tasks_are_accepted(rt: HostRuntime) -> Result<(), Fail>
 }
 
 #[test]
-fn certificates_of_five_hundred_tasks_are_accepted(rt: HostRuntime) -> Result<(), Fail> {
-    let alloc = rt.alloc();
-    let mut written = 0_u32;
-    for seed in 0..5000 {
-        if written == 500 {
-            break;
-        }
-        if let Some(task) = random_task(alloc, seed)? {
-            if let Some(is_accepted) = accepted(alloc, &task)? {
-                assert!(rt; is_accepted, "at seed {seed}");
-                written = written.saturating_add(1);
-            }
-        }
-    }
-    assert_eq!(rt; written, 500);
+fn the_first_hundred_certificates_are_accepted(rt: HostRuntime) -> Result<(), Fail> {
+    assert!(rt; are_accepted(rt.alloc(), 0)?);
+    Ok(())
+}
+
+#[test]
+fn the_second_hundred_certificates_are_accepted(rt: HostRuntime) -> Result<(), Fail> {
+    assert!(rt; are_accepted(rt.alloc(), 1000)?);
+    Ok(())
+}
+
+#[test]
+fn the_third_hundred_certificates_are_accepted(rt: HostRuntime) -> Result<(), Fail> {
+    assert!(rt; are_accepted(rt.alloc(), 2000)?);
+    Ok(())
+}
+
+#[test]
+fn the_fourth_hundred_certificates_are_accepted(rt: HostRuntime) -> Result<(), Fail> {
+    assert!(rt; are_accepted(rt.alloc(), 3000)?);
+    Ok(())
+}
+
+#[test]
+fn the_fifth_hundred_certificates_are_accepted(rt: HostRuntime) -> Result<(), Fail> {
+    assert!(rt; are_accepted(rt.alloc(), 4000)?);
     Ok(())
 }

@@ -31,7 +31,8 @@ fn land_back<S: Space>(
     requires to { Valid (S.view space.old) to }
     requires landed { Valid (S.view space.old) landed }
     ensures kept { Kept (S.view space.old) (S.view space.new) }
-    ensures ok { IfOk result (Gives (S.view space.old) (S.view space.new) (λ s. Has (S.view space.old) landed s ⊎ AlongIn (seen_from Ahead (S.view space.old).system) (S.view space.old) w from to s)) }
+    ensures ok { IfOk result (Gives (S.view space.old) (S.view space.new) (λ s. Has (S.view space.old) landed
+        s ⊎ AlongIn (seen_from Ahead (S.view space.old).system) (S.view space.old) w from to s)) }
     ensures err { OnErr result (NoMore (S.view space.old) (S.view space.new)) }
 {
     let before = space.pre_cost(w, to, from)?;
@@ -53,7 +54,8 @@ fn land_from<S: Space>(
     requires to { Valid (S.view space.old) to }
     requires landed { Valid (S.view space.old) landed }
     ensures kept { Kept (S.view space.old) (S.view space.new) }
-    ensures ok { IfOk result (Gives (S.view space.old) (S.view space.new) (λ s. Has (S.view space.old) landed s ⊎ AlongIn (seen_from Ahead (S.view space.old).system) (S.view space.old) w from to s)) }
+    ensures ok { IfOk result (Gives (S.view space.old) (S.view space.new) (λ s. Has (S.view space.old) landed
+        s ⊎ AlongIn (seen_from Ahead (S.view space.old).system) (S.view space.old) w from to s)) }
     ensures err { OnErr result (NoMore (S.view space.old) (S.view space.new)) }
 {
     if ahead {
@@ -75,7 +77,8 @@ fn add_from<S: Space>(
     requires from { Valid (S.view space.old) from }
     requires to { Valid (S.view space.old) to }
     requires landed { Valid (S.view space.old) landed }
-    ensures ok { IfOk result (Joins (S.view space.old) (S.view space.new) landed (AlongIn (seen_from Ahead (S.view space.old).system) (S.view space.old) w from to)) }
+    ensures ok { IfOk result (Joins (S.view space.old) (S.view space.new) landed
+        (AlongIn (seen_from Ahead (S.view space.old).system) (S.view space.old) w from to)) }
     ensures err { OnErr result (Trades (S.view space.old) (S.view space.new) (λ a. a ≡ landed) (λ a. ⊥)) }
 {
     let more = land_from(space, from, w, to, landed, ahead);

@@ -1,5 +1,5 @@
 -- What is put is what may come.
-use Rattle.std.proofs.Common.{◌≡◌, List, subst, sym}
+use Rattle.std.proofs.Common.{◌≡◌, subst, sym}
 use Rattle.symk_io.specs.View.{Bytes, SinkView}
 use Rattle.symk_task.specs.declared.parts.TaskParts.{TaskParts}
 use Rattle.cert_check.specs.declared.judging.CertVerdict.TheVariants.{Yes}

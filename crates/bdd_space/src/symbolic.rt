@@ -41,11 +41,27 @@ impl<'a> Model for BddSpace<'a> {
 
     ghost Value = { Symbolic };
 
-    ghost view = { λ a. record { task = a.task.now; order = a.order; nodes = a.ops; own = a.own; relations =
-        a.relations; steps = a.steps; sets = a.sets.slots.items; last = a.last } };
+    ghost view = { λ a. record {
+      task = a.task.now;
+      order = a.order;
+      nodes = a.ops;
+      own = a.own;
+      relations = a.relations;
+      steps = a.steps;
+      sets = a.sets.slots.items;
+      last = a.last;
+    } };
 
-    ghost invariant = { λ a. IsSpace (record { task = a.task.now; order = a.order; nodes = a.ops; own = a.own;
-        relations = a.relations; steps = a.steps; sets = a.sets.slots.items; last = a.last }) a.initial };
+    ghost invariant = { λ a. IsSpace (record {
+      task = a.task.now;
+      order = a.order;
+      nodes = a.ops;
+      own = a.own;
+      relations = a.relations;
+      steps = a.steps;
+      sets = a.sets.slots.items;
+      last = a.last;
+    }) a.initial };
 }
 
 ghost use Rattle.std.specs.Prelude.{◌≡◌, ◌<◌, ◌↔◌, ℕ, Some, length, IsTrue, IfOk, OnErr};

@@ -187,8 +187,13 @@ fn further<F: Files, K: Sink>(
     requires least { 1 ≤ wanted.count }
     requires count { wanted.count ≤ 1000000000 }
     ensures answer { Answered (Some
-        (continues (record { file = file.now; plans = plans.now; wanted = wanted; mode = mode; search =
-        search }))) (F.view files.old).told (K.view sink.old) (K.view sink.new) result }
+        (continues (record {
+          file = file.now;
+          plans = plans.now;
+          wanted = wanted;
+          mode = mode;
+          search = search;
+        }))) (F.view files.old).told (K.view sink.old) (K.view sink.new) result }
     ensures causes { HasCauses result (F.view files.old).faults (F.view files.new).faults
         (K.view sink.old).faults (K.view sink.new).faults }
     ensures opened { Opens ((Named.File, file.now) ∷ (Named.Plans, plans.now) ∷ []) (F.view files.old).told

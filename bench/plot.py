@@ -1,5 +1,6 @@
 #!/usr/bin/env python3
-"""plot.py: draws the tables of bench/README.md: bench/growth.svg, time against size beside BuDDy, and bench/tasks.svg, whole runs.
+"""plot.py: draws the tables of bench/README.md: bench/growth.svg, time against size beside BuDDy, bench/tasks.svg, whole runs by each
+search, and bench/peer.svg, whole runs beside a planner on BuDDy.
 
 It needs matplotlib (Debian's python3-matplotlib). The pictures are the same at every run.
 """
@@ -61,6 +62,20 @@ def tasks():
     save(figure, "tasks.svg")
 
 
+def peer():
+    """A pair of bars for each task: the seconds of a whole run, ours and the peer's."""
+    told = rows("| task | k | mode | plans | first and last cost | symk | peer | ratio | symk MB | peer MB |")
+    figure, panel = plot.subplots(figsize=(9, 3.2))
+    for shift, (column, label) in enumerate(((5, "symk"), (6, "planner on BuDDy"))):
+        panel.bar([place + 0.4 * shift - 0.2 for place in range(len(told))], [float(row[column]) for row in told], 0.4, label=label)
+    panel.set(yscale="log", ylabel="seconds", xticks=range(len(told)))
+    panel.set_xticklabels([f"{row[0]}, {row[2]}" if row[2] != "topk" else row[0] for row in told], rotation=40, ha="right", fontsize=7)
+    panel.grid(True, axis="y", alpha=0.3)
+    panel.legend()
+    save(figure, "peer.svg")
+
+
 if __name__ == "__main__":
     growth()
     tasks()
+    peer()

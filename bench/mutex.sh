@@ -13,62 +13,31 @@ work=$(mktemp -d)
 trap 'rm -rf "$work"' EXIT
 "$top/symk" demo 1 >/dev/null # builds the program, where it isn't built
 python3 - "$top" "$work" "${1:-5}" <<'PYTHON'
-import os, re, resource, signal, statistics, subprocess, sys
+import os, statistics, sys
 
 top, work, times = sys.argv[1], sys.argv[2], int(sys.argv[3])
-program = os.path.join(top, ".symk", "symk")
-LIMIT, MEMORY, K = 60, 4_000_000_000, 10
+sys.path.insert(0, os.path.join(top, "bench"))
+sys.dont_write_bytecode = True
+from whole_runs import Runs
+
+runs = Runs(top, work)
+K = 10
 MADE = ("blocks 6", "blocks 7", "blocks 8", "board 3 2 100", "board 3 3 200", "gripper 20", "logistics 3 3 4")
 SEARCHES = ("backward", "bidirectional")
-COST = re.compile(rb"^; cost = (\d+) ", re.MULTILINE)
-
-
-def bound():
-    resource.setrlimit(resource.RLIMIT_CPU, (LIMIT, LIMIT))
-    resource.setrlimit(resource.RLIMIT_AS, (MEMORY, MEMORY))
-
-
-def run(task, search, flags):
-    """What was printed, the seconds of the processor and the megabytes at most; None past the limits."""
-    words = [program, "plan", task, "--k", str(K), "--search", search, *flags]
-    with open(os.path.join(work, "list"), "wb") as out:
-        child = subprocess.Popen(words, stdout=out, stderr=subprocess.DEVNULL, preexec_fn=bound)
-        _, status, usage = os.wait4(child.pid, 0)
-    child.returncode = os.waitstatus_to_exitcode(status)
-    if child.returncode in (-signal.SIGKILL, -signal.SIGXCPU, 40):
-        return None
-    if child.returncode not in (0, 10):
-        sys.exit(f"{words}: status {child.returncode}")
-    with open(os.path.join(work, "list"), "rb") as it:
-        printed = it.read()
-    return printed, usage.ru_utime + usage.ru_stime, usage.ru_maxrss * 1024 / 1e6
-
-
-def costs_of(task, printed):
-    """The costs of the plans, once `symk check` has called the list good."""
-    costs = [int(cost) for cost in COST.findall(printed)]
-    done = subprocess.run([program, "check", task, os.path.join(work, "list")], stdout=subprocess.PIPE)
-    if done.stdout != b"good %d\n" % len(costs):
-        sys.exit(f"{task}: {done.stdout.decode()}")
-    return costs
-
-
 paths, took, most, costs, lost = {}, {}, {}, {}, set()
 for made in MADE:
-    paths[made] = os.path.join(work, made.replace(" ", "-") + ".sas")
-    with open(paths[made], "wb") as out:
-        subprocess.run([sys.executable, os.path.join(top, "bench", "plan_tasks.py"), *made.split()], stdout=out, check=True)
+    paths[made] = runs.made(made)
 keys = [(made, search, flags) for made in MADE for search in SEARCHES for flags in ((), ("--mutex",))]
 for turn in range(times):
     for key in keys:
         made, search, flags = key
-        done = None if key in lost else run(paths[made], search, flags)
+        done = None if key in lost else runs.listed(paths[made], K, search, *flags)
         if done is None:
             lost.add(key)
             continue
-        printed, seconds, megabytes = done
+        _, printed, seconds, megabytes = done
         if turn == 0:
-            listed = costs_of(paths[made], printed)
+            listed = runs.costs_of(paths[made], printed)
             if costs.setdefault(made, listed) != listed:
                 sys.exit(f"{made}: {search} {' '.join(flags)} lists other costs")
         took.setdefault(key, []).append(seconds)

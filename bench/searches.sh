@@ -13,66 +13,33 @@ work=$(mktemp -d)
 trap 'rm -rf "$work"' EXIT
 "$top/symk" demo 1 >/dev/null # builds the program, where it isn't built
 python3 - "$top" "$work" "${1:-5}" <<'PYTHON'
-import os, re, resource, signal, statistics, subprocess, sys
+import os, statistics, sys
 
 top, work, times = sys.argv[1], sys.argv[2], int(sys.argv[3])
-program = os.path.join(top, ".symk", "symk")
-LIMIT, MEMORY = 60, 4_000_000_000
+sys.path.insert(0, os.path.join(top, "bench"))
+sys.dont_write_bytecode = True
+from whole_runs import Runs
+
+runs = Runs(top, work)
 EXAMPLES = (("blocks", 10), ("gripper", 10), ("hanoi", 10), ("logistics", 10), ("psr", 10), ("tiles", 10))
 MADE = (("gripper 20", 10), ("hanoi 10", 10), ("board 3 3 200", 10), ("blocks 8", 10), ("logistics 3 3 4", 10),
         ("visitall 5 5", 10), ("psr 40", 20), ("lights 6 6 10", 100), ("roads 18 6", 100), ("switches 40", 1000))
 SEARCHES = ("auto", "forward", "backward", "bidirectional")
-COST = re.compile(rb"^; cost = (\d+) ", re.MULTILINE)
-
-
-def bound():
-    resource.setrlimit(resource.RLIMIT_CPU, (LIMIT, LIMIT))
-    resource.setrlimit(resource.RLIMIT_AS, (MEMORY, MEMORY))
-
-
-def run(task, k, search):
-    """The status, what was printed, the seconds of the processor and the megabytes at most; None past the limits."""
-    words = [program, "plan", task, "--k", str(k), "--search", search]
-    with open(os.path.join(work, "list"), "wb") as out:
-        child = subprocess.Popen(words, stdout=out, stderr=subprocess.DEVNULL, preexec_fn=bound)
-        _, status, usage = os.wait4(child.pid, 0)
-    child.returncode = os.waitstatus_to_exitcode(status)
-    if child.returncode in (-signal.SIGKILL, -signal.SIGXCPU, 40):
-        return None
-    if child.returncode not in (0, 10, 31):
-        sys.exit(f"{words}: status {child.returncode}")
-    with open(os.path.join(work, "list"), "rb") as it:
-        printed = it.read()
-    return child.returncode, printed, usage.ru_utime + usage.ru_stime, usage.ru_maxrss * 1024 / 1e6
-
-
-def costs_of(task, printed):
-    """The costs of the plans, once `symk check` has called the list good."""
-    costs = [int(cost) for cost in COST.findall(printed)]
-    done = subprocess.run([program, "check", task, os.path.join(work, "list")], stdout=subprocess.PIPE)
-    if done.stdout != b"good %d\n" % len(costs):
-        sys.exit(f"{task}: {done.stdout.decode()}")
-    return costs
-
-
 tasks = [(f"{name} (example)", os.path.join(top, "examples", f"{name}.sas"), k) for name, k in EXAMPLES]
 for made, k in MADE:
-    path = os.path.join(work, made.replace(" ", "-") + ".sas")
-    with open(path, "wb") as out:
-        subprocess.run([sys.executable, os.path.join(top, "bench", "plan_tasks.py"), *made.split()], stdout=out, check=True)
-    tasks.append((made, path, k))
+    tasks.append((made, runs.made(made), k))
 took, most, told, costs, lost = {}, {}, {}, {}, set()
 for turn in range(times):
     for name, path, k in tasks:
         for search in SEARCHES:
             key = name, search
-            done = None if key in lost else run(path, k, search)
+            done = None if key in lost else runs.listed(path, k, search)
             if done is None:
                 lost.add(key)
                 continue
             status, printed, seconds, megabytes = done
             if turn == 0:
-                listed = costs_of(path, printed)
+                listed = runs.costs_of(path, printed)
                 if costs.setdefault(name, (status, listed)) != (status, listed):
                     sys.exit(f"{name}: {search} lists other costs")
                 told[key] = status, len(listed), *(listed[:1] + listed[-1:] or ["-", "-"])

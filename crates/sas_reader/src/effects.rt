@@ -9,13 +9,12 @@ ghost use Rattle.sas_reader.specs.Reading.{kept, is_base_at, allows, in_range, f
 
 use crate::facts::{fact_at, in_range};
 use crate::fault::Shape;
-use crate::limits::MOST_FACTS;
 use crate::numbers::{first_number, first_plain, is_blank};
 use crate::rows::count_of;
 use line_fields::{Rest, first_line, offence};
 use line_grammar::Stopped;
 use std::alloc::{AllocError, Global};
-use symk_task::{Effect, Fact, List, Variable};
+use symk_task::{Effect, Fact, List, MOST_FACTS, Variable};
 
 /// The first fact of a line, if it is in range, and what is left of the line.
 fn first_fact<'a>(variables: &[Variable], line: &'a [u8]) -> Option<(Fact, &'a [u8])>

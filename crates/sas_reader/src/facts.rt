@@ -6,13 +6,12 @@ ghost use Rattle.sas_reader.specs.Known.{Known};
 ghost use Rattle.sas_reader.specs.Reading.{kept, in_range, fact_in, fact_at, facts_at, most_facts};
 
 use crate::fault::Shape;
-use crate::limits::MOST_FACTS;
 use crate::numbers::two_numbers;
 use crate::rows::count_of;
 use line_fields::{Rest, first_line, offence};
 use line_grammar::Stopped;
 use std::alloc::Global;
-use symk_task::{Fact, List, Variable};
+use symk_task::{Fact, List, MOST_FACTS, Variable};
 
 /// The variable is there, and has the value.
 pub fn in_range(variables: &[Variable], var: u64, val: u64) -> bool

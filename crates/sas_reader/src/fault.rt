@@ -80,8 +80,8 @@ impl Shape {
 /// Why a text is no task file.
 #[derive(Debug, Drop, Error)]
 pub enum ReadFault {
-    /// The first line at which no task file can go on so, counted from 1, and what is wanted there. It is one past the last
-    /// line where the text ends too early.
+    /// The first line at which no task file can go on so, counted from 1, and what is wanted there. It is one past
+    /// the last line where the text ends too early.
     #[error("line {line} offends")]
     Offence { line: u64, wanted: Shape },
     /// Want of memory.

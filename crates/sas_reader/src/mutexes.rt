@@ -6,12 +6,11 @@ ghost use Rattle.sas_reader.specs.Reading.{kept, group_at, groups_at};
 
 use crate::facts::facts_of;
 use crate::fault::Shape;
-use crate::limits::MOST_ITEMS;
 use crate::rows::{count_of, word_of};
 use line_fields::Rest;
 use line_grammar::Stopped;
 use std::alloc::Global;
-use symk_task::{Fact, List, Variable};
+use symk_task::{Fact, List, MOST_ITEMS, Variable};
 
 /// A mutex group, and the lines after it.
 #[tactic(auto, unfolding(crate::specs::Reading::group_at))]

@@ -10,13 +10,12 @@ ghost use Rattle.sas_reader.specs.Reading.{kept, most_effects, cost_at, operator
 use crate::effects::effects_of;
 use crate::facts::facts_of;
 use crate::fault::Shape;
-use crate::limits::{MOST_FACTS, MOST_ITEMS};
 use crate::numbers::only_number;
 use crate::rows::{count_of, name_of, word_of};
 use line_fields::{Rest, first_line, offence};
 use line_grammar::Stopped;
 use std::alloc::Global;
-use symk_task::{List, Operator, Variable};
+use symk_task::{List, MOST_FACTS, MOST_ITEMS, Operator, Variable};
 
 /// There is a base variable.
 fn has_base(variables: &[Variable]) -> bool

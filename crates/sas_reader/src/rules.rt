@@ -10,13 +10,12 @@ ghost use Rattle.sas_reader.specs.declared.fault.Shape.TheVariants.{Head};
 
 use crate::facts::facts_of;
 use crate::fault::Shape;
-use crate::limits::MOST_ITEMS;
 use crate::numbers::three_numbers;
 use crate::rows::{count_of, word_of};
 use line_fields::{Rest, first_line, offence};
 use line_grammar::Stopped;
 use std::alloc::Global;
-use symk_task::{Fact, List, Rule, Variable};
+use symk_task::{Fact, List, MOST_ITEMS, Rule, Variable};
 
 /// There is no derived variable.
 fn all_base(variables: &[Variable]) -> bool
@@ -32,8 +31,8 @@ fn most_rules(variables: &[Variable]) -> u64
     if all_base(variables) { 0 } else { MOST_ITEMS }
 }
 
-/// With these default values, a rule for the other value of a variable of this layer may have the condition: one on a base variable, on a lower layer,
-/// or at the other value on the same layer.
+/// With these default values, a rule for the other value of a variable of this layer may have the condition: one on a
+/// base variable, on a lower layer, or at the other value on the same layer.
 fn may_stand(variables: &[Variable], defaults: &[u32], layer: u32, fact: Fact) -> bool
     requires { length defaults.now ≡ length variables.now }
     ensures { result ≡ may_stand variables.now defaults.now layer fact }

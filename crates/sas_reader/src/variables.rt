@@ -9,13 +9,12 @@ ghost use Rattle.sas_reader.specs.Reading.{name_at, kept, values_at, variable_at
 ghost use Rattle.sas_reader.specs.declared.fault.Shape.TheVariants.{Layer, Range};
 
 use crate::fault::Shape;
-use crate::limits::{LAST_LAYER, MOST_VALUES, MOST_VARIABLES};
 use crate::numbers::only_number;
 use crate::rows::{count_of, name_of, word_of};
 use line_fields::{Rest, first_line, offence};
 use line_grammar::Stopped;
 use std::alloc::Global;
-use symk_task::{List, Name, STATE_BITS, Variable};
+use symk_task::{LAST_LAYER, List, MOST_VALUES, MOST_VARIABLES, Name, STATE_BITS, Variable};
 
 /// How many values a derived variable has.
 const DERIVED_VALUES: u64 = 2;

@@ -5,6 +5,7 @@ ghost use Rattle.symk_task.specs.Variables.{range, layer_of, other_value};
 ghost use Rattle.symk_task.specs.Fits.{IsName, InRange, AreFacts, AreValues, FitsRange, FitsVariable, FitsVariables, FitsMutexes, FitsEffect, FitsOperator, FitsOperators, MayStand, FitsRule, FitsRules, Fits};
 
 use crate::bits::bits_fit;
+use crate::limits::{LAST_LAYER, MOST_FACTS, MOST_ITEMS, MOST_VALUES, MOST_VARIABLES};
 use crate::list::{List, Name};
 use crate::parts::{Effect, Fact, Operator, Rule, TaskParts, Variable};
 
@@ -41,7 +42,7 @@ fn in_range(variables: &[Variable], fact: Fact) -> bool
 fn are_facts(variables: &[Variable], facts: &List<Fact>) -> bool
     ensures { IsTrue result ↔ AreFacts variables.now facts.now }
 {
-    facts.len() <= 65_536
+    facts.len() as u64 <= MOST_FACTS
         && facts
             .as_slice()
             .iter()
@@ -53,8 +54,8 @@ fn fits_range(layer: Option<u32>, count: usize) -> bool
     ensures { IsTrue result ↔ FitsRange layer count }
 {
     match layer {
-        Some(layer) => layer < 65_536 && count == 2,
-        None => 1 <= count && count <= 65_536,
+        Some(layer) => layer as u64 <= LAST_LAYER && count == 2,
+        None => 1 <= count && count as u64 <= MOST_VALUES,
     }
 }
 
@@ -78,14 +79,14 @@ fn each_fits(variables: &[Variable]) -> bool
 fn fits_variables(variables: &[Variable]) -> bool
     ensures { IsTrue result ↔ FitsVariables variables.now }
 {
-    variables.len() <= 65_536 && each_fits(variables) && bits_fit(variables)
+    variables.len() as u64 <= MOST_VARIABLES && each_fits(variables) && bits_fit(variables)
 }
 
 /// Whether a task file can state the mutex groups.
 fn fits_mutexes(variables: &[Variable], groups: &[List<Fact>]) -> bool
     ensures { IsTrue result ↔ FitsMutexes variables.now groups.now }
 {
-    groups.len() <= 1_000_000 && groups.iter().all(|group| are_facts(variables, group))
+    groups.len() as u64 <= MOST_ITEMS && groups.iter().all(|group| are_facts(variables, group))
 }
 
 /// Whether each variable has an initial value in its range, and there are no others.
@@ -117,7 +118,7 @@ fn fits_operator(variables: &[Variable], operator: &Operator) -> bool
 {
     is_name(&operator.name)
         && are_facts(variables, &operator.prevail)
-        && operator.effects.len() <= 65_536
+        && operator.effects.len() as u64 <= MOST_FACTS
         && operator
             .effects
             .as_slice()
@@ -129,7 +130,7 @@ fn fits_operator(variables: &[Variable], operator: &Operator) -> bool
 fn fits_operators(variables: &[Variable], operators: &[Operator]) -> bool
     ensures { IsTrue result ↔ FitsOperators variables.now operators.now }
 {
-    operators.len() <= 1_000_000
+    operators.len() as u64 <= MOST_ITEMS
         && operators
             .iter()
             .all(|operator| fits_operator(variables, operator))
@@ -155,7 +156,7 @@ impl TaskParts {
     fn fits_rules(&self) -> bool
         ensures { IsTrue result ↔ FitsRules self.now }
     {
-        self.rules.len() <= 1_000_000
+        self.rules.len() as u64 <= MOST_ITEMS
             && self
                 .rules
                 .as_slice()

@@ -52,11 +52,11 @@ fn no_states(alloc: Global, count: usize) -> Result<Vec<Id>, Memory>
 
 /// For each derived variable the states in which it is raised.
 ///
-/// The rules of one layer are added to the sets of their variables until nothing changes, in any order, with the sets of the
-/// lower layers fixed; a rule to the default value has no effect. Stratified rules for derived variables and their fixpoint
-/// are those of Thiébaux, Hoffmann and Nebel, "In Defense of PDDL Axioms" (2005). Diagrams of them, with each derived variable
-/// put in terms of base variables alone, are those of Speck, Geißer, Mattmüller and Torralba, "Symbolic Planning with Axioms"
-/// (2019).
+/// The rules of one layer are added to the sets of their variables until nothing changes, in any order, with the sets
+/// of the lower layers fixed; a rule to the default value has no effect. Stratified rules for derived variables and
+/// their fixpoint are those of Thiébaux, Hoffmann and Nebel, "In Defense of PDDL Axioms" (2005). Diagrams of them,
+/// with each derived variable put in terms of base variables alone, are those of Speck, Geißer, Mattmüller and
+/// Torralba, "Symbolic Planning with Axioms" (2019).
 pub fn compile(
     alloc: Global,
     task: &Task,

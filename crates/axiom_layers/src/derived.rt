@@ -5,7 +5,7 @@ ghost use Rattle.std.specs.Prelude.{◌≡◌, ◌<◌, length, slice_index, sli
 use bdd_table::Id;
 use std::marker::Model;
 
-/// For each variable of a task an Id: of a derived variable the states in which it is raised.
+/// Axioms compiled away: for each variable of a task an Id, of a derived variable the states in which it is raised.
 #[derive(Drop)]
 pub struct Derived {
     roots: Vec<Id>,

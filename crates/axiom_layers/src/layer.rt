@@ -42,7 +42,8 @@ fn widened(
     ops.disj(roots[rule.var as usize], conds)
 }
 
-/// Adds the states in which the rule's conditions have their values to the set of its variable. Whether the set changed.
+/// Adds the states in which the rule's conditions have their values to the set of its variable. Whether the set
+/// changed.
 fn add_rule(
     parts: &TaskParts,
     order: &Order,
@@ -105,8 +106,8 @@ fn pass(
     Ok(changed)
 }
 
-/// Passes over the rules of a layer until no set changes. In a state in which the layer isn't closed yet, each pass raises a
-/// variable, so as many passes as variables are enough.
+/// Passes over the rules of a layer until no set changes. In a state in which the layer isn't closed yet, each pass
+/// raises a variable, so as many passes as variables are enough.
 pub(crate) fn close_layer(
     parts: &TaskParts,
     order: &Order,

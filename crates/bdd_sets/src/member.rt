@@ -10,8 +10,8 @@ use bdd_table::{Id, TRUE};
 use symk_task::State;
 use var_order::Order;
 
-/// Whether the Id holds for the bits of the state, with false at every level that is of none of them: whether it has the state,
-/// if it is a set of states. It goes down one path of the diagram, and allocates nothing.
+/// Membership: whether the Id holds for the bits of the state, with false at every level that is of none of them:
+/// whether it has the state, if it is a set of states. It goes down one path of the diagram, and allocates nothing.
 pub fn has(ops: &Ops, order: &Order, set: Id, state: &State) -> bool
     requires set { set < length ops.now }
     requires state { IsStateOf order.now state.now }

@@ -12,7 +12,7 @@ use bdd_table::{Id, TRUE, TableFault};
 use symk_task::{Fact, State};
 use var_order::Order;
 
-/// The states in which the fact holds. It is a fact of a base variable.
+/// Diagram of a fact: the states in which it holds. It is a fact of a base variable.
 pub fn fact_set(ops: &mut Ops, order: &Order, fact: Fact) -> Result<Id, TableFault>
     requires { IsSome (slot_of order.now fact.var) }
     ensures known { IfOk result (λ id. id < length ops.new) }
@@ -43,7 +43,8 @@ pub fn next_fact_set(ops: &mut Ops, order: &Order, fact: Fact) -> Result<Id, Tab
     value_is(ops, 1, block.first, block.width, fact.val)
 }
 
-/// All states: it holds for the bits that are those of a state, and for no others.
+/// Diagram of all states, the invalid codes left out: it holds for the bits that are those of a state, and for no
+/// others.
 pub fn valid_set(ops: &mut Ops, order: &Order) -> Result<Id, TableFault>
     ensures known { IfOk result (λ id. id < length ops.new) }
     ensures meaning { IfOk result (λ id. (b : Bits) → (means ops.new id b ≡ true) ↔ IsOfState order.now b) }
@@ -62,7 +63,7 @@ pub fn valid_set(ops: &mut Ops, order: &Order) -> Result<Id, TableFault>
     Ok(all)
 }
 
-/// The one state: it holds for its bits, and for no others.
+/// Diagram of one state: it holds for its bits, and for no others.
 pub fn state_set(ops: &mut Ops, order: &Order, state: &State) -> Result<Id, TableFault>
     requires { IsStateOf order.now state.now }
     ensures known { IfOk result (λ id. id < length ops.new) }

@@ -28,7 +28,8 @@ fn mark_children(table: &Table, marks: &mut Vec<bool>, id: Id)
     }
 }
 
-/// Marks the roots and all that they reach, and nothing else. Children have smaller Ids, so one falling pass is enough.
+/// Mark phase of a collection: marks the roots and all that they reach, and nothing else. Children have smaller Ids,
+/// so one falling pass is enough.
 pub fn mark(alloc: Global, table: &Table, roots: &[Id]) -> Result<Vec<bool>, TableFault>
     requires { EachIndex roots.now (λ i. slice_index roots.now i < length table.now) }
     ensures { IfOk result (λ marks. MarkedFrom table.now roots.now marks.items 2) }

@@ -5,7 +5,8 @@ ghost use Rattle.std.specs.Hash as fed;
 
 use std::hash::{Hash, Hasher};
 
-/// A node: it means what `hi` means where its level is true, else what `lo` means. The children are places in the table.
+/// A node: it means what `hi` means where its level is true, else what `lo` means. The children are places in the
+/// table.
 #[derive(Clone, Copy, Debug, PartialEq, Eq)]
 pub struct Node {
     pub level: u32,

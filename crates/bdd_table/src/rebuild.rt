@@ -53,7 +53,8 @@ fn place_of(
     }
 }
 
-/// A table with the marked nodes, and the place of each Id in it. Children come first, so one rising pass is enough.
+/// Sweep of a collection: a table with the marked nodes, and the place of each Id in it. Children come first, so one
+/// rising pass is enough.
 pub fn rebuild(alloc: Global, old: &Table, marks: &[bool]) -> Result<(Table, Vec<Id>), TableFault>
     requires { IsClosed old.now marks.now }
     ensures { IfOk result (λ r. AreMoved old.now marks.now (r.0) (r.1.items) (length old.now)) }

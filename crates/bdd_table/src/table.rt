@@ -26,7 +26,8 @@ pub const TRUE: Id = 1;
 /// The level of the two constants.
 const BOTTOM: u32 = u32::MAX;
 
-/// A table of nodes. Contracts see it as the list of its nodes by Id, the constants first; the list is always reduced.
+/// Unique table: nodes, each once. Contracts see it as the list of its nodes by Id, the constants first; the list is
+/// always reduced.
 #[derive(Drop)]
 pub struct Table {
     nodes: IndexSet<Node>,
@@ -92,7 +93,7 @@ impl Table {
         self.get(id).level
     }
 
-    /// What is left of the Id where its level is false. Of a constant it is the constant.
+    /// Negative cofactor: what is left of the Id where its level is false. Of a constant it is the constant.
     #[tactic(auto, using(crate::proofs::Adding::lo_known))]
     pub fn lo(&self, id: Id) -> Id
         requires { id < length self.now }
@@ -104,7 +105,7 @@ impl Table {
         self.get(id).lo as usize
     }
 
-    /// What is left of the Id where its level is true. Of a constant it is the constant.
+    /// Positive cofactor: what is left of the Id where its level is true. Of a constant it is the constant.
     #[tactic(auto, using(crate::proofs::Adding::hi_known))]
     pub fn hi(&self, id: Id) -> Id
         requires { id < length self.now }
@@ -129,8 +130,9 @@ impl Table {
         f == g
     }
 
-    /// The Id of the function that means what `hi` means where the level is true, else what `lo` means: the child where
-    /// both are equal, the old Id where the node is there, else the next. The level is less than those of both children.
+    /// The Id of the function that means what `hi` means where the level is true, else what `lo` means: the child
+    /// where both are equal, the old Id where the node is there, else the next. The level is less than those of both
+    /// children.
     pub fn node(&mut self, level: u32, lo: Id, hi: Id) -> Result<Id, TableFault>
         requires lo_known { lo < length self.old }
         requires hi_known { hi < length self.old }
@@ -168,9 +170,9 @@ impl Table {
         )
     }
 
-    /// Throws away the nodes that no root reaches. Ids change, and the roots are moved to theirs; no other Id but those of
-    /// the constants is known afterwards. It takes time and memory in proportion to the whole table. The roots are Ids of
-    /// the table.
+    /// Garbage collection: throws away the nodes that no root reaches. Ids change, and the roots are moved to theirs;
+    /// no other Id but those of the constants is known afterwards. It takes time and memory in proportion to the
+    /// whole table. The roots are Ids of the table.
     pub fn collect(&mut self, roots: &mut [Id]) -> Result<(), TableFault>
         requires { EachIndex roots.old (λ i. slice_index roots.old i < length self.old) }
         ensures moved { OnOk result (EachIndex roots.old

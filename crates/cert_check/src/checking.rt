@@ -51,8 +51,8 @@ fn judge_cert(
 
 /// Whether the bytes are a certificate that the task has no plan.
 ///
-/// `Yes` exactly where the states that it names are inductive, and then no list of operators is a plan. A `CertFault::Offence`
-/// names the first line at which no certificate of the task's format can go on so.
+/// `Yes` exactly where the states that it names are inductive, and then no list of operators is a plan. A
+/// `CertFault::Offence` names the first line at which no certificate of the task's format can go on so.
 pub fn check_cert(alloc: Global, task: &Task, bytes: &[u8]) -> Result<CertVerdict, CertFault>
     ensures verdict { IfOk result (λ verdict. (cert : Certificate)
         × IsCertOf (state_width task.now) (lines bytes.now) cert × Judges task.now (Named task.now cert) verdict) }

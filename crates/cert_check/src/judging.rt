@@ -68,8 +68,8 @@ fn leads_out(
     Ok(out != FALSE)
 }
 
-/// The first operator that leads from a member out of the members. Where none does, the members may stand elsewhere afterwards, and
-/// the roots of the derived variables too.
+/// The first operator that leads from a member out of the members. Where none does, the members may stand elsewhere
+/// afterwards, and the roots of the derived variables too.
 fn first_leaving(
     alloc: Global,
     task: &Task,
@@ -176,7 +176,8 @@ fn members_of(task: &Task, order: &Order, ops: &mut Ops, set: Id) -> Result<Id, 
     Ok(ops.conj(valid, set)?)
 }
 
-/// Whether a set is inductive, and else which part fails first. What it says of bits that are those of no state doesn't matter.
+/// Inductive invariant test: whether a set is inductive, and else which part fails first. What it says of bits that
+/// are those of no state doesn't matter.
 pub fn judge(
     alloc: Global,
     task: &Task,

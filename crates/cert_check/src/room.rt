@@ -66,7 +66,8 @@ fn collect(alloc: Global, ops: &mut Ops, derived: &mut Derived, members: Id) -> 
     Ok(at[count])
 }
 
-/// Collects where more nodes are held than twice those held last, and 200,000. How many are held then, or were held last.
+/// Garbage collection where more nodes are held than twice those held last, and 200,000. How many are held then, or
+/// were held last.
 pub fn make_room(
     alloc: Global,
     ops: &mut Ops,

@@ -72,8 +72,8 @@ fn moved_if_wanted(
     }
 }
 
-/// What the root says, over the bits that stand at its levels; where none stands, the level counts as false. Only what the
-/// root reaches is looked at: children have smaller Ids, so one rising pass is enough.
+/// What the root says, over the bits that stand at its levels; where none stands, the level counts as false. Only
+/// what the root reaches is looked at: children have smaller Ids, so one rising pass is enough.
 pub fn rebuilt(
     alloc: Global,
     old: &Table,

@@ -43,9 +43,9 @@ fn text_of(alloc: Global, space: &BddSpace<'_>, set: usize) -> Result<Vec<u8>, M
 
 /// A certificate that the task has no plan, or None where it has one.
 ///
-/// The states that are reached from the initial one are closed under the operators, so they are inductive where the goal
-/// holds in none of them (Eriksson, Röger and Helmert, "Unsolvability Certificates for Classical Planning", 2017). The bytes
-/// are the whole text, for `check_cert` or whoever checks it.
+/// The states that are reached from the initial one are closed under the operators, so they are inductive where the
+/// goal holds in none of them (Eriksson, Röger and Helmert, "Unsolvability Certificates for Classical Planning",
+/// 2017). The bytes are the whole text, for `check_cert` or whoever checks it.
 pub fn write_cert(alloc: Global, task: &Task) -> Result<Option<Vec<u8>>, Memory>
     ensures { IfOk result (λ found. MatchOption found
         ((p : List ℕ) × IsPlan task.now p)

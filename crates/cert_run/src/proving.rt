@@ -12,8 +12,8 @@ use symk_task::Task;
 
 /// Puts a certificate that the task has no plan, or says that it has one.
 ///
-/// `Status::Proved` comes only where the task has no plan, `Status::HasPlan` only where it has one, and no other status comes but
-/// `WriteFault` and `Memory`.
+/// `Status::Proved` comes only where the task has no plan, `Status::HasPlan` only where it has one, and no other
+/// status comes but `WriteFault` and `Memory`.
 pub fn prove<K: Sink>(alloc: Global, task: &Task, sink: &mut K) -> Status
     ensures answer { Puts (OrFront (Proves task.now)) (K.view sink.old) (K.view sink.new) result }
     ensures causes { HasCauses result 0 0 (K.view sink.old).faults (K.view sink.new).faults }

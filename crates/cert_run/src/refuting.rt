@@ -13,9 +13,10 @@ use symk_text::{Text, push_bytes, push_number};
 
 /// Puts what the bytes show, which may be a certificate that the task has no plan.
 ///
-/// `Status::Refuted` comes exactly where they are one, `Status::NotShown` where the states that it names are not inductive, with the
-/// first part that fails, and `Status::Offending` where they are the text of no certificate, with the first line that offends. No
-/// other status comes but `WriteFault` and `Memory`. Where `Refuted` comes no list of operators is a plan.
+/// `Status::Refuted` comes exactly where they are one, `Status::NotShown` where the states that it names are not
+/// inductive, with the first part that fails, and `Status::Offending` where they are the text of no certificate, with
+/// the first line that offends. No other status comes but `WriteFault` and `Memory`. Where `Refuted` comes no list of
+/// operators is a plan.
 pub fn refute<K: Sink>(alloc: Global, task: &Task, cert: &[u8], sink: &mut K) -> Status
     ensures answer { Puts (OrFront (Refutes task.now cert.now)) (K.view sink.old) (K.view sink.new) result }
     ensures causes { HasCauses result 0 0 (K.view sink.old).faults (K.view sink.new).faults }

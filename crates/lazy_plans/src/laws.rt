@@ -10,9 +10,9 @@ ghost use Rattle.lazy_plans.specs.Rest.{Rest, IsGood, EndsBy, IsMissing};
 
 use crate::law::LazyPlans;
 
-/// The plans that an engine gives are a right list, in the order in which it gives them, where at first every plan of its
-/// mode pends. Each call keeps what pends to be the plans that are not listed; where nothing pends all plans are listed, and
-/// where each that pends is too dear all others are.
+/// The plans that an engine gives are a right list, in the order in which it gives them, where at first every plan of
+/// its mode pends. Each call keeps what pends to be the plans that are not listed; where nothing pends all plans are
+/// listed, and where each that pends is too dear all others are.
 pub fn given_plans_are_right<I: LazyPlans>()
     ensures first { (x : I) → I.lawful x → ((p : List ℕ) → IsPlanOf (I.system x) (I.mode x) p → I.pends x p) →
         Rest (I.system x) (I.mode x) [] (I.pends x) }
@@ -33,9 +33,9 @@ pub fn given_plans_are_right<I: LazyPlans>()
         Rest system mode plans (I.pends x) → Stays (I.pends x) (I.pends y) → Rest system mode plans (I.pends y) }
 {}
 
-/// The same from an earlier list on, where what pends is the rest of it: the first answer tells whether that list is right.
-/// It is where the plan given costs no less than its last member, and where none is given because none is left or each is
-/// too dear; then the plans given go on from it. Else the plan given is a cheapest that it misses.
+/// The same from an earlier list on, where what pends is the rest of it: the first answer tells whether that list is
+/// right. It is where the plan given costs no less than its last member, and where none is given because none is left
+/// or each is too dear; then the plans given go on from it. Else the plan given is a cheapest that it misses.
 pub fn earlier_plans_are_right<I: LazyPlans>()
     ensures given { (system : System) (mode : Mode) (most : Option ℕ) (plans : List (List ℕ))
         (x y : I) (p : List ℕ) →

@@ -1,11 +1,10 @@
 //! Reading a text line by line, against a grammar of rows.
 //!
-//! A format is a list of rows for each value; a line spells a row or it doesn't. `specs/Rows.antt` says what a text of a
-//! value is, which line is the first that offends, and what is wanted there. `specs/Reading.antt` has readings, functions
-//! from the lines that are left to a value and the lines after it, and the ways to join them. `proofs/Exact.antt` and
-//! `proofs/Joining.antt` show that such a reading meets its format exactly, if its parts do: it takes what the rows spell,
-//! and where it stops, no text can go on.
-//! It stands on nothing but std.
+//! A format is a list of rows for each value; a line spells a row or it doesn't. `specs/Rows.antt` says what a text
+//! of a value is, which line is the first that offends, and what is wanted there. `specs/Reading.antt` has readings,
+//! functions from the lines that are left to a value and the lines after it, and the ways to join them.
+//! `proofs/Exact.antt` and `proofs/Joining.antt` show that such a reading meets its format exactly, if its parts do:
+//! it takes what the rows spell, and where it stops, no text can go on. It stands on nothing but std.
 #![tactic(auto)]
 
 ghost use Rattle.std.specs.Prelude.{◌≡◌, length};

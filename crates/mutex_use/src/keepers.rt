@@ -55,7 +55,8 @@ fn tidied<S: Space>(space: &mut S, set: S::Set) -> Result<S::Set, SpaceFault>
     }
 }
 
-/// The same in place of `kept`, which is given back, also where want of memory refuses the new set. The space may collect.
+/// The same in place of `kept`, which is given back, also where want of memory refuses the new set. The space may
+/// collect.
 fn keep_one<S: Space>(
     alloc: Global,
     space: &mut S,

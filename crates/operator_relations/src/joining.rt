@@ -15,7 +15,8 @@ use trans_merge::merge;
 use transitions::Relation;
 use var_order::Order;
 
-/// The relations of the operators that have the cost, joined by halves as long as a joined one has at most `bound` nodes.
+/// The relations of the operators that have the cost, joined by halves as long as a joined one has at most `bound`
+/// nodes.
 fn joined_of_cost(
     alloc: Global,
     task: &Task,
@@ -36,7 +37,8 @@ fn joined_of_cost(
     merge(alloc, order, ops, members, bound)
 }
 
-/// The joined relations of all costs, cost by cost, and for each cost the place where its relations start, and last their number.
+/// The joined relations of all costs, cost by cost, and for each cost the place where its relations start, and last
+/// their number.
 pub fn joined_by_cost(
     alloc: Global,
     task: &Task,

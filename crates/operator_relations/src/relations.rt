@@ -25,7 +25,8 @@ use symk_task::{Memory, Task};
 use transitions::{Relation, image, preimage};
 use var_order::Order;
 
-/// The relations of a task's operators: that of each operator by itself, and those of each cost, joined up to a bound of nodes.
+/// Transition relations of a task's operators: that of each operator by itself, and those of each cost, joined up to
+/// a bound of nodes.
 #[derive(Drop)]
 pub struct OperatorRelations {
     /// The different costs of the operators, rising.
@@ -39,10 +40,10 @@ pub struct OperatorRelations {
 }
 
 impl OperatorRelations {
-    /// The relations of the task's operators. Relations of one cost are joined by halves, in the order of the operators: what comes
-    /// of the first half stands before what comes of the second, but where each half comes to one relation and both joined
-    /// have at most `bound` nodes, those counted that the root reaches, without the constants, the joined one stands for all.
-    /// Relations of different costs are never joined.
+    /// The relations of the task's operators. Relations of one cost are joined by halves, in the order of the
+    /// operators: what comes of the first half stands before what comes of the second, but where each half comes to
+    /// one relation and both joined have at most `bound` nodes, those counted that the root reaches, without the
+    /// constants, the joined one stands for all. Relations of different costs are never joined.
     pub fn of(
         alloc: Global,
         task: &Task,
@@ -99,7 +100,7 @@ impl OperatorRelations {
         &self.joined[start..end]
     }
 
-    /// The states to which the operator leads from members of the set.
+    /// Image by one operator: the states to which it leads from members of the set.
     pub fn image_op(&self, ops: &mut Ops, op: u32, set: Id) -> Result<Id, TableFault>
         requires op { op < length self.now.single.items }
         requires set { set < length ops.old }
@@ -113,7 +114,7 @@ impl OperatorRelations {
         image(ops, &self.single[op as usize], set)
     }
 
-    /// The states from which the operator leads to members of the set.
+    /// Preimage by one operator: the states from which it leads to members of the set.
     pub fn pre_op(&self, ops: &mut Ops, op: u32, set: Id) -> Result<Id, TableFault>
         requires op { op < length self.now.single.items }
         requires set { set < length ops.old }
@@ -127,7 +128,8 @@ impl OperatorRelations {
         preimage(ops, &self.single[op as usize], set)
     }
 
-    /// The states to which operators of the cost lead from members of the set: none if no operator has this cost.
+    /// Image by all operators of one cost: the states to which they lead from members of the set: none if no operator
+    /// has this cost.
     pub fn image_cost(&self, ops: &mut Ops, cost: u64, set: Id) -> Result<Id, TableFault>
         requires set { set < length ops.old }
         requires asked { (task : TaskParts) × (o : Layout) × AreAsked task o ops.old self.now set }
@@ -144,7 +146,8 @@ impl OperatorRelations {
         }
     }
 
-    /// The states from which operators of the cost lead to members of the set: none if no operator has this cost.
+    /// Preimage by all operators of one cost: the states from which they lead to members of the set: none if no
+    /// operator has this cost.
     pub fn pre_cost(&self, ops: &mut Ops, cost: u64, set: Id) -> Result<Id, TableFault>
         requires set { set < length ops.old }
         requires asked { (task : TaskParts) × (o : Layout) × AreAsked task o ops.old self.now set }
@@ -168,8 +171,8 @@ impl OperatorRelations {
         self.single.len() + self.joined.len()
     }
 
-    /// Puts all roots behind those in the list: first those of the operators' own relations, then those of the joined ones. A
-    /// refused call leaves some of them there.
+    /// Puts all roots behind those in the list: first those of the operators' own relations, then those of the joined
+    /// ones. A refused call leaves some of them there.
     pub fn push_roots(&self, roots: &mut Vec<Id>) -> Result<(), Memory>
         ensures pushed { OnOk result (roots.new.items ≡ roots.old.items ++ roots_of self.now) }
         ensures known { (task : TaskParts) (o : Layout) (nodes : List Node) → AreRelationsOf task o nodes self.now
@@ -180,8 +183,8 @@ impl OperatorRelations {
         push_roots(&self.joined, roots)
     }
 
-    /// Takes as many roots from the list as `roots` counts, from the place on, in the order in which `push_roots` puts them. After
-    /// a collection that moved them these are the relations that they were.
+    /// Takes as many roots from the list as `roots` counts, from the place on, in the order in which `push_roots`
+    /// puts them. After a collection that moved them these are the relations that they were.
     pub fn take_roots(&mut self, roots: &[Id], from: usize)
         requires { from + length (roots_of self.old) ≤ length roots.now }
         ensures taken { roots_of self.new ≡ slice_range roots.now from (from + length (roots_of self.old)) }

@@ -1,5 +1,5 @@
-//! Worked rows: a variable of three values, and operators round it. Two of cost 1 lead from the first value to the second and
-//! from there to the third, and one of cost 2 leads back to the first.
+//! Worked rows: a variable of three values, and operators round it. Two of cost 1 lead from the first value to the
+//! second and from there to the third, and one of cost 2 leads back to the first.
 
 ghost use Rattle.std.specs.Prelude.{◌≡◌, ◌<◌, length, IfOk, OnOk};
 ghost use Rattle.bdd_table.specs.Diagram.{means, Keeps};

@@ -47,8 +47,8 @@ pub enum Checked {
 }
 
 /// Whether the blocks are plans of the mode, no two counting as one, by rising cost, and each printed as its plan is.
-/// Where they aren't, the first block that fails, and of the reasons in the order of `Why` the first that is true of it.
-/// It says nothing of plans that aren't among the blocks.
+/// Where they aren't, the first block that fails, and of the reasons in the order of `Why` the first that is true of
+/// it. It says nothing of plans that aren't among the blocks.
 pub fn check_list(
     alloc: Global,
     task: &Task,

@@ -20,7 +20,8 @@ use thiserror::Error;
 /// Why a plan text is not read.
 #[derive(Clone, Copy, Debug, PartialEq, Eq, Drop, Error)]
 pub enum PlansFault {
-    /// No plan text goes on so at this line, counted from 1; where the text ends within a block, it is the line after the last.
+    /// No plan text goes on so at this line, counted from 1; where the text ends within a block, it is the line after
+    /// the last.
     #[error("no plan text goes on so at line {line}")]
     Offence { line: u64 },
     /// Want of memory.

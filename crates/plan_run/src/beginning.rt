@@ -36,8 +36,8 @@ fn kept_to<S: Space>(
     Ok(Some(kept))
 }
 
-/// All plans of the task, which grow from the middle outwards, up to a greatest cost where there is one, searched for as is
-/// asked. The space is of the task and has no valid set.
+/// All plans of the task, which grow from the middle outwards, up to a greatest cost where there is one, searched for
+/// as is asked. The space is of the task and has no valid set.
 pub fn top_plans<S: Space + Drop>(
     alloc: Global,
     task: &Task,

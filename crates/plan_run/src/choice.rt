@@ -8,7 +8,8 @@ const PATIENCE: u32 = 1000;
 
 /// A choice by which no side waits for ever: one type for all directions, so that there is one engine.
 ///
-/// A light side, or one that is known below a low cost, could go on cost by cost for ever where the other would soon be shut.
+/// A light side, or one that is known below a low cost, could go on cost by cost for ever where the other would soon
+/// be shut.
 #[derive(Clone, Copy, Debug)]
 pub struct Patient {
     choice: Choice,

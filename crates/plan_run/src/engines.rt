@@ -21,8 +21,8 @@ use std::alloc::Global;
 use symk_io::Sink;
 use symk_task::{Mode, Task};
 
-/// Lists as many plans of the task in the mode as are wanted, up to a greatest cost where there is one, searched for as is
-/// asked, and after an earlier list, which is empty where none is gone on from.
+/// Lists as many plans of the task in the mode as are wanted, up to a greatest cost where there is one, searched for
+/// as is asked, and after an earlier list, which is empty where none is gone on from.
 ///
 /// Where the earlier list misses a plan, nothing is listed, and the text says what the cheapest such plan costs.
 pub fn list_found<K: Sink>(

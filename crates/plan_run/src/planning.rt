@@ -20,11 +20,13 @@ use symk_io::{Sink, put};
 use symk_task::{Memory, Plan, Task};
 use symk_text::{Text, push_bytes, push_number};
 
-/// Lists as many plans as are wanted of an engine that owes the rest of an earlier list, up to a greatest cost where there is
-/// one: each block is put before the next plan is asked for, and then the line that says why the list ends. After the last plan
-/// that is wanted nothing is asked for but the one that is looked for where that is wanted too; it is not put.
+/// Lists as many plans as are wanted of an engine that owes the rest of an earlier list, up to a greatest cost where
+/// there is one: each block is put before the next plan is asked for, and then the line that says why the list ends.
+/// After the last plan that is wanted nothing is asked for but the one that is looked for where that is wanted too;
+/// it is not put.
 ///
-/// The first plan tells whether the earlier list misses one: it is then cheaper than the last of that list, and a cheapest.
+/// The first plan tells whether the earlier list misses one: it is then cheaper than the last of that list, and a
+/// cheapest.
 pub fn list_plans<I: LazyPlans + Drop, K: Sink>(
     alloc: Global,
     task: &Task,

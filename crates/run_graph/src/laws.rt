@@ -12,7 +12,8 @@ pub fn settled_layers_are_right()
     ensures { SettledLayersAreRight }
 {}
 
-/// A layer that begins where arcs lead from the cheaper ones, and goes on by arcs of cost 0, settles the least open cost.
+/// A layer that begins where arcs lead from the cheaper ones, and goes on by arcs of cost 0, settles the least open
+/// cost.
 pub fn one_more_cost_is_settled()
     ensures { OneMoreCostIsSettled }
 {}

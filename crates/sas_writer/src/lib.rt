@@ -1,11 +1,11 @@
 //! Writes a task as a task file.
 //!
 //! `write_task` gives the one canonical spelling of a task: each line ended by LF, one space between two numbers, no
-//! leading zeros, no blank lines. What it writes is `task_text` in `specs/`, line by line, and its lines are those of a
-//! file of the task, so that `sas_reader` reads an equal task. A name that ends with CR gets a second CR, so that it is
-//! read back whole, and an operator's cost is the stated one, whatever the metric says.
-//! It stands on `symk_text` for texts that grow, on `symk_task` for the task, and on `sas_reader` and `line_grammar` for
-//! what a task file is.
+//! leading zeros, no blank lines. What it writes is `task_text` in `specs/`, line by line, and its lines are those of
+//! a file of the task, so that `sas_reader` reads an equal task. A name that ends with CR gets a second CR, so that
+//! it is read back whole, and an operator's cost is the stated one, whatever the metric says. It stands on
+//! `symk_text` for texts that grow, on `symk_task` for the task, and on `sas_reader` and `line_grammar` for what a
+//! task file is.
 #![tactic(auto)]
 
 mod facts;

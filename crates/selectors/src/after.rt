@@ -27,8 +27,8 @@ fn sort_into(room: &mut Vec<u32>, operators: &[u32])
     room.sort_unstable();
 }
 
-/// Whether the plan counts as one with a plan that has one of the keys. No memory is taken: the room holds the longest key,
-/// and a plan that is longer counts as one with none.
+/// Whether the plan counts as one with a plan that has one of the keys. No memory is taken: the room holds the
+/// longest key, and a plan that is longer counts as one with none.
 fn is_listed(mode: Mode, keys: &Keys, room: &mut Vec<u32>, plan: &Plan) -> bool
     requires keyed { All (λ key. (p : List ℕ) × IsKey mode p key) keys.now }
     requires short { All (λ key. length key ≤ vec_capacity room.old) keys.now }

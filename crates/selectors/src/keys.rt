@@ -51,8 +51,8 @@ impl Keys {
     }
 }
 
-/// The key of a plan: its operators, in rising order by `Unordered`. Two plans count as one by the mode exactly where their
-/// keys are equal.
+/// The key of a plan: its operators, in rising order by `Unordered`. Two plans count as one by the mode exactly where
+/// their keys are equal.
 pub fn key_of(alloc: Global, mode: Mode, plan: &Plan) -> Result<Vec<u32>, Memory>
     ensures { IfOk result (λ key. IsKey mode plan.now key.items) }
 {

@@ -1,9 +1,10 @@
 //! Selectors: what is taken of the plans of any engine.
 //!
-//! `Unordered` gives the first plan of each class of rearrangements, and `After` the plans that an earlier list lacks; both
-//! keep the law of an engine, so what is proved of lists of plans given holds of theirs. `Limited` is an iterator over the
-//! first plans of an engine, which asks nothing after the last that is wanted. They stand on `lazy_plans` for the law, on
-//! `selector_laws` for what a draw from the engine below does to it, and on `indexmap` for the sets of keys.
+//! `Unordered` gives the first plan of each class of rearrangements, and `After` the plans that an earlier list
+//! lacks; both keep the law of an engine, so what is proved of lists of plans given holds of theirs. `Limited` is an
+//! iterator over the first plans of an engine, which asks nothing after the last that is wanted. They stand on
+//! `lazy_plans` for the law, on `selector_laws` for what a draw from the engine below does to it, and on `indexmap`
+//! for the sets of keys.
 #![tactic(auto)]
 
 mod after;

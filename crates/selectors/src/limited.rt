@@ -11,8 +11,9 @@ use std::marker::Model;
 
 /// The first `k` plans of an engine, or as many as it has.
 ///
-/// An iterator: each call asks the engine once, with a count of its own for the turns, and gives its plan or its `Stop`. It
-/// gives nothing once `k` plans were given, or the engine has stopped or has none left, and asks nothing then.
+/// An iterator: each call asks the engine once, with a count of its own for the turns, and gives its plan or its
+/// `Stop`. It gives nothing once `k` plans were given, or the engine has stopped or has none left, and asks nothing
+/// then.
 #[derive(Drop)]
 pub struct Limited<I> {
     inner: I,

@@ -23,7 +23,7 @@ fn child_at(table: &Table, id: Id, level: u32, bit: bool) -> Id
     }
 }
 
-/// What is left of the diagram where the bits of the block spell the value.
+/// Cofactor: what is left of the diagram where the bits of the block spell the value.
 pub fn follow(table: &Table, root: Id, block: Block, value: u32) -> Id
     requires root { root < length table.now }
     requires width { block.width ≤ 32 }

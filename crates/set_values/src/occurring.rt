@@ -85,9 +85,9 @@ fn walk(
 }
 
 impl Occurring {
-    /// The values that the variables have in states of the set. The walk goes variable by variable, in the order of the
-    /// bits, and follows the bits of each value from each Id that is left below the variables before. So it takes room in
-    /// proportion to the nodes of the set, and time in proportion to these times the values of a variable.
+    /// The values that the variables have in states of the set. The walk goes variable by variable, in the order of
+    /// the bits, and follows the bits of each value from each Id that is left below the variables before. So it takes
+    /// room in proportion to the nodes of the set, and time in proportion to these times the values of a variable.
     pub fn of(alloc: Global, table: &Table, order: &Order, set: Id) -> Result<Occurring, Memory>
         requires { set < length table.now }
         ensures { IfOk result (AreOccurring order.now table.now set) }

@@ -56,8 +56,8 @@ fn add_given(facts: &mut List<Fact>, effect: &Effect) -> Result<(), Memory>
     Ok(())
 }
 
-/// Adds the value that the effect gives, if it is the last on its variable and has no conditions. The variables of later
-/// effects are given.
+/// Adds the value that the effect gives, if it is the last on its variable and has no conditions. The variables of
+/// later effects are given.
 fn add_last(
     facts: &mut List<Fact>,
     later: &mut BTreeSet<u32>,

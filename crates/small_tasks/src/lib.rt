@@ -1,7 +1,7 @@
 //! Small tasks, for tests.
 //!
-//! Each call makes the task that its definition in `specs/Tasks.antt` states, and it fits. The files of the same names under
-//! `examples/` state the same tasks. It stands on `symk_task`.
+//! Each call makes the task that its definition in `specs/Tasks.antt` states, and it fits. The files of the same
+//! names under `examples/` state the same tasks. It stands on `symk_task`.
 #![tactic(auto)]
 
 mod parts;

@@ -13,8 +13,8 @@ use std::alloc::Global;
 use symk_io::Sink;
 use symk_task::{List, Memory, Mode, Task};
 
-/// Lists as many plans of the task in the mode as are wanted after those of the blocks, where each of these is good; else puts
-/// the verdict on them. Where they miss a plan, the text says what the cheapest such plan costs.
+/// Lists as many plans of the task in the mode as are wanted after those of the blocks, where each of these is good;
+/// else puts the verdict on them. Where they miss a plan, the text says what the cheapest such plan costs.
 pub fn go_on<K: Sink>(
     alloc: Global,
     task: &Task,

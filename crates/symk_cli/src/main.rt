@@ -1,10 +1,11 @@
 //! The planner: words, files and a sink in, plans, a verdict or a certificate and a status out.
 //!
-//! `run` is the whole program over any files and any sink: it opens at most the files that the words name, in their order, and
-//! puts each block, the line that ends a list and every other text as one piece, with one flush. `main` makes those of the
-//! system, calls it and ends with its status. Plans come from an engine of lazy plans over decision diagrams, and whichever it
-//! is, a list is right by the law of such engines alone. It stands on `plan_run`, which lists them, on `cert_run`, which writes and
-//! checks certificates that no plan exists, and on the crates of words, files and texts.
+//! `run` is the whole program over any files and any sink: it opens at most the files that the words name, in their
+//! order, and puts each block, the line that ends a list and every other text as one piece, with one flush. `main`
+//! makes those of the system, calls it and ends with its status. Plans come from an engine of lazy plans over
+//! decision diagrams, and whichever it is, a list is right by the law of such engines alone. It stands on `plan_run`,
+//! which lists them, on `cert_run`, which writes and checks certificates that no plan exists, and on the crates of
+//! words, files and texts.
 #![tactic(auto)]
 
 mod checking;

@@ -28,12 +28,13 @@ use symk_words::{WordsFault, read_words};
 pub const USAGE: &[u8] =
     b"usage: symk plan FILE --k K [--mode topk|loopless|unordered] [--search auto|forward|backward|bidirectional] [--more] [--bound Q | --quality P] [--after PLANS] [--mutex]\n       symk check FILE PLANS [--mode topk|loopless|unordered]\n       symk demo N\n       symk prove FILE\n       symk refute FILE CERT\n";
 
-/// Answers the words: lists the plans of a task, checks a list of plans, shows a task that is made from a number, or writes or
-/// checks a certificate that a task has no plan.
+/// Answers the words: lists the plans of a task, checks a list of plans, shows a task that is made from a number, or
+/// writes or checks a certificate that a task has no plan.
 ///
-/// The first word is the program's name and isn't looked at. What is read comes from `files`, and every byte goes to `sink`,
-/// each block of a plan as one piece, which is flushed before the next plan is asked for. A refusal writes its text, as one
-/// piece, and nothing else; want of memory and a fault of the sink end the run where they come, and nothing more is written then.
+/// The first word is the program's name and isn't looked at. What is read comes from `files`, and every byte goes to
+/// `sink`, each block of a plan as one piece, which is flushed before the next plan is asked for. A refusal writes
+/// its text, as one piece, and nothing else; want of memory and a fault of the sink end the run where they come, and
+/// nothing more is written then.
 pub fn run<F: Files, K: Sink>(
     alloc: Global,
     words: &[String],

@@ -9,9 +9,9 @@ use std::alloc::Global;
 
 /// Files that are found by name and read from front to end, one at a time.
 ///
-/// They may tell their texts, and then they also tell what is left of the file opened last and the names that `open_file`
-/// answered `Ok` or `Failed` for, in order. No call changes the texts, or whether they are told.
-/// `Failed` comes only where `faults` rose in that call, or stood at the last `u64`; no other answer moves `faults`.
+/// They may tell their texts, and then they also tell what is left of the file opened last and the names that
+/// `open_file` answered `Ok` or `Failed` for, in order. No call changes the texts, or whether they are told. `Failed`
+/// comes only where `faults` rose in that call, or stood at the last `u64`; no other answer moves `faults`.
 pub trait Files {
     /// The texts, where they are told, and how often a call has failed.
     ghost view: { Self → FilesView };
@@ -21,8 +21,9 @@ pub trait Files {
         ensures told { Tells (Opens name.now result) (view self.old).told (view self.new).told }
         ensures cause { HasCause (view self.old).faults (view self.new).faults result };
 
-    /// Reads from the front of what is left, and answers how many bytes stand at the front of `buf`: at least one while
-    /// something is left and `buf` isn't empty. Before any `open_file` nothing is left. After an error nothing was given.
+    /// Reads from the front of what is left, and answers how many bytes stand at the front of `buf`: at least one
+    /// while something is left and `buf` isn't empty. Before any `open_file` nothing is left. After an error nothing
+    /// was given.
     fn read(&mut self, buf: &mut [u8]) -> Result<usize, IoFault>
         ensures bound { IfOk result (λ n. n ≤ length buf.new) }
         ensures told { Tells (Reads buf.new result) (view self.old).told (view self.new).told }
@@ -35,7 +36,8 @@ pub trait Files {
 
 /// Opens the file of that name and reads it to its end, of at most `limit` bytes.
 ///
-/// It is `TooLong` where more than `limit` bytes came, whatever comes after them, and `Unreadable` only where a call failed.
+/// It is `TooLong` where more than `limit` bytes came, whatever comes after them, and `Unreadable` only where a call
+/// failed.
 pub fn read_all<F: Files>(
     alloc: Global,
     files: &mut F,

@@ -81,8 +81,8 @@ impl<R: System + Drop> Files for HostFiles<R> {
     }
 }
 
-/// A writer of the system, as standard output. It tells nothing of its bytes and flushes: no clause says which reach the
-/// system.
+/// A writer of the system, as standard output. It tells nothing of its bytes and flushes: no clause says which reach
+/// the system.
 ///
 /// Each failure of the writer is counted, but for want of memory; to take nothing of a piece is a failure.
 #[derive(Drop)]

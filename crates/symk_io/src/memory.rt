@@ -49,8 +49,8 @@ impl Failing {
 
 /// Files in memory, which tell all their texts and fail at the calls that they are told to.
 ///
-/// Calls of `open_file` and `read` are counted together from 1, whatever they answer; a call whose number is listed fails.
-/// Besides, `open_file` fails for a name that isn't there. Each failure raises `faults` by one.
+/// Calls of `open_file` and `read` are counted together from 1, whatever they answer; a call whose number is listed
+/// fails. Besides, `open_file` fails for a name that isn't there. Each failure raises `faults` by one.
 #[derive(Drop)]
 pub struct MemFiles {
     shelf: Shelf,
@@ -122,9 +122,9 @@ impl Files for MemFiles {
 
 /// A sink in memory, which tells the bytes that it took and its flushes, and fails at the calls that it is told to.
 ///
-/// Calls of `write` and `flush` are counted together from 1, whatever they answer; a call whose number is listed fails,
-/// takes nothing and raises `faults` by one. Any other `write` takes as much as it may, or finds no memory; any other `flush` goes
-/// well, or finds none to be counted, past the last `u64`.
+/// Calls of `write` and `flush` are counted together from 1, whatever they answer; a call whose number is listed
+/// fails, takes nothing and raises `faults` by one. Any other `write` takes as much as it may, or finds no memory;
+/// any other `flush` goes well, or finds none to be counted, past the last `u64`.
 #[derive(Drop)]
 pub struct MemSink {
     bytes: Vec<u8>,
@@ -137,8 +137,8 @@ pub struct MemSink {
 impl MemSink {
     ghost use Rattle.symk_io.specs.MemView.{sink_view};
 
-    /// A sink that has taken nothing, the numbers of the calls that fail, in any order, and the greatest number of bytes
-    /// that a `write` takes, at least 1 (0 counts as 1).
+    /// A sink that has taken nothing, the numbers of the calls that fail, in any order, and the greatest number of
+    /// bytes that a `write` takes, at least 1 (0 counts as 1).
     pub fn new(alloc: Global, failing: Vec<u64>, most: usize) -> MemSink
         ensures start { sink_view result ≡ record { taken = Some []; flushed = Some 0; flushes = Some 0; faults = 0 } }
         ensures calls { HasMade failing.items 0 result.failing }

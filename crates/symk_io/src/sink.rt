@@ -7,16 +7,16 @@ use crate::IoFault;
 
 /// A place for bytes.
 ///
-/// It may tell the bytes that it took so far, and how many flushes went well; no call changes whether it does. `Failed` comes
-/// only where `faults` rose in that call, or stood at the last `u64`; no other answer moves `faults`. After an error the call
-/// took nothing, and no flush went well in it.
+/// It may tell the bytes that it took so far, and how many flushes went well; no call changes whether it does.
+/// `Failed` comes only where `faults` rose in that call, or stood at the last `u64`; no other answer moves `faults`.
+/// After an error the call took nothing, and no flush went well in it.
 pub trait Sink {
-    /// The bytes taken, how many of them were flushed, and in how many flushes, where they are told, and how often a call has
-    /// failed.
+    /// The bytes taken, how many of them were flushed, and in how many flushes, where they are told, and how often a
+    /// call has failed.
     ghost view: { Self → SinkView };
 
-    /// Takes at least one byte from the front of a piece that isn't empty, and answers how many it took. A sink that takes
-    /// none answers `Failed`.
+    /// Takes at least one byte from the front of a piece that isn't empty, and answers how many it took. A sink that
+    /// takes none answers `Failed`.
     fn write(&mut self, piece: &[u8]) -> Result<usize, IoFault>
         requires { 0 < length piece.now }
         ensures some { IfOk result (λ n. 1 ≤ n) }
@@ -41,8 +41,8 @@ pub trait Sink {
 
 /// Writes the whole piece, in as many calls as the sink needs, and then flushes once; an empty piece is only flushed.
 ///
-/// After an error the sink took a front of the piece and no flush went well, and it wasn't written to again. `put` itself takes
-/// no memory.
+/// After an error the sink took a front of the piece and no flush went well, and it wasn't written to again. `put`
+/// itself takes no memory.
 pub fn put<K: Sink>(sink: &mut K, piece: &[u8]) -> Result<(), IoFault>
     ensures ok { OnOk result (Tells (Grew piece.now) (K.view sink.old).taken (K.view sink.new).taken) }
     ensures err { OnErr result (Tells (GrewByPart piece.now) (K.view sink.old).taken (K.view sink.new).taken) }

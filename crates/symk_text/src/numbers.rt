@@ -8,9 +8,9 @@ ghost use Rattle.symk_text.specs.Numbers.{number_at, value_of};
 /// The most digits that a number has.
 const MOST_DIGITS: usize = 20;
 
-/// The number that begins at a place of a line, and the place after it: the longest run of digits there, of 1 to 20 digits
-/// and a value below 2^64. None where the run is empty or longer, or its value is larger; also where the place is past
-/// the end.
+/// The number that begins at a place of a line, and the place after it: the longest run of digits there, of 1 to 20
+/// digits and a value below 2^64. None where the run is empty or longer, or its value is larger; also where the place
+/// is past the end.
 pub fn number(line: &[u8], start: usize) -> Option<(u64, usize)>
     ensures { result ≡ number_at line.now start }
 {

@@ -1,10 +1,11 @@
 //! The words of the command line, read by `clap`.
 //!
-//! `read_words` gives what the words ask for as texts: a number or a mode is still a text here, and may be no such thing.
-//! It promises that these are the texts that `clap`, by its own definitions, gives for the command `plan`, `check`, `demo`,
-//! `prove` or `refute`, and that the words are refused only where there are none. `lawful_words` says for each lawful form which texts those are.
-//! The first word is the program's name and isn't looked at. There is no help and no version.
-//! It stands on `clap` alone, and by itself, since each crate that calls `clap` takes long to prove.
+//! `read_words` gives what the words ask for as texts: a number or a mode is still a text here, and may be no such
+//! thing. It promises that these are the texts that `clap`, by its own definitions, gives for the command `plan`,
+//! `check`, `demo`, `prove` or `refute`, and that the words are refused only where there are none. `lawful_words`
+//! says for each lawful form which texts those are. The first word is the program's name and isn't looked at. There
+//! is no help and no version. It stands on `clap` alone, and by itself, since each crate that calls `clap` takes long
+//! to prove.
 #![tactic(auto)]
 
 ghost use Rattle.std.specs.Prelude.{◌≡◌, IfOk, IsErrOf, Some, None, false, map, option_map, string_bytes};
@@ -285,8 +286,8 @@ fn asked_of<'a>(matches: &ArgMatches<'a>) -> Option<Asked<'a>>
     }
 }
 
-/// Reads the words, of which the first is the program's name: one subcommand with its texts in their places and its options,
-/// each at most once, in any order, with one value, also as `--k=3`, or with none.
+/// Reads the words, of which the first is the program's name: one subcommand with its texts in their places and its
+/// options, each at most once, in any order, with one value, also as `--k=3`, or with none.
 ///
 /// It is `Usage` only where `clap`'s definitions give no texts for the words.
 pub fn read_words<'a>(alloc: Global, words: &'a [String]) -> Result<Asked<'a>, WordsFault>
@@ -313,8 +314,8 @@ pub fn read_words<'a>(alloc: Global, words: &'a [String]) -> Result<Asked<'a>, W
 
 /// Lawful words give their texts: a law, with nothing to run.
 ///
-/// They have the program's name, the subcommand, the texts in their places, and the options in the order of the usage text.
-/// No text of theirs is empty or begins with `-`.
+/// They have the program's name, the subcommand, the texts in their places, and the options in the order of the usage
+/// text. No text of theirs is empty or begins with `-`.
 pub fn lawful_words()
     ensures plan { (prog : Text) (t : PlanTexts) → ArePlain t → texts_asked (plan_words prog t) ≡ Some (plan t) }
     ensures check { (prog F P : Text) (mode : Option Text) → Plain F → Plain P → PlainIfSome mode

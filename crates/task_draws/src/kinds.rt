@@ -144,8 +144,8 @@ impl Kinds {
         Ok(List::of(facts))
     }
 
-    /// What a rule for this layer may have among its conditions: any fact of a base variable or of a lower layer, and of its own
-    /// layer that a variable has its other value.
+    /// What a rule for this layer may have among its conditions: any fact of a base variable or of a lower layer, and
+    /// of its own layer that a variable has its other value.
     pub fn drawn_condition(&self, random: &mut Random, layer: u32) -> Fact {
         let (var, kind) = self.drawn_any(random);
         let val = random.below(kind.values);

@@ -1,8 +1,8 @@
 //! Small tasks that a seed draws, for tests.
 //!
-//! `random_task` draws a task of at most 7 variables and 6 operators, with derived variables, rules and effects that have
-//! conditions, and `Random` is the stream of numbers that it draws by: equal seeds give equal tasks. That a seed draws a task at
-//! all is no promise. It is no part of the planner, and stands on `symk_task` alone.
+//! `random_task` draws a task of at most 7 variables and 6 operators, with derived variables, rules and effects that
+//! have conditions, and `Random` is the stream of numbers that it draws by: equal seeds give equal tasks. That a seed
+//! draws a task at all is no promise. It is no part of the planner, and stands on `symk_task` alone.
 #![tactic(auto)]
 
 mod kinds;

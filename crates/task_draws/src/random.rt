@@ -5,8 +5,8 @@ ghost use Rattle.task_draws.specs.Random.{mixed, after};
 
 /// The stream of numbers of a seed.
 ///
-/// It is the generator of Steele, Lea and Flood, "Fast Splittable Pseudorandom Number Generators" (2014): the state goes on by
-/// an odd number, and each number drawn is the state, mixed. Equal seeds give equal numbers.
+/// It is the generator of Steele, Lea and Flood, "Fast Splittable Pseudorandom Number Generators" (2014): the state
+/// goes on by an odd number, and each number drawn is the state, mixed. Equal seeds give equal numbers.
 #[derive(Clone, Copy, Debug, PartialEq, Eq)]
 pub struct Random {
     pub state: u64,

@@ -8,8 +8,8 @@ use crate::random::Random;
 use std::alloc::Global;
 use symk_task::{Effect, Fact, List, Memory, Name, Operator, Rule, Task, TaskParts};
 
-/// A task that the seed draws: 2 to 4 base variables of 2 or 3 values, up to 3 derived ones with rules, and 1 to 6 operators of
-/// costs 0 to 3, some of whose effects have conditions. None where what was drawn is no task.
+/// A task that the seed draws: 2 to 4 base variables of 2 or 3 values, up to 3 derived ones with rules, and 1 to 6
+/// operators of costs 0 to 3, some of whose effects have conditions. None where what was drawn is no task.
 pub fn random_task(alloc: Global, seed: u64) -> Result<Option<Task>, Memory>
     ensures { IfOk result (λ found. IfSome found IsSmall) }
 {

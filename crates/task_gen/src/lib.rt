@@ -1,8 +1,8 @@
 //! Tasks that are made, not read.
 //!
-//! `switches(n)` is the task of n switches that are all to be on: an operator for each flips it, and one rule says that all
-//! are on. Its plans are the lists in which each operator stands an odd number of times. It is exactly the task that
-//! `specs/Switches.antt` states, and it fits. It stands on `symk_task`.
+//! `switches(n)` is the task of n switches that are all to be on: an operator for each flips it, and one rule says
+//! that all are on. Its plans are the lists in which each operator stands an odd number of times. It is exactly the
+//! task that `specs/Switches.antt` states, and it fits. It stands on `symk_task`.
 #![tactic(auto)]
 
 mod parts;

@@ -12,7 +12,7 @@ use crate::work::Work;
 use std::alloc::Global;
 use symk_task::{Memory, State, Task};
 
-/// The value of each variable in the state, where the task's rules are known.
+/// Axiom evaluation, the value of each variable in the state, where the task's rules are known.
 pub fn closed_by(alloc: Global, task: &Task, rules: &Rules, state: &State) -> Result<Closed, Memory>
     requires rules { AreRulesOf task.now rules.now }
     requires state { IsState task.now state.now }
@@ -32,7 +32,7 @@ pub fn closed_by(alloc: Global, task: &Task, rules: &Rules, state: &State) -> Re
     Ok(Closed::of(values))
 }
 
-/// The value of each variable in the state.
+/// Axiom evaluation: the value of each variable in the state.
 pub fn closed(alloc: Global, task: &Task, state: &State) -> Result<Closed, Memory>
     requires { IsState task.now state.now }
     ensures { IfOk result (Valued task.now state.now) }

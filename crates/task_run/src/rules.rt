@@ -7,7 +7,7 @@ use std::alloc::Global;
 use std::marker::Model;
 use symk_task::{Memory, Task};
 
-/// The rules of a task that count, from the lowest layer to the highest. A search makes them once.
+/// Axioms: the rules of a task that count, from the lowest layer to the highest. A search makes them once.
 #[derive(Drop)]
 pub struct Rules {
     counting: Vec<Counting>,

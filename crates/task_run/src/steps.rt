@@ -108,7 +108,7 @@ pub fn goal_in(task: &Task, state: &State, values: &Closed) -> bool
     all_have(task.parts().goal.as_slice(), values.as_slice())
 }
 
-/// Whether the operator applies in the state.
+/// Applicability: whether the operator applies in the state.
 pub fn applies(alloc: Global, task: &Task, operator: u32, state: &State) -> Result<bool, Memory>
     requires operator { operator < length task.now.operators }
     requires state { IsState task.now state.now }
@@ -118,7 +118,7 @@ pub fn applies(alloc: Global, task: &Task, operator: u32, state: &State) -> Resu
     Ok(applies_in(task, operator, state, &values))
 }
 
-/// The state that the operator leads to from the state.
+/// Progression: the state that the operator leads to from the state.
 pub fn successor(alloc: Global, task: &Task, operator: u32, state: &State) -> Result<State, Memory>
     requires state { IsState task.now state.now }
     requires applies { Applies task.now state.now operator }

@@ -130,8 +130,8 @@ const SWITCH: Rows = Rows {
     rules: &[],
 };
 
-/// The second of three derived variables follows from the first, which follows from the base variable, and the third, of the
-/// next layer, from the second at its default value.
+/// The second of three derived variables follows from the first, which follows from the base variable, and the third,
+/// of the next layer, from the second at its default value.
 const CHAIN: Rows = Rows {
     layers: &[None, Some(0), Some(0), Some(1)],
     initial: &[0, 0, 0, 0],

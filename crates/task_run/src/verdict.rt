@@ -1,7 +1,7 @@
 //! What a run of a plan comes to.
 
-/// The first number that is no operator's, else the first operator that does not apply, else what the last state says of the
-/// goal. Steps count from 1.
+/// The first number that is no operator's, else the first operator that does not apply, else what the last state says
+/// of the goal. Steps count from 1.
 #[derive(Clone, Copy, Debug, PartialEq, Eq)]
 pub enum Verdict {
     /// The number at this step is no operator's.

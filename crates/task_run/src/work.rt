@@ -9,8 +9,8 @@ use crate::counting::Counting;
 use std::alloc::Global;
 use symk_task::{List, Memory};
 
-/// The rules to look at; for each variable those that wait for it; for each rule the place of the condition at which the last
-/// look stopped.
+/// The rules to look at; for each variable those that wait for it; for each rule the place of the condition at which
+/// the last look stopped.
 #[derive(Drop)]
 pub(crate) struct Work {
     pub stack: Vec<u32>,

@@ -31,8 +31,8 @@ pub fn values_are_the_tasks()
     ensures { (task : TaskParts) (s : State) → Fits task → Valued task s (values_in task s) }
 {}
 
-/// From a state, an operator leads in the system to the state to which it leads in the task, and nowhere where it doesn't
-/// apply.
+/// From a state, an operator leads in the system to the state to which it leads in the task, and nowhere where it
+/// doesn't apply.
 pub fn step_is_the_tasks()
     ensures step { (task : TaskParts) (s : State) (a : ℕ) (t : State) → Fits task → IsState task s →
         ((system_of task).step a s ≡ Some t) ↔ (Applies task s a × After task s a t) }
@@ -46,8 +46,8 @@ pub fn goal_is_the_tasks()
         IsTrue ((system_of task).goal s) ↔ All (Holds task s) task.goal }
 {}
 
-/// The states of the system are those of the task, each listed once. It begins in the initial state, and no operator leads
-/// out of the states.
+/// The states of the system are those of the task, each listed once. It begins in the initial state, and no operator
+/// leads out of the states.
 pub fn states_are_all()
     ensures each { (task : TaskParts) (s : State) → IsState task s ↔ Listed (system_of task).states s }
     ensures once { (task : TaskParts) → AllDifferent (system_of task).states }
@@ -73,8 +73,8 @@ pub fn same_tells_which_count_as_one()
     ensures { (mode : Mode) (p q : List ℕ) → IsTrue (same mode p q) ↔ Same mode p q }
 {}
 
-/// A right list of the system is one of the task, and the other way round. What is right is said once, of whatever counts
-/// as a plan and whatever it costs, and the task's own definition is that one for its plans and costs.
+/// A right list of the system is one of the task, and the other way round. What is right is said once, of whatever
+/// counts as a plan and whatever it costs, and the task's own definition is that one for its plans and costs.
 pub fn right_lists_are_the_tasks()
     ensures right { (task : TaskParts) (mode : Mode) (plans : List (List ℕ)) → Fits task →
         IsRight (system_of task) mode plans ↔ meaning.IsRight task mode plans }
@@ -93,8 +93,8 @@ pub fn right_lists_grow()
         IsRight system mode (plans ++ p ∷ []) }
 {}
 
-/// A list has all plans of the system where it has all of the task, and likewise those whose cost 64 bits hold. A dearer
-/// plan of the one is a dearer plan of the other.
+/// A list has all plans of the system where it has all of the task, and likewise those whose cost 64 bits hold. A
+/// dearer plan of the one is a dearer plan of the other.
 pub fn ends_are_the_tasks()
     ensures all_listed { (task : TaskParts) (mode : Mode) (plans : List (List ℕ)) → Fits task →
         AllListed (system_of task) mode plans ↔ meaning.AllListed task mode plans }

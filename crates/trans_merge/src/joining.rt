@@ -16,7 +16,7 @@ use std::alloc::Global;
 use transitions::Relation;
 use var_order::Order;
 
-/// The steps of either relation: each is widened to the places that the other touches.
+/// Union of two transition relations, the steps of either: each is widened to the places that the other touches.
 pub fn join(
     alloc: Global,
     order: &Order,
@@ -38,7 +38,8 @@ pub fn join(
     Ok(Relation::of(alloc, root, touched)?)
 }
 
-/// The steps of either relation, if the diagram has at most so many nodes; `None` where it has more.
+/// Union of two transition relations, the steps of either, if the diagram has at most so many nodes; `None` where it
+/// has more.
 pub fn join_within(
     alloc: Global,
     order: &Order,

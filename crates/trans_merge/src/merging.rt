@@ -48,7 +48,8 @@ fn one(alloc: Global, relation: Relation) -> Result<Vec<Relation>, TableFault>
     Ok(list)
 }
 
-/// What came of two halves as one list: joined to one relation where that is possible within the bound, else one after the other.
+/// What came of two halves as one list: joined to one relation where that is possible within the bound, else one
+/// after the other.
 fn combine(
     alloc: Global,
     order: &Order,
@@ -73,12 +74,13 @@ fn combine(
     }
 }
 
-/// The relations, joined by halves in their order: what comes of the first half stands before what comes of the second, but
-/// where each half comes to one relation and both joined have at most `bound` nodes, those counted that its root reaches,
-/// without the constants, the joined one stands for all. The steps of a result are those of its members; as each member is in
-/// one result, the images by the results together are those by the members together, and so the preimages (Burch, Clarke and
-/// Long, "Symbolic Model Checking with Partitioned Transition Relations", 1991; for planning, Torralba, Edelkamp and Kissmann,
-/// "Transition Trees for Cost-Optimal Symbolic Planning", 2013). Relations of different costs are not to be merged.
+/// Disjunctive partitioning: the relations, joined by halves in their order: what comes of the first half stands
+/// before what comes of the second, but where each half comes to one relation and both joined have at most `bound`
+/// nodes, those counted that its root reaches, without the constants, the joined one stands for all. The steps of a
+/// result are those of its members; as each member is in one result, the images by the results together are those by
+/// the members together, and so the preimages (Burch, Clarke and Long, "Symbolic Model Checking with Partitioned
+/// Transition Relations", 1991; for planning, Torralba, Edelkamp and Kissmann, "Transition Trees for Cost-Optimal
+/// Symbolic Planning", 2013). Relations of different costs are not to be merged.
 pub fn merge(
     alloc: Global,
     order: &Order,

@@ -21,8 +21,8 @@ fn put(waiting: &mut BTreeSet<Id>, id: Id) -> Result<(), TableFault>
     Ok(())
 }
 
-/// Whether the Id reaches at most so many nodes, itself counted and the constants not. The nodes are visited from the greatest
-/// Id down, so that each is visited once, and no more of them than the bound.
+/// Whether the Id reaches at most so many nodes, itself counted and the constants not. The nodes are visited from the
+/// greatest Id down, so that each is visited once, and no more of them than the bound.
 pub fn is_within(alloc: Global, table: &Table, root: Id, bound: u64) -> Result<bool, TableFault>
     requires { root < length table.now }
     ensures { IfOk result (λ is. IsTrue is ↔ HasAtMost table.now root bound) }

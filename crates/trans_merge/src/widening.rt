@@ -40,8 +40,8 @@ fn stays(ops: &mut Ops, order: &Order, own: &[u32], wide: &[u32]) -> Result<Id, 
     Ok(all)
 }
 
-/// The steps of the diagram, which touch the places `own`, as steps that may touch those of `wide` too: at the places that are
-/// added the bits stay.
+/// The steps of the diagram, which touch the places `own`, as steps that may touch those of `wide` too: at the places
+/// that are added the bits stay.
 pub fn widen(
     ops: &mut Ops,
     order: &Order,

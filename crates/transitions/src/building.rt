@@ -47,9 +47,9 @@ fn steps_of(
     ops.conj(from, next)
 }
 
-/// The steps of an operator: over the bits of the states in which it applies, and the next bits of the variables that its
-/// effects are on. All conditions see the state before the step, and of two effects on one variable the later one stands. The
-/// operator is one of the task's.
+/// Transition relation of an operator, its steps: over the bits of the states in which it applies, and the next bits
+/// of the variables that its effects are on. All conditions see the state before the step, and of two effects on one
+/// variable the later one stands. The operator is one of the task's.
 pub fn relation(
     alloc: Global,
     task: &Task,

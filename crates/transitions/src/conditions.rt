@@ -71,7 +71,7 @@ fn all_allowed(
     Ok(left)
 }
 
-/// The states in which the operator applies.
+/// Precondition as a set: the states in which the operator applies.
 pub fn applies_set(
     task: &Task,
     order: &Order,

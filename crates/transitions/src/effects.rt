@@ -17,7 +17,7 @@ use bdd_table::{Id, TRUE, TableFault};
 use symk_task::{Effect, Fact, Task};
 use var_order::Order;
 
-/// Where the bit of the next state at the place is that of the state.
+/// Frame axiom of a bit: where that of the next state at the place is that of the state.
 pub fn same_bit(ops: &mut Ops, place: u32) -> Result<Id, TableFault>
     requires { place < 2147483647 }
     ensures known { IfOk result (λ id. id < length ops.new) }
@@ -98,7 +98,8 @@ fn with_effect(
     choice(ops, fires, post, asked)
 }
 
-/// Where the next bits of a base variable spell its value after the effects: that of the last that fires, or else its own.
+/// Where the next bits of a base variable spell its value after the effects: that of the last that fires, or else its
+/// own.
 fn next_value(
     task: &Task,
     order: &Order,

@@ -8,7 +8,7 @@ use bdd_table::Id;
 use std::alloc::Global;
 use symk_task::Memory;
 
-/// A set of steps from state to state.
+/// Transition relation: a set of steps from state to state.
 #[derive(Drop)]
 pub struct Relation {
     /// The diagram of the steps: over the levels of the state, and the next levels of the touched places.

@@ -84,8 +84,8 @@ fn operators(alloc: Global, rows: &[EffectRow]) -> Result<List<Operator>, Memory
     Ok(operators)
 }
 
-/// The numbers of values of the variables, the effects of the operator, and the places that it touches. It leads from the
-/// states of the two lists of values to that of one, and to this from those of two.
+/// The numbers of values of the variables, the effects of the operator, and the places that it touches. It leads from
+/// the states of the two lists of values to that of one, and to this from those of two.
 struct Row<'a> {
     counts: &'a [usize],
     effects: &'a [EffectRow<'a>],

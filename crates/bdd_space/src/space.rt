@@ -4,7 +4,7 @@ ghost use Rattle.std.specs.Prelude.{◌≡◌, ◌+◌, ◌*◌, ◌<◌, ◌≤
 ghost use Rattle.symk_task.specs.Variables.{IsBase};
 ghost use Rattle.task_system.specs.System.{Listed};
 ghost use Rattle.space_api.specs.View.{View, Valid, Has, HasMember, IsEmpty, HasSame, GoalIn, FactIn, Unites, Meets, Lacks, Image, CostImage, Preimage, CostPreimage};
-ghost use Rattle.space_api.specs.Frames.{Kept, NoMore, Gives, Forgot, Stays};
+ghost use Rattle.space_api.specs.Frames.{MakesSet, Forgot, Stays};
 ghost use Rattle.space_api.specs.Tidied.{Tidied, SameRoom};
 ghost use Rattle.space_api.specs.Listing.{ListsReached};
 ghost use Rattle.space_api.specs.Costs.{costs_of};

@@ -67,7 +67,7 @@ impl<'a> Model for BddSpace<'a> {
 ghost use Rattle.std.specs.Prelude.{◌≡◌, ◌<◌, ◌↔◌, ℕ, Some, length, IsTrue, IfOk, OnErr};
 ghost use Rattle.task_system.specs.System.{Listed};
 ghost use Rattle.space_api.specs.View.{View, Valid, GoalIn, Unites, Meets, Lacks, Image, CostImage, Preimage, CostPreimage};
-ghost use Rattle.space_api.specs.Frames.{Kept, NoMore, Gives};
+ghost use Rattle.space_api.specs.Frames.{MakesSet};
 ghost use Rattle.bdd_space.specs.Slots.{set_at};
 ghost use Rattle.bdd_space.specs.Members.{has_state, IsKnownSet};
 ghost use Rattle.bdd_space.specs.Symbolic.{Grows, Makes};
@@ -86,12 +86,8 @@ impl<'a> BddSpace<'a> {
     /// A new set.
     pub(crate) fn add(&mut self, id: Id) -> Result<usize, Memory>
         requires { IsKnownSet self.old.order self.old.nodes id }
-        ensures kept { Kept (seen self.old) (seen self.new) }
-        ensures ok { IfOk result (Gives (seen self.old) (seen self.new)
-            (λ s. IsTrue (has_state self.old.order self.old.nodes id s))) }
-        ensures err { OnErr result (NoMore (seen self.old) (seen self.new)) }
-        ensures last { (seen self.new).last ≡ (seen self.old).last }
-        ensures task { self.new.task ≡ self.old.task }
+        ensures { MakesSet (seen self.old) (seen self.new)
+            (λ s. IsTrue (has_state self.old.order self.old.nodes id s)) result }
     {
         self.sets.put(id)
     }

@@ -3,3 +3,4 @@ pub mod Explicit
 pub mod Seen
 pub mod Steps
 pub mod Begun
+pub mod Spent

@@ -32,7 +32,7 @@ ghost use Rattle.symk_task.specs.Variables.{IsBase};
 ghost use Rattle.task_system.specs.System.{Listed};
 ghost use Rattle.task_system.specs.Computed.{system_of};
 ghost use Rattle.space_api.specs.View.{View, Valid, Has, HasMember, IsEmpty, HasSame, GoalIn, FactIn, Unites, Meets, Lacks, Image, CostImage, Preimage, CostPreimage};
-ghost use Rattle.space_api.specs.Frames.{Kept, NoMore, Gives, Forgot};
+ghost use Rattle.space_api.specs.Frames.{MakesSet, Forgot};
 ghost use Rattle.space_api.specs.Listing.{ListsReached};
 ghost use Rattle.space_api.specs.Costs.{costs_of};
 ghost use Rattle.space_api.specs.Operators.{LeadInto, LeadFrom};
@@ -80,10 +80,7 @@ impl<'a> ExplicitSpace<'a> {
     /// A new set of these members.
     fn add(&mut self, members: BTreeSet<State>) -> Result<usize, Memory>
         requires { AreStates self.old.task members }
-        ensures kept { Kept (seen self.old) (seen self.new) }
-        ensures ok { IfOk result (Gives (seen self.old) (seen self.new) (λ s. IsTrue (has_state members s))) }
-        ensures err { OnErr result (NoMore (seen self.old) (seen self.new)) }
-        ensures task { self.new.task ≡ self.old.task }
+        ensures { MakesSet (seen self.old) (seen self.new) (λ s. IsTrue (has_state members s)) result }
     {
         let at = self.sets.len();
         self.sets.push(Some(members))?;

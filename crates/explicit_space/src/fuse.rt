@@ -4,10 +4,11 @@ ghost use Rattle.std.specs.Prelude.{◌≡◌, ◌-◌, ◌<◌, ℕ, IsErr, IfO
 ghost use Rattle.symk_task.specs.Variables.{IsBase};
 ghost use Rattle.task_system.specs.System.{Listed};
 ghost use Rattle.space_api.specs.View.{View, Valid, GoalIn, FactIn, Unites, Meets, Lacks, Image, CostImage, Preimage, CostPreimage};
-ghost use Rattle.space_api.specs.Frames.{Kept, NoMore, Gives, Forgot, Stays};
+ghost use Rattle.space_api.specs.Frames.{MakesSet, Forgot, Stays};
 ghost use Rattle.space_api.specs.Tidied.{Tidied, SameRoom};
 ghost use Rattle.space_api.specs.Listing.{ListsReached};
 ghost use Rattle.space_api.specs.Operators.{LeadInto, LeadFrom};
+ghost use Rattle.explicit_space.specs.Spent.{Spends};
 
 use space_api::{Space, SpaceFault};
 use std::alloc::{AllocError, Global};
@@ -58,13 +59,8 @@ impl<S: Space> Space for FuseSpace<S> {
     ghost of_task = { λ f. S.of_task f.inner };
 
     fn empty(&mut self) -> Result<S::Set, SpaceFault>
-        ensures kept { Kept (S.view self.old.inner) (S.view self.new.inner) }
-        ensures ok { IfOk result (Gives (S.view self.old.inner) (S.view self.new.inner) (λ _. ⊥)) }
-        ensures err { OnErr result (NoMore (S.view self.old.inner) (S.view self.new.inner)) }
-        ensures last { (S.view self.new.inner).last ≡ (S.view self.old.inner).last }
-        ensures task { (S.view self.new.inner).task ≡ (S.view self.old.inner).task }
-        ensures left { self.new.left ≡ self.old.left - 1 }
-        ensures spent { self.old.left ≡ 0 → IsErr result × (self.new.inner ≡ self.old.inner) }
+        ensures makes { MakesSet (S.view self.old.inner) (S.view self.new.inner) (λ _. ⊥) result }
+        ensures spends { Spends self.old.left self.new.left self.old.inner self.new.inner result }
     {
         spend(&mut self.left)?;
         self.inner.empty()
@@ -72,28 +68,18 @@ impl<S: Space> Space for FuseSpace<S> {
 
     fn all(&mut self) -> Result<S::Set, SpaceFault>
         ensures reached { IfOk result (λ _. ListsReached (S.view self.old.inner).system) }
-        ensures kept { Kept (S.view self.old.inner) (S.view self.new.inner) }
-        ensures ok { IfOk result (Gives (S.view self.old.inner) (S.view self.new.inner)
-            (Listed (S.view self.old.inner).system.states)) }
-        ensures err { OnErr result (NoMore (S.view self.old.inner) (S.view self.new.inner)) }
-        ensures last { (S.view self.new.inner).last ≡ (S.view self.old.inner).last }
-        ensures task { (S.view self.new.inner).task ≡ (S.view self.old.inner).task }
-        ensures left { self.new.left ≡ self.old.left - 1 }
-        ensures spent { self.old.left ≡ 0 → IsErr result × (self.new.inner ≡ self.old.inner) }
+        ensures makes { MakesSet (S.view self.old.inner) (S.view self.new.inner)
+            (Listed (S.view self.old.inner).system.states) result }
+        ensures spends { Spends self.old.left self.new.left self.old.inner self.new.inner result }
     {
         spend(&mut self.left)?;
         self.inner.all()
     }
 
     fn init(&mut self) -> Result<S::Set, SpaceFault>
-        ensures kept { Kept (S.view self.old.inner) (S.view self.new.inner) }
-        ensures ok { IfOk result (Gives (S.view self.old.inner) (S.view self.new.inner)
-            (λ s. s ≡ (S.view self.old.inner).system.initial)) }
-        ensures err { OnErr result (NoMore (S.view self.old.inner) (S.view self.new.inner)) }
-        ensures last { (S.view self.new.inner).last ≡ (S.view self.old.inner).last }
-        ensures task { (S.view self.new.inner).task ≡ (S.view self.old.inner).task }
-        ensures left { self.new.left ≡ self.old.left - 1 }
-        ensures spent { self.old.left ≡ 0 → IsErr result × (self.new.inner ≡ self.old.inner) }
+        ensures makes { MakesSet (S.view self.old.inner) (S.view self.new.inner)
+            (λ s. s ≡ (S.view self.old.inner).system.initial) result }
+        ensures spends { Spends self.old.left self.new.left self.old.inner self.new.inner result }
     {
         spend(&mut self.left)?;
         self.inner.init()
@@ -101,14 +87,9 @@ impl<S: Space> Space for FuseSpace<S> {
 
     fn goal_in(&mut self, a: S::Set) -> Result<S::Set, SpaceFault>
         requires { Valid (S.view self.old.inner) a }
-        ensures kept { Kept (S.view self.old.inner) (S.view self.new.inner) }
-        ensures ok { IfOk result (Gives (S.view self.old.inner) (S.view self.new.inner)
-            (GoalIn (S.view self.old.inner) a)) }
-        ensures err { OnErr result (NoMore (S.view self.old.inner) (S.view self.new.inner)) }
-        ensures last { (S.view self.new.inner).last ≡ (S.view self.old.inner).last }
-        ensures task { (S.view self.new.inner).task ≡ (S.view self.old.inner).task }
-        ensures left { self.new.left ≡ self.old.left - 1 }
-        ensures spent { self.old.left ≡ 0 → IsErr result × (self.new.inner ≡ self.old.inner) }
+        ensures makes { MakesSet (S.view self.old.inner) (S.view self.new.inner)
+            (GoalIn (S.view self.old.inner) a) result }
+        ensures spends { Spends self.old.left self.new.left self.old.inner self.new.inner result }
     {
         spend(&mut self.left)?;
         self.inner.goal_in(a)
@@ -117,14 +98,9 @@ impl<S: Space> Space for FuseSpace<S> {
     fn fact_in(&mut self, fact: Fact, a: S::Set) -> Result<S::Set, SpaceFault>
         requires fact { IsBase (S.view self.old.inner).task fact.var }
         requires a { Valid (S.view self.old.inner) a }
-        ensures kept { Kept (S.view self.old.inner) (S.view self.new.inner) }
-        ensures ok { IfOk result (Gives (S.view self.old.inner) (S.view self.new.inner)
-            (FactIn (S.view self.old.inner) fact a)) }
-        ensures err { OnErr result (NoMore (S.view self.old.inner) (S.view self.new.inner)) }
-        ensures last { (S.view self.new.inner).last ≡ (S.view self.old.inner).last }
-        ensures task { (S.view self.new.inner).task ≡ (S.view self.old.inner).task }
-        ensures left { self.new.left ≡ self.old.left - 1 }
-        ensures spent { self.old.left ≡ 0 → IsErr result × (self.new.inner ≡ self.old.inner) }
+        ensures makes { MakesSet (S.view self.old.inner) (S.view self.new.inner)
+            (FactIn (S.view self.old.inner) fact a) result }
+        ensures spends { Spends self.old.left self.new.left self.old.inner self.new.inner result }
     {
         spend(&mut self.left)?;
         self.inner.fact_in(fact, a)
@@ -133,14 +109,9 @@ impl<S: Space> Space for FuseSpace<S> {
     fn unite(&mut self, a: S::Set, b: S::Set) -> Result<S::Set, SpaceFault>
         requires a { Valid (S.view self.old.inner) a }
         requires b { Valid (S.view self.old.inner) b }
-        ensures kept { Kept (S.view self.old.inner) (S.view self.new.inner) }
-        ensures ok { IfOk result (Gives (S.view self.old.inner) (S.view self.new.inner)
-            (Unites (S.view self.old.inner) a b)) }
-        ensures err { OnErr result (NoMore (S.view self.old.inner) (S.view self.new.inner)) }
-        ensures last { (S.view self.new.inner).last ≡ (S.view self.old.inner).last }
-        ensures task { (S.view self.new.inner).task ≡ (S.view self.old.inner).task }
-        ensures left { self.new.left ≡ self.old.left - 1 }
-        ensures spent { self.old.left ≡ 0 → IsErr result × (self.new.inner ≡ self.old.inner) }
+        ensures makes { MakesSet (S.view self.old.inner) (S.view self.new.inner)
+            (Unites (S.view self.old.inner) a b) result }
+        ensures spends { Spends self.old.left self.new.left self.old.inner self.new.inner result }
     {
         spend(&mut self.left)?;
         self.inner.unite(a, b)
@@ -149,14 +120,9 @@ impl<S: Space> Space for FuseSpace<S> {
     fn meet(&mut self, a: S::Set, b: S::Set) -> Result<S::Set, SpaceFault>
         requires a { Valid (S.view self.old.inner) a }
         requires b { Valid (S.view self.old.inner) b }
-        ensures kept { Kept (S.view self.old.inner) (S.view self.new.inner) }
-        ensures ok { IfOk result (Gives (S.view self.old.inner) (S.view self.new.inner)
-            (Meets (S.view self.old.inner) a b)) }
-        ensures err { OnErr result (NoMore (S.view self.old.inner) (S.view self.new.inner)) }
-        ensures last { (S.view self.new.inner).last ≡ (S.view self.old.inner).last }
-        ensures task { (S.view self.new.inner).task ≡ (S.view self.old.inner).task }
-        ensures left { self.new.left ≡ self.old.left - 1 }
-        ensures spent { self.old.left ≡ 0 → IsErr result × (self.new.inner ≡ self.old.inner) }
+        ensures makes { MakesSet (S.view self.old.inner) (S.view self.new.inner)
+            (Meets (S.view self.old.inner) a b) result }
+        ensures spends { Spends self.old.left self.new.left self.old.inner self.new.inner result }
     {
         spend(&mut self.left)?;
         self.inner.meet(a, b)
@@ -165,14 +131,9 @@ impl<S: Space> Space for FuseSpace<S> {
     fn minus(&mut self, a: S::Set, b: S::Set) -> Result<S::Set, SpaceFault>
         requires a { Valid (S.view self.old.inner) a }
         requires b { Valid (S.view self.old.inner) b }
-        ensures kept { Kept (S.view self.old.inner) (S.view self.new.inner) }
-        ensures ok { IfOk result (Gives (S.view self.old.inner) (S.view self.new.inner)
-            (Lacks (S.view self.old.inner) a b)) }
-        ensures err { OnErr result (NoMore (S.view self.old.inner) (S.view self.new.inner)) }
-        ensures last { (S.view self.new.inner).last ≡ (S.view self.old.inner).last }
-        ensures task { (S.view self.new.inner).task ≡ (S.view self.old.inner).task }
-        ensures left { self.new.left ≡ self.old.left - 1 }
-        ensures spent { self.old.left ≡ 0 → IsErr result × (self.new.inner ≡ self.old.inner) }
+        ensures makes { MakesSet (S.view self.old.inner) (S.view self.new.inner)
+            (Lacks (S.view self.old.inner) a b) result }
+        ensures spends { Spends self.old.left self.new.left self.old.inner self.new.inner result }
     {
         spend(&mut self.left)?;
         self.inner.minus(a, b)
@@ -180,14 +141,9 @@ impl<S: Space> Space for FuseSpace<S> {
 
     fn image_cost(&mut self, w: u64, a: S::Set) -> Result<S::Set, SpaceFault>
         requires { Valid (S.view self.old.inner) a }
-        ensures kept { Kept (S.view self.old.inner) (S.view self.new.inner) }
-        ensures ok { IfOk result (Gives (S.view self.old.inner) (S.view self.new.inner)
-            (CostImage (S.view self.old.inner) w a)) }
-        ensures err { OnErr result (NoMore (S.view self.old.inner) (S.view self.new.inner)) }
-        ensures last { (S.view self.new.inner).last ≡ (S.view self.old.inner).last }
-        ensures task { (S.view self.new.inner).task ≡ (S.view self.old.inner).task }
-        ensures left { self.new.left ≡ self.old.left - 1 }
-        ensures spent { self.old.left ≡ 0 → IsErr result × (self.new.inner ≡ self.old.inner) }
+        ensures makes { MakesSet (S.view self.old.inner) (S.view self.new.inner)
+            (CostImage (S.view self.old.inner) w a) result }
+        ensures spends { Spends self.old.left self.new.left self.old.inner self.new.inner result }
     {
         spend(&mut self.left)?;
         self.inner.image_cost(w, a)
@@ -196,14 +152,9 @@ impl<S: Space> Space for FuseSpace<S> {
     fn image_op(&mut self, op: u32, a: S::Set) -> Result<S::Set, SpaceFault>
         requires a { Valid (S.view self.old.inner) a }
         requires op { op < (S.view self.old.inner).system.operators }
-        ensures kept { Kept (S.view self.old.inner) (S.view self.new.inner) }
-        ensures ok { IfOk result (Gives (S.view self.old.inner) (S.view self.new.inner)
-            (Image (S.view self.old.inner) op a)) }
-        ensures err { OnErr result (NoMore (S.view self.old.inner) (S.view self.new.inner)) }
-        ensures last { (S.view self.new.inner).last ≡ (S.view self.old.inner).last }
-        ensures task { (S.view self.new.inner).task ≡ (S.view self.old.inner).task }
-        ensures left { self.new.left ≡ self.old.left - 1 }
-        ensures spent { self.old.left ≡ 0 → IsErr result × (self.new.inner ≡ self.old.inner) }
+        ensures makes { MakesSet (S.view self.old.inner) (S.view self.new.inner)
+            (Image (S.view self.old.inner) op a) result }
+        ensures spends { Spends self.old.left self.new.left self.old.inner self.new.inner result }
     {
         spend(&mut self.left)?;
         self.inner.image_op(op, a)
@@ -212,14 +163,9 @@ impl<S: Space> Space for FuseSpace<S> {
     fn pre_cost(&mut self, w: u64, a: S::Set, within: S::Set) -> Result<S::Set, SpaceFault>
         requires a { Valid (S.view self.old.inner) a }
         requires within { Valid (S.view self.old.inner) within }
-        ensures kept { Kept (S.view self.old.inner) (S.view self.new.inner) }
-        ensures ok { IfOk result (Gives (S.view self.old.inner) (S.view self.new.inner)
-            (CostPreimage (S.view self.old.inner) w a within)) }
-        ensures err { OnErr result (NoMore (S.view self.old.inner) (S.view self.new.inner)) }
-        ensures last { (S.view self.new.inner).last ≡ (S.view self.old.inner).last }
-        ensures task { (S.view self.new.inner).task ≡ (S.view self.old.inner).task }
-        ensures left { self.new.left ≡ self.old.left - 1 }
-        ensures spent { self.old.left ≡ 0 → IsErr result × (self.new.inner ≡ self.old.inner) }
+        ensures makes { MakesSet (S.view self.old.inner) (S.view self.new.inner)
+            (CostPreimage (S.view self.old.inner) w a within) result }
+        ensures spends { Spends self.old.left self.new.left self.old.inner self.new.inner result }
     {
         spend(&mut self.left)?;
         self.inner.pre_cost(w, a, within)
@@ -229,14 +175,9 @@ impl<S: Space> Space for FuseSpace<S> {
         requires a { Valid (S.view self.old.inner) a }
         requires within { Valid (S.view self.old.inner) within }
         requires op { op < (S.view self.old.inner).system.operators }
-        ensures kept { Kept (S.view self.old.inner) (S.view self.new.inner) }
-        ensures ok { IfOk result (Gives (S.view self.old.inner) (S.view self.new.inner)
-            (Preimage (S.view self.old.inner) op a within)) }
-        ensures err { OnErr result (NoMore (S.view self.old.inner) (S.view self.new.inner)) }
-        ensures last { (S.view self.new.inner).last ≡ (S.view self.old.inner).last }
-        ensures task { (S.view self.new.inner).task ≡ (S.view self.old.inner).task }
-        ensures left { self.new.left ≡ self.old.left - 1 }
-        ensures spent { self.old.left ≡ 0 → IsErr result × (self.new.inner ≡ self.old.inner) }
+        ensures makes { MakesSet (S.view self.old.inner) (S.view self.new.inner)
+            (Preimage (S.view self.old.inner) op a within) result }
+        ensures spends { Spends self.old.left self.new.left self.old.inner self.new.inner result }
     {
         spend(&mut self.left)?;
         self.inner.pre_op(op, a, within)
@@ -264,8 +205,7 @@ impl<S: Space> Space for FuseSpace<S> {
             (S.view self.old.inner) (S.view self.new.inner)) }
         ensures err { OnErr result (SameRoom (S.view self.old.inner) (S.view self.new.inner)) }
         ensures task { (S.view self.new.inner).task ≡ (S.view self.old.inner).task }
-        ensures left { self.new.left ≡ self.old.left - 1 }
-        ensures spent { self.old.left ≡ 0 → IsErr result × (self.new.inner ≡ self.old.inner) }
+        ensures spends { Spends self.old.left self.new.left self.old.inner self.new.inner result }
     {
         spend(&mut self.left)?;
         self.inner.tidy()

@@ -1,5 +1,6 @@
 -- What a call of a space keeps and changes: from the view before it to the view after it.
-use Rattle.std.specs.Prelude.{◌≡◌, ◌≢◌, IsFalse, ◌⊎◌, ◌↔◌}
+use Rattle.std.specs.Prelude.{◌≡◌, ◌≢◌, IsFalse, ◌⊎◌, ◌↔◌, Result, IfOk, OnErr}
+use Rattle.std.specs.declared.alloc.AllocError.{AllocError}
 use Rattle.task_system.specs.System.{State}
 use Rattle.space_api.specs.View.{View, Valid, Has}
 
@@ -19,6 +20,15 @@ pub record Gives {Set : Type 0} (v w : View Set) (P : State → Type 0) (r : Set
   pub valid : Valid w r
   pub only : (a : Set) → Valid w a → Valid v a ⊎ (a ≡ r)
   pub means : (s : State) → Has w r s ↔ P s
+
+-- Each set that was valid stays as it is, and so do the task and the number of nodes that were needed last. A call that is not
+-- refused gives a set of the states of which P holds, and a refused one makes none.
+pub record MakesSet {Set : Type 0} (v w : View Set) (P : State → Type 0) (result : Result Set AllocError) : Type 0 where
+  pub kept : Kept v w
+  pub ok : IfOk result (Gives v w P)
+  pub err : OnErr result (NoMore v w)
+  pub last : w.last ≡ v.last
+  pub task : w.task ≡ v.task
 
 -- a is no longer valid, and all else stays
 pub record Forgot {Set : Type 0} (v w : View Set) (a : Set) : Type 0 where

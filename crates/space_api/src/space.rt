@@ -5,7 +5,7 @@ ghost use Rattle.symk_task.specs.Variables.{IsBase};
 ghost use Rattle.task_system.specs.System.{State, Listed};
 ghost use Rattle.task_system.specs.Computed.{system_of};
 ghost use Rattle.space_api.specs.View.{View, Valid, Has, HasMember, IsEmpty, HasSame, GoalIn, FactIn, Unites, Meets, Lacks, Image, CostImage, Preimage, CostPreimage};
-ghost use Rattle.space_api.specs.Frames.{Kept, NoMore, Gives, Forgot, Stays};
+ghost use Rattle.space_api.specs.Frames.{MakesSet, Forgot, Stays};
 ghost use Rattle.space_api.specs.Tidied.{Tidied, SameRoom};
 ghost use Rattle.space_api.specs.Listing.{ListsReached};
 ghost use Rattle.space_api.specs.Costs.{costs_of};
@@ -34,117 +34,69 @@ pub trait Space {
 
     /// No state.
     fn empty(&mut self) -> Result<Self::Set, SpaceFault>
-        ensures kept { Kept (view self.old) (view self.new) }
-        ensures ok { IfOk result (Gives (view self.old) (view self.new) (λ _. ⊥)) }
-        ensures err { OnErr result (NoMore (view self.old) (view self.new)) }
-        ensures last { (view self.new).last ≡ (view self.old).last }
-        ensures task { (view self.new).task ≡ (view self.old).task };
+        ensures { MakesSet (view self.old) (view self.new) (λ _. ⊥) result };
 
     /// Every state of the system. The initial state is one, and no operator leads out of them.
     fn all(&mut self) -> Result<Self::Set, SpaceFault>
         ensures reached { IfOk result (λ _. ListsReached (view self.old).system) }
-        ensures kept { Kept (view self.old) (view self.new) }
-        ensures ok { IfOk result (Gives (view self.old) (view self.new) (Listed (view self.old).system.states)) }
-        ensures err { OnErr result (NoMore (view self.old) (view self.new)) }
-        ensures last { (view self.new).last ≡ (view self.old).last }
-        ensures task { (view self.new).task ≡ (view self.old).task };
+        ensures makes { MakesSet (view self.old) (view self.new) (Listed (view self.old).system.states) result };
 
     /// The initial state alone.
     fn init(&mut self) -> Result<Self::Set, SpaceFault>
-        ensures kept { Kept (view self.old) (view self.new) }
-        ensures ok { IfOk result (Gives (view self.old) (view self.new) (λ s. s ≡ (view self.old).system.initial)) }
-        ensures err { OnErr result (NoMore (view self.old) (view self.new)) }
-        ensures last { (view self.new).last ≡ (view self.old).last }
-        ensures task { (view self.new).task ≡ (view self.old).task };
+        ensures { MakesSet (view self.old) (view self.new) (λ s. s ≡ (view self.old).system.initial) result };
 
     /// The states of `a` where the goal holds.
     fn goal_in(&mut self, a: Self::Set) -> Result<Self::Set, SpaceFault>
         requires { Valid (view self.old) a }
-        ensures kept { Kept (view self.old) (view self.new) }
-        ensures ok { IfOk result (Gives (view self.old) (view self.new) (GoalIn (view self.old) a)) }
-        ensures err { OnErr result (NoMore (view self.old) (view self.new)) }
-        ensures last { (view self.new).last ≡ (view self.old).last }
-        ensures task { (view self.new).task ≡ (view self.old).task };
+        ensures { MakesSet (view self.old) (view self.new) (GoalIn (view self.old) a) result };
 
     /// The states of `a` where the fact, which is one of a base variable, holds.
     fn fact_in(&mut self, fact: Fact, a: Self::Set) -> Result<Self::Set, SpaceFault>
         requires fact { IsBase (view self.old).task fact.var }
         requires a { Valid (view self.old) a }
-        ensures kept { Kept (view self.old) (view self.new) }
-        ensures ok { IfOk result (Gives (view self.old) (view self.new) (FactIn (view self.old) fact a)) }
-        ensures err { OnErr result (NoMore (view self.old) (view self.new)) }
-        ensures last { (view self.new).last ≡ (view self.old).last }
-        ensures task { (view self.new).task ≡ (view self.old).task };
+        ensures { MakesSet (view self.old) (view self.new) (FactIn (view self.old) fact a) result };
 
     /// The states of `a` or `b`.
     fn unite(&mut self, a: Self::Set, b: Self::Set) -> Result<Self::Set, SpaceFault>
         requires a { Valid (view self.old) a }
         requires b { Valid (view self.old) b }
-        ensures kept { Kept (view self.old) (view self.new) }
-        ensures ok { IfOk result (Gives (view self.old) (view self.new) (Unites (view self.old) a b)) }
-        ensures err { OnErr result (NoMore (view self.old) (view self.new)) }
-        ensures last { (view self.new).last ≡ (view self.old).last }
-        ensures task { (view self.new).task ≡ (view self.old).task };
+        ensures { MakesSet (view self.old) (view self.new) (Unites (view self.old) a b) result };
 
     /// The states of both `a` and `b`.
     fn meet(&mut self, a: Self::Set, b: Self::Set) -> Result<Self::Set, SpaceFault>
         requires a { Valid (view self.old) a }
         requires b { Valid (view self.old) b }
-        ensures kept { Kept (view self.old) (view self.new) }
-        ensures ok { IfOk result (Gives (view self.old) (view self.new) (Meets (view self.old) a b)) }
-        ensures err { OnErr result (NoMore (view self.old) (view self.new)) }
-        ensures last { (view self.new).last ≡ (view self.old).last }
-        ensures task { (view self.new).task ≡ (view self.old).task };
+        ensures { MakesSet (view self.old) (view self.new) (Meets (view self.old) a b) result };
 
     /// The states of `a` that are not in `b`.
     fn minus(&mut self, a: Self::Set, b: Self::Set) -> Result<Self::Set, SpaceFault>
         requires a { Valid (view self.old) a }
         requires b { Valid (view self.old) b }
-        ensures kept { Kept (view self.old) (view self.new) }
-        ensures ok { IfOk result (Gives (view self.old) (view self.new) (Lacks (view self.old) a b)) }
-        ensures err { OnErr result (NoMore (view self.old) (view self.new)) }
-        ensures last { (view self.new).last ≡ (view self.old).last }
-        ensures task { (view self.new).task ≡ (view self.old).task };
+        ensures { MakesSet (view self.old) (view self.new) (Lacks (view self.old) a b) result };
 
     /// The states to which operators of cost `w` lead from states of `a`.
     fn image_cost(&mut self, w: u64, a: Self::Set) -> Result<Self::Set, SpaceFault>
         requires { Valid (view self.old) a }
-        ensures kept { Kept (view self.old) (view self.new) }
-        ensures ok { IfOk result (Gives (view self.old) (view self.new) (CostImage (view self.old) w a)) }
-        ensures err { OnErr result (NoMore (view self.old) (view self.new)) }
-        ensures last { (view self.new).last ≡ (view self.old).last }
-        ensures task { (view self.new).task ≡ (view self.old).task };
+        ensures { MakesSet (view self.old) (view self.new) (CostImage (view self.old) w a) result };
 
     /// The states to which the operator leads from those states of `a` to which it applies.
     fn image_op(&mut self, op: u32, a: Self::Set) -> Result<Self::Set, SpaceFault>
         requires a { Valid (view self.old) a }
         requires op { op < (view self.old).system.operators }
-        ensures kept { Kept (view self.old) (view self.new) }
-        ensures ok { IfOk result (Gives (view self.old) (view self.new) (Image (view self.old) op a)) }
-        ensures err { OnErr result (NoMore (view self.old) (view self.new)) }
-        ensures last { (view self.new).last ≡ (view self.old).last }
-        ensures task { (view self.new).task ≡ (view self.old).task };
+        ensures { MakesSet (view self.old) (view self.new) (Image (view self.old) op a) result };
 
     /// The states of `within` from which an operator of cost `w` leads to a state of `a`.
     fn pre_cost(&mut self, w: u64, a: Self::Set, within: Self::Set) -> Result<Self::Set, SpaceFault>
         requires a { Valid (view self.old) a }
         requires within { Valid (view self.old) within }
-        ensures kept { Kept (view self.old) (view self.new) }
-        ensures ok { IfOk result (Gives (view self.old) (view self.new) (CostPreimage (view self.old) w a within)) }
-        ensures err { OnErr result (NoMore (view self.old) (view self.new)) }
-        ensures last { (view self.new).last ≡ (view self.old).last }
-        ensures task { (view self.new).task ≡ (view self.old).task };
+        ensures { MakesSet (view self.old) (view self.new) (CostPreimage (view self.old) w a within) result };
 
     /// The states of `within` from which the operator leads to a state of `a`.
     fn pre_op(&mut self, op: u32, a: Self::Set, within: Self::Set) -> Result<Self::Set, SpaceFault>
         requires a { Valid (view self.old) a }
         requires within { Valid (view self.old) within }
         requires op { op < (view self.old).system.operators }
-        ensures kept { Kept (view self.old) (view self.new) }
-        ensures ok { IfOk result (Gives (view self.old) (view self.new) (Preimage (view self.old) op a within)) }
-        ensures err { OnErr result (NoMore (view self.old) (view self.new)) }
-        ensures last { (view self.new).last ≡ (view self.old).last }
-        ensures task { (view self.new).task ≡ (view self.old).task };
+        ensures { MakesSet (view self.old) (view self.new) (Preimage (view self.old) op a within) result };
 
     /// Gives a set back. It takes no memory.
     fn forget(&mut self, a: Self::Set)

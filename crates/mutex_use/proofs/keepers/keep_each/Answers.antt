@@ -11,9 +11,9 @@ groups-init g c =
     let v = view c.args.space.now in
     let w = view c.all.new.self in
     record {
-      task = c.all.ensures.task;
-      made = trades_gives c.in_ok-kept.kept c.all.ensures.kept c.in_ok-kept.ensures.ok;
-      means = keeper_start c.args.task.now w c.in_ok-kept.kept c.args.groups.now (c.all.ensures.task ∙ c.requires.task) (all_states v w c.in_ok-kept.kept (g.met.S.Space.of_task c.args.space.now) c.all.ensures.task c.in_ok-kept.ensures.ok);
+      task = c.all.ensures.makes.task;
+      made = trades_gives c.in_ok-kept.kept c.all.ensures.makes.kept c.in_ok-kept.ensures.makes.ok;
+      means = keeper_start c.args.task.now w c.in_ok-kept.kept c.args.groups.now (c.all.ensures.makes.task ∙ c.requires.task) (all_states v w c.in_ok-kept.kept (g.met.S.Space.of_task c.args.space.now) c.all.ensures.makes.task c.in_ok-kept.ensures.makes.ok);
     }
 
 pub groups-preserved : goal.groups-preserved

@@ -1,9 +1,9 @@
 -- What stays true of a space as its table grows, and as a set is added.
-use Rattle.std.proofs.Common.{◌≡◌, ◌≢◌, ℕ, inl, inr, true, false, List, [], Option, Some, None, IfSome, IsTrue, is_some, refl, sym, ◌∙◌, ap, subst, arith, true≢false}
+use Rattle.std.proofs.Common.{◌≡◌, ◌≢◌, ℕ, inl, inr, List, [], Option, Some, None, IfSome, IsTrue, is_some, refl, sym, ◌∙◌, ap, subst, arith, true≢false}
 use Rattle.std.proofs.lemmas.Bool.{cases_eq}
 use Rattle.std.proofs.lemmas.List.{get_or_past}
 use Rattle.bdd_table.specs.declared.node.Node.{Node}
-use Rattle.bdd_table.specs.Diagram.{means, IsReduced, Keeps}
+use Rattle.bdd_table.specs.Diagram.{IsReduced, Keeps}
 use Rattle.var_order.specs.Layout.{Layout}
 use Rattle.symk_task.specs.declared.parts.TaskParts.{TaskParts}
 use Rattle.task_system.specs.System.{State}

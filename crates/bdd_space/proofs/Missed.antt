@@ -1,5 +1,5 @@
 -- The operators that a set's values leave miss none that leads.
-use Rattle.std.proofs.Common.{◌≡◌, ℕ, ◌<◌, List, length, Some, Result, IfOk, sym, ◌∙◌, subst}
+use Rattle.std.proofs.Common.{◌≡◌, ℕ, List, length, Some, Result, IfOk, sym, ◌∙◌, subst}
 use Rattle.std.proofs.lemmas.Result.{IfOk-weaker}
 use Rattle.task_system.specs.System.{State}
 use Rattle.bdd_table.specs.declared.node.Node.{Node}

@@ -1,6 +1,5 @@
 -- The members in which the fact of a base variable holds.
-use Rattle.std.proofs.Common.{◌≡◌, ℕ, zero, suc, ◌+◌, ◌<◌, ◌↔◌, Bool, true, cond, List, [], ◌∷◌, length, get_or, take, IsTrue, IsSomeAnd, slice_get, Some, None, ap, ◌∙◌, arith, sym}
-use Rattle.std.specs.List.{count_by}
+use Rattle.std.proofs.Common.{◌≡◌, ℕ, zero, suc, ◌+◌, ◌<◌, ◌↔◌, Bool, true, cond, List, [], ◌∷◌, length, get_or, IsTrue, IsSomeAnd, slice_get, Some, None, ap, ◌∙◌, arith, sym}
 use Rattle.std.specs.Option.{is_none}
 use Rattle.std.proofs.lemmas.List.Sums.{count_by_more_yes, sum_by-take-le}
 use Rattle.symk_task.specs.declared.parts.Fact.{Fact}

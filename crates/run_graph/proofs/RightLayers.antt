@@ -7,11 +7,6 @@ use Rattle.run_graph.specs.declared.Kind.{Kind}
 use Rattle.run_graph.specs.declared.Kind.TheVariants.{Every, Least}
 use Rattle.run_graph.proofs.Walks.{zero_or, zeros_of, by_zeros, between_before}
 
--- a cheaper layer stays cheaper
-cheaper_more : (k : Kind) (at : At) (c d : ℕ) (s : State) → c ≤ d → Cheaper k at c s → Cheaper k at d s
-cheaper_more Every at c d s le h = h
-cheaper_more Least at c d s le (x, lt, h) = (x, omega arith, h)
-
 placed_cheaper : (at : At) (c d i : ℕ) (s : State) → c < d → Placed Least at c i s → Cheaper Least at d s
 placed_cheaper at c d i s lt (inl (j, le, h)) = (c, lt, (j, h))
 placed_cheaper at c d i s lt (inr (x, less, h)) = (x, omega arith, h)

@@ -1,5 +1,5 @@
 -- The states that runs reach are listed.
-use Rattle.std.proofs.Common.{◌≡◌, ℕ, List, [], ◌∷◌, subst}
+use Rattle.std.proofs.Common.{ℕ, List, [], ◌∷◌, subst}
 use Rattle.symk_task.specs.declared.parts.TaskParts.{TaskParts}
 use Rattle.symk_task.specs.Fits.{Fits}
 use Rattle.task_system.specs.System.{State, System, Listed, Runs}

@@ -1,8 +1,7 @@
 -- Which sets a caller owns: those that it made and keeps, and gives back one day.
-use Rattle.std.specs.Prelude.{◌≡◌, ◌≢◌, IsFalse, ◌⊎◌, ◌↔◌, List, [], ◌∷◌}
+use Rattle.std.specs.Prelude.{◌≡◌, ◌≢◌, IsFalse, ◌⊎◌, List, [], ◌∷◌}
 use Rattle.task_system.specs.System.{State}
 use Rattle.space_api.specs.View.{View, Valid}
-use Rattle.space_api.specs.Frames.{Kept}
 
 -- x stands in the list
 abbrev pub Amid : {Set : Type 0} → List Set → Set → Type 0
@@ -18,23 +17,6 @@ Absent (y ∷ ys) x = (x ≢ y) × Absent ys x
 abbrev pub AllApart : {Set : Type 0} → List Set → Type 0
 AllApart [] = Unit {0}
 AllApart (x ∷ xs) = Absent xs x × AllApart xs
-
--- each member was not valid and is
-abbrev pub AllMade : {Set : Type 0} → View Set → View Set → List Set → Type 0
-AllMade v w [] = Unit {0}
-AllMade v w (x ∷ xs) = (IsFalse (v.valid x) × Valid w x) × AllMade v w xs
-
--- each set that was valid stays so, and those of the list, each a new one, alone became valid
-pub record Owns {Set : Type 0} (v w : View Set) (xs : List Set) : Type 0 where
-  pub kept : Kept v w
-  pub made : AllMade v w xs
-  pub apart : AllApart xs
-  pub only : (a : Set) → Valid w a → Valid v a ⊎ Amid xs a
-
--- the valid sets are those of the list, each once
-pub record Exact {Set : Type 0} (v : View Set) (xs : List Set) : Type 0 where
-  pub each : (a : Set) → Valid v a ↔ Amid xs a
-  pub apart : AllApart xs
 
 -- The old sets of an owner gave way to its new ones. A new one was an old one or was not valid; an old one that is not
 -- among the new ones is no longer valid; and every other set is valid as before and has the same states.

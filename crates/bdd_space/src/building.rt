@@ -90,6 +90,7 @@ impl<'a> BddSpace<'a> {
             steps,
             sets,
             last: 0,
+            swept: 0,
         })
     }
 }

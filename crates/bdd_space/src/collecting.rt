@@ -16,6 +16,9 @@ use symk_task::Memory;
 /// Below so many nodes a collection isn't worth its time.
 const FEW: u128 = 1000;
 
+/// With so many nodes the table is never crowded.
+const MANY: usize = 1_000_000;
+
 /// How many Ids a space keeps for itself.
 const OWN: usize = 3;
 
@@ -83,6 +86,28 @@ impl<'a> BddSpace<'a> {
         self.relations.take_roots(at, OWN);
         self.sets.take_roots(at, OWN + count);
         self.last = self.ops.table().held();
+        self.swept = self.last;
         Ok(())
+    }
+
+    /// Whether many nodes are held, and more than four times those that were held after the last sweep.
+    fn is_crowded(&self) -> bool {
+        let nodes = self.nodes();
+        MANY < nodes && self.swept < nodes / 4
+    }
+
+    /// Collects where the table is crowded, though no caller asks for it, so that garbage doesn't make it grow. What was needed
+    /// when one asked last stays as it was told.
+    pub(crate) fn sweep(&mut self)
+        ensures stays { Stays (seen self.old) (seen self.new) }
+        ensures last { (seen self.new).last ≡ (seen self.old).last }
+        ensures task { self.new.task ≡ self.old.task }
+    {
+        if self.is_crowded() {
+            let last = self.last;
+            let _ = self.collect();
+            self.swept = self.nodes();
+            self.last = last;
+        }
     }
 }

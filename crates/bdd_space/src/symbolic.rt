@@ -21,8 +21,10 @@ pub struct BddSpace<'a> {
     /// What the operators ask for, and what they leave.
     pub(crate) steps: StepFacts,
     pub(crate) sets: Slots,
-    /// How many nodes were needed after the last collection.
+    /// How many nodes were needed after the last collection that a caller asked for.
     pub(crate) last: usize,
+    /// How many nodes the table held when it was swept last, or collected.
+    pub(crate) swept: usize,
 }
 
 /// The Ids that a space keeps for itself.
@@ -83,12 +85,23 @@ impl<'a> BddSpace<'a> {
         self.sets.id(a)
     }
 
-    /// A new set.
-    pub(crate) fn add(&mut self, id: Id) -> Result<usize, Memory>
+    /// A place for a set.
+    fn put(&mut self, id: Id) -> Result<usize, Memory>
         requires { IsKnownSet self.old.order self.old.nodes id }
         ensures { MakesSet (seen self.old) (seen self.new)
             (λ s. IsTrue (has_state self.old.order self.old.nodes id s)) result }
     {
         self.sets.put(id)
+    }
+
+    /// A new set. What the space doesn't need is thrown away where the table is crowded.
+    pub(crate) fn add(&mut self, id: Id) -> Result<usize, Memory>
+        requires { IsKnownSet self.old.order self.old.nodes id }
+        ensures { MakesSet (seen self.old) (seen self.new)
+            (λ s. IsTrue (has_state self.old.order self.old.nodes id s)) result }
+    {
+        let set = self.put(id)?;
+        self.sweep();
+        Ok(set)
     }
 }

@@ -4,3 +4,4 @@ pub mod Spelling
 pub mod Coding
 pub mod Laying
 pub mod Values
+mod Exchanging

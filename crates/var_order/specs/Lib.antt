@@ -1,3 +1,4 @@
 pub mod Layout
 pub mod Codes
 pub mod Growth
+pub mod Exchange

@@ -8,6 +8,7 @@
 
 mod block;
 mod order;
+mod ranks;
 #[cfg(test)]
 mod tests;
 

@@ -10,6 +10,7 @@ ghost use Rattle.set_values.specs.Occurs.{AreStarts, AreInOrder, AreMarked, AreO
 use crate::walking::pass;
 use bdd_table::{Id, Table};
 use std::alloc::Global;
+use std::mem::swap;
 use symk_task::{Fact, Memory};
 use var_order::{Block, Order};
 
@@ -76,10 +77,12 @@ fn walk(
     let _ = table.held();
     let blocks = order.blocks();
     let mut ids = Vec::new(alloc);
+    let mut ends = Vec::new(alloc);
     ids.push(set)?;
     'slots: for slot in slots {
         let at = *slot as usize;
-        ids = pass(alloc, table, blocks[at], starts[at], marks, &ids)?;
+        pass(table, blocks[at], starts[at], marks, &ids, &mut ends)?;
+        swap(&mut ids, &mut ends);
     }
     Ok(())
 }

@@ -1,33 +1,43 @@
 //! One step of the walk down a diagram: over the bits of one variable.
 
-ghost use Rattle.std.specs.Prelude.{◌≡◌, ◌<◌, ◌⊎◌, ◌↔◌, ℕ, length, IfOk, OnOk, All};
-ghost use Rattle.set_values.specs.Marks.{Passes};
+ghost use Rattle.std.specs.Prelude.{◌≡◌, ◌<◌, ◌⊎◌, ◌↔◌, ℕ, true, length, OnOk, All};
+ghost use Rattle.bdd_table.specs.Diagram.{Bits, means};
+ghost use Rattle.set_values.specs.Marks.{value_of, Passes};
 ghost use Rattle.set_values.specs.Ends.{CanPass, HasId, AreKnown, AddsEnd, Adds};
 
-use crate::following::follow;
+use crate::following::{follow, one_value};
 use crate::marking::{mark, mark_all};
 use bdd_table::{FALSE, Id, Table};
-use std::alloc::Global;
-use std::collections::BTreeSet;
 use symk_task::Memory;
 use var_order::Block;
 
-/// Adds the Id to the set.
-fn put(ends: &mut BTreeSet<Id>, id: Id) -> Result<(), Memory>
-    ensures { OnOk result ((q : ℕ) → HasId ends.new q ↔ (HasId ends.old q ⊎ (q ≡ id))) }
+/// Adds the Id at the end, unless it stands there.
+fn put(ends: &mut Vec<Id>, id: Id) -> Result<(), Memory>
+    ensures { OnOk result ((q : ℕ) → HasId ends.new.items q ↔ (HasId ends.old.items q ⊎ (q ≡ id))) }
 {
-    ends.insert(id)?;
+    if let Some(last) = ends.len().checked_sub(1) {
+        if ends[last] == id {
+            return Ok(());
+        }
+    }
+    ends.push(id)?;
     Ok(())
 }
 
+/// Leaves each Id once.
+fn once(ends: &mut Vec<Id>)
+    ensures { (q : ℕ) → HasId ends.new.items q ↔ HasId ends.old.items q }
+{
+    if ends.len() < 2 {
+        return;
+    }
+    ends.sort_unstable();
+    ends.dedup();
+}
+
 /// Marks the place and adds the Id, unless that is false.
-fn add_end(
-    place: usize,
-    end: Id,
-    marks: &mut Vec<bool>,
-    ends: &mut BTreeSet<Id>,
-) -> Result<(), Memory>
-    ensures { OnOk result (AddsEnd place end ends.old ends.new marks.old.items marks.new.items) }
+fn add_end(place: usize, end: Id, marks: &mut Vec<bool>, ends: &mut Vec<Id>) -> Result<(), Memory>
+    ensures { OnOk result (AddsEnd place end ends.old.items ends.new.items marks.old.items marks.new.items) }
 {
     if end == FALSE {
         return Ok(());
@@ -43,12 +53,12 @@ fn add_ends(
     start: usize,
     id: Id,
     marks: &mut Vec<bool>,
-    ends: &mut BTreeSet<Id>,
+    ends: &mut Vec<Id>,
 ) -> Result<(), Memory>
     requires id { id < length table.now }
-    requires ends { AreKnown table.now ends.old }
+    requires ends { AreKnown table.now ends.old.items }
     requires room { CanPass block start }
-    ensures { OnOk result (Adds table.now block start id ends.old ends.new marks.old.items marks.new.items) }
+    ensures { OnOk result (Adds table.now block start id ends.old.items ends.new.items marks.old.items marks.new.items) }
 {
     let _ = table.held();
     'values: for value in 0..block.values {
@@ -65,16 +75,61 @@ fn add_skipped(
     start: usize,
     id: Id,
     marks: &mut Vec<bool>,
-    ends: &mut BTreeSet<Id>,
+    ends: &mut Vec<Id>,
 ) -> Result<(), Memory>
     requires id { id < length table.now }
-    requires ends { AreKnown table.now ends.old }
+    requires ends { AreKnown table.now ends.old.items }
     requires room { CanPass block start }
-    ensures { OnOk result (Adds table.now block start id ends.old ends.new marks.old.items marks.new.items) }
+    ensures { OnOk result (Adds table.now block start id ends.old.items ends.new.items marks.old.items marks.new.items) }
 {
     let _ = table.held();
     mark_all(marks, start, block.values);
     put(ends, id)
+}
+
+/// Adds what is left of the Id below the one value that all its codes have.
+fn add_forced(
+    table: &Table,
+    block: Block,
+    start: usize,
+    id: Id,
+    value: u32,
+    end: Id,
+    marks: &mut Vec<bool>,
+    ends: &mut Vec<Id>,
+) -> Result<(), Memory>
+    requires end { end < length table.now }
+    requires ends { AreKnown table.now ends.old.items }
+    requires room { CanPass block start }
+    requires forced { (b : Bits) → means table.now id b ≡ true → (value_of block b ≡ value) × (means table.now end b ≡ true) }
+    ensures { OnOk result (Adds table.now block start id ends.old.items ends.new.items marks.old.items marks.new.items) }
+{
+    let _ = table.held();
+    if value < block.values {
+        add_end(start + value as usize, end, marks, ends)
+    } else {
+        Ok(())
+    }
+}
+
+/// Adds what is left of the Id, which has a node in the block, below the block.
+fn add_inside(
+    table: &Table,
+    block: Block,
+    start: usize,
+    id: Id,
+    marks: &mut Vec<bool>,
+    ends: &mut Vec<Id>,
+) -> Result<(), Memory>
+    requires id { id < length table.now }
+    requires ends { AreKnown table.now ends.old.items }
+    requires room { CanPass block start }
+    ensures { OnOk result (Adds table.now block start id ends.old.items ends.new.items marks.old.items marks.new.items) }
+{
+    match one_value(table, id, block) {
+        Some(one) => add_forced(table, block, start, id, one.value, one.end, marks, ends),
+        None => add_ends(table, block, start, id, marks, ends),
+    }
 }
 
 /// Adds what is left of the Id below the block.
@@ -84,45 +139,39 @@ fn add(
     start: usize,
     id: Id,
     marks: &mut Vec<bool>,
-    ends: &mut BTreeSet<Id>,
+    ends: &mut Vec<Id>,
 ) -> Result<(), Memory>
     requires id { id < length table.now }
-    requires ends { AreKnown table.now ends.old }
+    requires ends { AreKnown table.now ends.old.items }
     requires room { CanPass block start }
-    ensures { OnOk result (Adds table.now block start id ends.old ends.new marks.old.items marks.new.items) }
+    ensures { OnOk result (Adds table.now block start id ends.old.items ends.new.items marks.old.items marks.new.items) }
 {
     let _ = table.held();
     if block.width == 0 || table.level(id) >= 2 * (block.first + block.width) {
         add_skipped(table, block, start, id, marks, ends)
     } else {
-        add_ends(table, block, start, id, marks, ends)
+        add_inside(table, block, start, id, marks, ends)
     }
 }
 
-/// What is left of the Ids below the block, each once; the values that leave something are marked.
+/// Puts what is left of the Ids below the block in the place of other Ids, each once; the values that leave something are marked.
 pub fn pass(
-    alloc: Global,
     table: &Table,
     block: Block,
     start: usize,
     marks: &mut Vec<bool>,
     ids: &[Id],
-) -> Result<Vec<Id>, Memory>
+    ends: &mut Vec<Id>,
+) -> Result<(), Memory>
     requires ids { All (λ id. id < length table.now) ids.now }
     requires room { CanPass block start }
-    ensures { IfOk result (λ next. Passes table.now block start ids.now next.items marks.old.items marks.new.items) }
+    ensures { OnOk result (Passes table.now block start ids.now ends.new.items marks.old.items marks.new.items) }
 {
     let _ = table.held();
-    let mut ends = BTreeSet::new(alloc);
+    ends.clear();
     'ids: for id in ids {
-        add(table, block, start, *id, marks, &mut ends)?;
+        add(table, block, start, *id, marks, ends)?;
     }
-    members(alloc, &ends)
-}
-
-/// The members of the set, each once.
-fn members(alloc: Global, set: &BTreeSet<Id>) -> Result<Vec<Id>, Memory>
-    ensures { IfOk result (λ ids. ids.items ≡ set.now.keys) }
-{
-    set.iter().copied().collect(alloc)
+    once(ends);
+    Ok(())
 }

@@ -1,8 +1,11 @@
-use Rattle.std.proofs.Common.{◌≡◌, ℕ, length, subst, arith}
-use Rattle.std.proofs.lemmas.Result.{IfOk-weaker}
-use Rattle.set_values.specs.Marks.{Passes}
-use Rattle.set_values.proofs.Passing.{PassesBelow, passes_all}
+use Rattle.std.proofs.Common.{◌≡◌, ℕ, [], length, subst, arith}
+use Rattle.set_values.proofs.Passing.{PassesBelow, passes_none, passes_all, none_known}
 use Rattle.set_values.proofs.walking.pass.Goals as goal
+
+pub ids-init : goal.ids-init
+ids-init c =
+    let nodes = c.args.table.now in
+    rw c.clear.ensures.items (passes_none nodes c.args.block c.args.start c.args.ids.now [] c.args.marks.now.items (none_known nodes))
 
 pub returns : goal.returns
 returns c =
@@ -13,6 +16,5 @@ returns c =
     let old = c.args.marks.now.items in
     let marks = c.ids.marks.items in
     let all : c.ids.id-index ≡ length ids = (let t = c.ids-test.false in let e = c.ids.auto.id-index-end in omega (arith, t, e)) in
-    let done = subst (λ (n : ℕ). PassesBelow nodes block start ids c.ids.ends old marks n) all c.ids.invariant in
-    IfOk-weaker c.members.result (λ next. next.items ≡ c.ids.ends.keys) (λ next. Passes nodes block start ids next.items old marks)
-    (λ next e. passes_all nodes block start ids next.items c.ids.ends old marks done e) c.members.ensures
+    let done = subst (λ (n : ℕ). PassesBelow nodes block start ids c.ids.ends.items old marks n) all c.ids.invariant in
+    passes_all nodes block start ids c.ids.ends.items c.once.new.ends.items old marks done c.once.ensures

@@ -6,7 +6,8 @@ use Rattle.entry_laws.specs.Counts.{ind, on_some, begins, hits}
 use Rattle.entry_laws.specs.Entries.{Plain, Head, Tail, FwdIn, BwdIn, into, entry_hits, child_hits, IsChild, height, weight}
 use Rattle.entry_laws.proofs.Paths.{both, le_of}
 use Rattle.entry_laws.proofs.Queue.{total_append}
-use Rattle.entry_laws.specs.Growing.{Fallable, SomeChild, Falling, Added, sum_list, IsIn, IsOrder, Sofar, Gathered}
+use Rattle.entry_laws.proofs.Rising.{in_or_not, sum_rising}
+use Rattle.entry_laws.specs.Growing.{Fallable, SomeChild, Falling, Added, sum_list, IsIn, MissesNone, Sofar, Gathered}
 
 abbrev pub rest_of : Plain → ℕ
 rest_of (Head has cost ring ops after) = cost
@@ -131,10 +132,10 @@ module _ (y : System) (front back : ℕ → State → Bool) where
     ];
   }
 
-  pub gathered : (e : Plain) (order : List ℕ) (level falling : List Plain) → IsOrder y.operators order → Sofar y front back e order level falling → Gathered y front back e level falling
-  gathered e order level falling o s = record {
-    counts = λ p. s.counts p ∙ o.sums (child_hits y front back e p);
+  pub gathered : (e : Plain) (ops : List ℕ) (level falling : List Plain) → MissesNone y front back e ops → Sofar y front back e ops level falling → Gathered y front back e level falling
+  gathered e ops level falling m s = record {
+    counts = λ p. s.counts p ∙ sum_rising y.operators ops (child_hits y front back e p) m.rising m.range (λ k b off. (m.others k b off).0 p);
     each = s.each;
     each_falls = s.each_falls;
-    falls = λ k b f. s.falls k (o.all k b) f;
+    falls = λ k b f. elim (in_or_not ops k) [ inl h ↦ s.falls k h f | inr h ↦ absurd ((m.others k b h).1 f) ];
   }

@@ -1,5 +1,6 @@
 pub mod Ends
 pub mod Sums
+pub mod Rising
 pub mod Cutting
 pub mod Before
 pub mod After

@@ -1,6 +1,7 @@
 -- How the children of an entry are gathered, operator by operator.
 use Rattle.std.specs.Prelude.{◌≡◌, ℕ, ◌+◌, ◌-◌, ◌<◌, ◌≤◌, ◌⊎◌, Bool, true, List, [], ◌∷◌, ◌++◌, length}
-use Rattle.std.specs.List.{AllByRecursion}
+use Rattle.std.specs.List.{All, AllByRecursion, Contains}
+use Rattle.std.specs.List.Sorted.{IsStrictlyIncreasing}
 use Rattle.task_system.specs.System.{State, System, Runs}
 use Rattle.entry_laws.specs.Counts.{sum_ops}
 use Rattle.entry_laws.specs.Entries.{Plain, Head, Tail, FwdIn, BwdIn, into, onto, total, child_hits, IsChild, height, weight}
@@ -38,11 +39,11 @@ abbrev pub IsIn : List ℕ → ℕ → Type 0
 IsIn [] k = ⊥
 IsIn (i ∷ is) k = (i ≡ k) ⊎ IsIn is k
 
--- the list has each operator once, in some order
-pub record IsOrder (n : ℕ) (order : List ℕ) : Type 0 where
-  pub range : AllByRecursion (λ k. k < n) order
-  pub all : (k : ℕ) → k < n → IsIn order k
-  pub sums : (f : ℕ → ℕ) → sum_list order f ≡ sum_ops n f
+-- the list rises, and there is no child by an operator that it misses
+pub record MissesNone (y : System) (front back : ℕ → State → Bool) (e : Plain) (ops : List ℕ) : Type 0 where
+  pub rising : IsStrictlyIncreasing ops
+  pub range : All (λ k. k < y.operators) ops
+  pub others : (k : ℕ) → k < y.operators → ¬ Contains ops k → NoChild y front back e k
 
 -- the children by the operators of the list
 pub record Sofar (y : System) (front back : ℕ → State → Bool) (e : Plain) (done : List ℕ) (level falling : List Plain) : Type 0 where

@@ -4,32 +4,29 @@ ghost use Rattle.std.specs.Prelude.{◌≡◌, ◌<◌, length, ◌++◌, ◌∷
 ghost use Rattle.space_api.specs.View.{View, Valid};
 ghost use Rattle.space_api.specs.Frames.{Stays};
 ghost use Rattle.cost_layers.specs.Layers.{Held};
-ghost use Rattle.entry_laws.specs.Growing.{IsOrder};
 ghost use Rattle.entry_turns.specs.Entries.{EntryOk, Makes};
 ghost use Rattle.entry_turns.specs.Grown.{Gathers, Expands};
 
 use crate::children::{Children, give_back_children, try_operator};
 use crate::entries::Entry;
-use crate::ways::{is_among, leading, way_for};
+use crate::ways::{leading, way_after, way_for};
 use cost_layers::Layers;
 use space_api::{Space, SpaceFault};
 use std::alloc::Global;
 
-/// Adds the children by all operators, in this order; of those, only what may lead on by the values of the entry's set is tried. After a refusal the children so far
-/// are there.
+/// Adds the children by all operators: only what may lead on by the values of the entry's set is tried. After a refusal the
+/// children so far are there.
 fn gather<S: Space>(
     alloc: Global,
     space: &mut S,
     front: &Layers<S::Set>,
     back: &Layers<S::Set>,
-    order: &[u32],
     entry: &Entry<S::Set>,
     children: &mut Children<S::Set>,
 ) -> Result<(), SpaceFault>
     requires front { Held (S.view space.old) front.now }
     requires back { Held (S.view space.old) back.now }
     requires entry { EntryOk (S.view space.old) entry.now }
-    requires order { IsOrder (S.view space.old).system.operators order.now }
     requires level { children.old.level.items ≡ [] }
     requires falling { children.old.falling.items ≡ [] }
     ensures makes { Makes (S.view space.old) (S.view space.new)
@@ -38,11 +35,9 @@ fn gather<S: Space>(
         children.new.level.items children.new.falling.items) }
 {
     let ops = leading(alloc, space, entry)?;
-    'operators: for op in order {
-        if !is_among(&ops, *op) {
-            continue 'operators;
-        }
-        let way = way_for(front, back, entry, space.cost_of(*op));
+    let mut way = way_for(front, back, entry, 0);
+    'operators: for op in &ops {
+        way = way_after(front, back, entry, way, space.cost_of(*op));
         try_operator(alloc, space, front, back, entry, way, *op, children)?;
     }
     Ok(())
@@ -75,19 +70,17 @@ pub(crate) fn expand<S: Space>(
     space: &mut S,
     front: &Layers<S::Set>,
     back: &Layers<S::Set>,
-    order: &[u32],
     entry: &Entry<S::Set>,
 ) -> Result<Vec<Entry<S::Set>>, SpaceFault>
     requires front { Held (S.view space.old) front.now }
     requires back { Held (S.view space.old) back.now }
     requires entry { EntryOk (S.view space.old) entry.now }
-    requires order { IsOrder (S.view space.old).system.operators order.now }
     ensures ok { IfOk result (λ es. Expands (S.view space.old) (S.view space.new) front.now back.now entry.now
         es.items) }
     ensures err { OnErr result (Stays (S.view space.old) (S.view space.new)) }
 {
     let mut children = Children::new(alloc);
-    match gather(alloc, space, front, back, order, entry, &mut children) {
+    match gather(alloc, space, front, back, entry, &mut children) {
         Ok(()) => join(space, children),
         Err(fault) => {
             give_back_children(space, &children);

@@ -16,7 +16,6 @@ ghost use Rattle.space_api.specs.View.{View, Valid, Has};
 ghost use Rattle.space_api.specs.Frames.{Kept, Stays, Gives};
 ghost use Rattle.space_api.specs.Owned.{Trades};
 ghost use Rattle.cost_layers.specs.Layers.{Held};
-ghost use Rattle.entry_laws.specs.Growing.{IsOrder};
 ghost use Rattle.entry_turns.specs.Entries.{EntryOk, Makes, AreOperators, SetIn, AreDistinct};
 ghost use Rattle.entry_turns.specs.Grown.{Expands};
 ghost use Rattle.entry_turns.specs.Turned.{IsDone, Starts, Begins, Begun, BeginsToo, Follows, IsQueue, Turns, Replaces};
@@ -212,19 +211,17 @@ fn follow<S: Space>(
     space: &mut S,
     front: &Layers<S::Set>,
     back: &Layers<S::Set>,
-    order: &[u32],
     entry: &Entry<S::Set>,
 ) -> Result<Next<S::Set>, SpaceFault>
     requires front { Held (S.view space.old) front.now }
     requires back { Held (S.view space.old) back.now }
-    requires order { IsOrder (S.view space.old).system.operators order.now }
     requires entry { EntryOk (S.view space.old) entry.now }
     ensures ok { IfOk result (λ next. Follows (S.view space.old) (S.view space.new) front.now back.now
         entry.now next.entries.items next.done) }
     ensures err { OnErr result (Stays (S.view space.old) (S.view space.new)) }
 {
     let done = is_done(space, entry)?;
-    let made = expand(alloc, space, front, back, order, entry)?;
+    let made = expand(alloc, space, front, back, entry)?;
     let entries = with_begun(alloc, space, back, entry, made)?;
     Ok(Next { entries, done })
 }
@@ -276,12 +273,10 @@ pub fn turn<S: Space>(
     space: &mut S,
     front: &Layers<S::Set>,
     back: &Layers<S::Set>,
-    order: &[u32],
     queue: &mut Vec<Entry<S::Set>>,
 ) -> Result<Option<Vec<u32>>, SpaceFault>
     requires front { Held (S.view space.old) front.now }
     requires back { Held (S.view space.old) back.now }
-    requires order { IsOrder (S.view space.old).system.operators order.now }
     requires queue { IsQueue (S.view space.old) queue.old.items }
     requires some { 0 < length queue.old.items }
     ensures queue { IsQueue (S.view space.new) queue.new.items }
@@ -293,6 +288,6 @@ pub fn turn<S: Space>(
     ensures err { OnErr result (queue.new.items ≡ queue.old.items) }
 {
     let last = queue.len() - 1;
-    let next = follow(alloc, space, front, back, order, &queue[last])?;
+    let next = follow(alloc, space, front, back, &queue[last])?;
     replace_last(space, queue, next)
 }

@@ -5,7 +5,6 @@ ghost use Rattle.space_api.specs.View.{View};
 ghost use Rattle.space_api.specs.Owned.{Trades};
 ghost use Rattle.cost_layers.specs.Layers.{Held, known_of};
 ghost use Rattle.plan_cuts.specs.declared.Cut.{Cut};
-ghost use Rattle.entry_laws.specs.Growing.{IsOrder};
 ghost use Rattle.entry_turns.specs.Entries.{SetIn, RightSides};
 ghost use Rattle.entry_turns.specs.Turned.{IsQueue};
 ghost use Rattle.entry_turns.specs.Walked.{AreApart, IsLawful, OwesOn, GaveFrom};
@@ -26,7 +25,6 @@ pub fn walk<S: Space, L: Ledger>(
     space: &mut S,
     front: &Layers<S::Set>,
     back: &Layers<S::Set>,
-    order: &[u32],
     cost: u64,
     queue: &mut Vec<Entry<S::Set>>,
     steps: &mut Steps<L>,
@@ -35,7 +33,6 @@ pub fn walk<S: Space, L: Ledger>(
     requires back { Held (S.view space.old) back.now }
     requires sides { RightSides (S.view space.old).system (S.view space.old) front.now back.now
         (known_of front.now) (known_of back.now) }
-    requires order { IsOrder (S.view space.old).system.operators order.now }
     requires queue { IsQueue (S.view space.old) queue.old.items }
     requires some { 0 < length queue.old.items }
     requires front_apart { AreApart queue.old.items front.now }
@@ -52,7 +49,7 @@ pub fn walk<S: Space, L: Ledger>(
 {
     'turns: loop {
         steps.tick();
-        match turn(alloc, space, front, back, order, queue)? {
+        match turn(alloc, space, front, back, queue)? {
             Some(plan) => return Ok(plan),
             None => {}
         }

@@ -1,7 +1,6 @@
 //! Where operators of one cost lead on from an entry, and the set of a child.
 
-ghost use Rattle.std.specs.Prelude.{◌≡◌, ◌≤◌, ◌-◌, ◌<◌, ◌^◌, ◌↔◌, ℕ, Some, IsTrue, IfOk, OnErr, MatchOption, Contains};
-ghost use Rattle.std.specs.List.Sorted.{IsStrictlyIncreasing};
+ghost use Rattle.std.specs.Prelude.{◌≡◌, ◌≤◌, ◌-◌, ◌<◌, ◌^◌, ◌↔◌, ℕ, Some, IsTrue, IfOk, OnErr, MatchOption};
 ghost use Rattle.task_system.specs.System.{State, Leads};
 ghost use Rattle.space_api.specs.View.{View, Valid, Has};
 ghost use Rattle.space_api.specs.Frames.{Kept, NoMore, Stays};
@@ -36,14 +35,6 @@ pub(crate) fn leading<S: Space>(
     }
 }
 
-/// Whether the operator is one of these, which rise.
-pub(crate) fn is_among(ops: &[u32], op: u32) -> bool
-    requires { IsStrictlyIncreasing ops.now }
-    ensures { IsTrue result ↔ Contains ops.now op }
-{
-    ops.binary_search(&op).is_ok()
-}
-
 /// The number of the first ring of this cost that has a state of the set, 0 where none has.
 pub fn least_ring<S: Space>(
     space: &mut S,
@@ -57,6 +48,9 @@ pub fn least_ring<S: Space>(
     ensures ok { IfOk result (IsLeast (S.view space.old) layers.now cost set) }
     ensures fits { IfOk result (λ n. n < 2 ^ 64) }
 {
+    if layers.rings(cost) < 2 {
+        return Ok(0);
+    }
     match layers.least_ring_meeting(space, cost, set)? {
         Some(ring) => Ok(ring),
         None => Ok(0),
@@ -90,6 +84,25 @@ pub(crate) fn way_for<T: Copy>(
     Way {
         cost: w,
         layer: layer_for(front, back, entry, w),
+    }
+}
+
+/// The same, where the way of another cost or of this one is at hand.
+pub(crate) fn way_after<T: Copy>(
+    front: &Layers<T>,
+    back: &Layers<T>,
+    entry: &Entry<T>,
+    last: Way<T>,
+    w: u64,
+) -> Way<T>
+    requires { (v : View T) → IsWay v front.now back.now entry.now last }
+    ensures cost { result.cost ≡ w }
+    ensures way { (v : View T) → IsWay v front.now back.now entry.now result }
+{
+    if last.cost == w {
+        last
+    } else {
+        way_for(front, back, entry, w)
     }
 }
 

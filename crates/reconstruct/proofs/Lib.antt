@@ -7,4 +7,3 @@ pub mod Walked
 pub mod Tidying
 pub mod Pends
 pub mod Asks
-pub mod Ordering

@@ -1,7 +1,6 @@
 pub mod Sides
 pub mod Listing
 pub mod Going
-pub mod Pricing
 pub mod Working
 pub mod Pending
 pub mod Engine

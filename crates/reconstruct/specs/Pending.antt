@@ -10,7 +10,6 @@ use Rattle.lazy_plans.specs.Told.{is_in}
 use Rattle.lazy_plans.specs.declared.stop.Stop.{Stop}
 use Rattle.lazy_plans.specs.declared.stop.Stop.TheVariants.{Memory}
 use Rattle.entry_laws.specs.Entries.{places}
-use Rattle.entry_laws.specs.Growing.{IsOrder}
 use Rattle.entry_laws.specs.Drawing.{undrawn}
 use Rattle.entry_turns.specs.Entries.{plains}
 use Rattle.entry_turns.specs.declared.entries.Entry.{Entry}
@@ -48,17 +47,16 @@ IsHeld y (Some p) ended = IsPlan y p × (ended ≡ Some (Some Memory))
 abbrev pub IsKept : {Set P : Type 0} → Both Set P → Option Set → List (Entry Set) → Set → Type 0
 IsKept both within queue a = Keeping (IsOwnOf both) queue a ⊎ (within ≡ Some a)
 
--- the order has each operator once, the queue and the cuts that are left are lawful, and no set is valid but those that are kept
-pub record IsReady {Set P : Type 0} (v : View Set) (both : Both Set P) (order : List ℕ) (most : Option ℕ) (within : Option Set) (listed : Option Place) (queue : List (Entry Set)) : Type 0 where
+-- the queue and the cuts that are left are lawful, and no set is valid but those that are kept
+pub record IsReady {Set P : Type 0} (v : View Set) (both : Both Set P) (most : Option ℕ) (within : Option Set) (listed : Option Place) (queue : List (Entry Set)) : Type 0 where
   pub working : IsWorking v both listed queue
-  pub order_is : IsOrder v.system.operators order
   pub range : InRange most listed
   pub keeps : (a : Set) → Valid v a → IsKept both within queue a
 
 -- what every engine meets between two calls: it is ready, what was answered last still holds, and where no plan was left the
 -- space is tidy
-pub record IsSound {Set P : Type 0} (v : View Set) (both : Both Set P) (order : List ℕ) (most : Option ℕ) (within : Option Set) (listed : Option Place) (queue : List (Entry Set)) (held : Option (List ℕ)) (ended : Last) : Type 0 where
-  pub ready : IsReady v both order most within listed queue
+pub record IsSound {Set P : Type 0} (v : View Set) (both : Both Set P) (most : Option ℕ) (within : Option Set) (listed : Option Place) (queue : List (Entry Set)) (held : Option (List ℕ)) (ended : Last) : Type 0 where
+  pub ready : IsReady v both most within listed queue
   pub holds : IsHeld v.system held ended
   pub said : Ended v.system most (Pending v (back_layers both) listed queue held) ended
   pub room : ended ≡ Some None → IsTidy v

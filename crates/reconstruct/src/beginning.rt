@@ -7,7 +7,6 @@ ghost use Rattle.bidirectional.specs.Both.{IsBoth, IsOwnOf};
 ghost use Rattle.reconstruct.specs.Engine.{IsReadyFor, IsNew};
 
 use crate::engine::TopPlans;
-use crate::pricing::by_cost;
 use bidirectional::{Both, Choose};
 use space_api::Space;
 use std::alloc::Global;
@@ -43,11 +42,9 @@ fn begin<S: Space + Drop, P: Choose + Drop>(
 {
     let mut space = space;
     let both = both_of(alloc, &mut space, choose, within)?;
-    let order = by_cost(alloc, &space)?;
     Ok(TopPlans {
         space,
         both,
-        order,
         most,
         within,
         listed: None,

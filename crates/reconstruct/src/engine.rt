@@ -13,8 +13,6 @@ use symk_task::Plan;
 pub struct TopPlans<S: Space, P: Choose> {
     pub(crate) space: S,
     pub(crate) both: Both<S::Set, P>,
-    /// Each operator, by rising cost.
-    pub(crate) order: Vec<u32>,
     /// The greatest cost that is wanted.
     pub(crate) most: Option<u64>,
     /// The set to which the backward side was kept at first, where one was handed over.
@@ -53,7 +51,6 @@ impl<S: Space, P: Choose> TopPlans<S, P> {
             alloc,
             &mut self.space,
             &mut self.both,
-            &self.order,
             self.most,
             &mut self.listed,
             &mut self.queue,

@@ -4,7 +4,6 @@ ghost use Rattle.std.specs.Prelude.{◌≡◌, ◌<◌, [], length, IfOk, OnOk};
 ghost use Rattle.space_api.specs.View.{View};
 ghost use Rattle.symk_task.specs.declared.parts.Mode.TheVariants.{TopK};
 ghost use Rattle.lazy_plans.specs.Law.{Turned};
-ghost use Rattle.entry_laws.specs.Growing.{IsOrder};
 ghost use Rattle.bidirectional.specs.Both.{IsBoth, back_layers};
 ghost use Rattle.reconstruct.specs.Going.{cost_at, HasMore};
 ghost use Rattle.reconstruct.specs.Working.{IsWorking, InRange, Owes, Moves, TradesAll, Fills, FewTurns};
@@ -81,7 +80,6 @@ fn walk_on<S: Space, P: Choose, L: Ledger>(
     alloc: Global,
     space: &mut S,
     both: &Both<S::Set, P>,
-    order: &[u32],
     most: Option<u64>,
     listed: &Option<Place>,
     queue: &mut Vec<Entry<S::Set>>,
@@ -89,7 +87,6 @@ fn walk_on<S: Space, P: Choose, L: Ledger>(
 ) -> Result<Option<Plan>, Stop>
     requires working { IsWorking (S.view space.old) both.now listed.now queue.old.items }
     requires range { InRange most listed.now }
-    requires order { IsOrder (S.view space.old).system.operators order.now }
     requires some { 0 < length queue.old.items }
     ensures working { IsWorking (S.view space.new) both.now listed.now queue.new.items }
     ensures trades { TradesAll (S.view space.old) (S.view space.new) both.now both.now queue.old.items queue.new.items }
@@ -106,7 +103,6 @@ fn walk_on<S: Space, P: Choose, L: Ledger>(
                 space,
                 both.forward_layers(),
                 both.backward_layers(),
-                order,
                 place.cost,
                 queue,
                 steps,
@@ -123,7 +119,6 @@ pub(crate) fn give<S: Space, P: Choose, L: Ledger>(
     alloc: Global,
     space: &mut S,
     both: &mut Both<S::Set, P>,
-    order: &[u32],
     most: Option<u64>,
     listed: &mut Option<Place>,
     queue: &mut Vec<Entry<S::Set>>,
@@ -131,7 +126,6 @@ pub(crate) fn give<S: Space, P: Choose, L: Ledger>(
 ) -> Result<Option<Plan>, Stop>
     requires working { IsWorking (S.view space.old) both.old listed.old queue.old.items }
     requires range { InRange most listed.old }
-    requires order { IsOrder (S.view space.old).system.operators order.now }
     ensures working { IsWorking (S.view space.new) both.new listed.new queue.new.items }
     ensures range { InRange most listed.new }
     ensures trades { TradesAll (S.view space.old) (S.view space.new) both.old both.new queue.old.items queue.new.items }
@@ -144,6 +138,6 @@ pub(crate) fn give<S: Space, P: Choose, L: Ledger>(
         Err(_) => Err(Stop::Memory),
         Ok(Filled::Never) => Ok(None),
         Ok(Filled::Beyond) => Err(Stop::CostRange),
-        Ok(Filled::Ready) => walk_on(alloc, space, both, order, most, listed, queue, steps),
+        Ok(Filled::Ready) => walk_on(alloc, space, both, most, listed, queue, steps),
     }
 }

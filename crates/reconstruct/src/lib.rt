@@ -13,6 +13,5 @@ mod drawing;
 mod engine;
 mod giving;
 mod going;
-mod pricing;
 
 pub use engine::TopPlans;

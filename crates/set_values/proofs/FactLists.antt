@@ -1,5 +1,5 @@
 -- Lists of facts, built effect by effect and condition by condition.
-use Rattle.std.proofs.Common.{◌≡◌, ◌≢◌, ◌⊎◌, ◌↔◌, ℕ, zero, suc, ◌+◌, ◌<◌, ◌≤◌, List, [], ◌∷◌, ◌++◌, length, get_or, drop, IsTrue, IsFalse, Bool, true, false, inl, inr, refl, sym, ◌∙◌, ap, subst, arith, true≢false, add-one}
+use Rattle.std.proofs.Common.{◌≡◌, ◌⊎◌, ◌↔◌, ℕ, suc, ◌+◌, ◌<◌, List, [], ◌∷◌, ◌++◌, length, get_or, drop, IsTrue, IsFalse, Bool, true, false, inl, inr, refl, sym, ◌∙◌, ap, subst, arith, true≢false}
 use Rattle.std.specs.List.{Contains}
 use Rattle.std.specs.Ordering.{nat_cmp}
 use Rattle.std.specs.BTreeSet.{BTreeSet, contains}
@@ -9,7 +9,7 @@ use Rattle.std.proofs.lemmas.List.{get_or_default, get_or_append_left, get_or_pu
 use Rattle.symk_task.specs.declared.parts.Fact.{Fact}
 use Rattle.symk_task.specs.declared.parts.Effect.{Effect}
 use Rattle.symk_task.specs.declared.parts.Operator.{Operator}
-use Rattle.set_values.specs.Steps.{AsksValue, SomeAsks, IsAsked, NotOn, Ends, Leaves, IsLeft, AreLast, AreFactsBy}
+use Rattle.set_values.specs.Steps.{AsksValue, SomeAsks, IsAsked, NotOn, Ends, IsLeft, AreLast, AreFactsBy}
 
 -- P holds of one of the first n elements
 pub record SomeBelow {X : Type 0} (P : X → Type 0) (xs : List X) (n : ℕ) : Type 0 where

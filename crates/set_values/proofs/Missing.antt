@@ -1,6 +1,6 @@
 -- The operators all of whose facts occur miss none that leads.
-use Rattle.std.proofs.Common.{◌≡◌, ◌⊎◌, ℕ, ◌<◌, Bool, true, List, [], length, get_or, Option, Some, None, IsSome, IsSomeAnd, unwrap_or, slice_get, inl, inr, refl, sym, ◌∙◌, ap, subst, arith}
-use Rattle.std.specs.List.{All, Contains, list_all}
+use Rattle.std.proofs.Common.{◌≡◌, ◌⊎◌, ℕ, ◌<◌, true, List, [], length, get_or, Option, Some, None, IsSome, IsSomeAnd, unwrap_or, slice_get, inl, inr, refl, sym, ◌∙◌, ap, subst, arith}
+use Rattle.std.specs.List.{All, Contains}
 use Rattle.std.proofs.lemmas.List.Elements.{Contains-get_or}
 use Rattle.std.proofs.lemmas.List.Sums.{list_all-from_AllPass}
 use Rattle.std.proofs.lemmas.Option.{slice_get_within, slice_get_past, slice_get_cases, unwrap_or-slice_get, get_or_from_slice_get}
@@ -10,9 +10,9 @@ use Rattle.symk_task.specs.declared.parts.Operator.{Operator}
 use Rattle.symk_task.specs.declared.parts.TaskParts.{TaskParts}
 use Rattle.symk_task.specs.Variables.{IsBase, place}
 use Rattle.bdd_table.specs.declared.node.Node.{Node}
-use Rattle.bdd_table.specs.Diagram.{Bits, means}
+use Rattle.bdd_table.specs.Diagram.{Bits}
 use Rattle.var_order.specs.Layout.{Layout, IsOrderOf, slot_of}
-use Rattle.var_order.specs.Codes.{value_at, IsCode, IsStateOf, IsInRange}
+use Rattle.var_order.specs.Codes.{IsCode, IsStateOf, IsInRange}
 use Rattle.var_order.proofs.Laying.{laid_at}
 use Rattle.var_order.proofs.Values.{base_slot}
 use Rattle.set_values.specs.declared.occurring.Occurring.{Occurring}

@@ -1,5 +1,5 @@
 -- What holds where steps of an operator start, and where they end.
-use Rattle.std.proofs.Common.{◌≡◌, ◌≢◌, ◌⊎◌, ℕ, ◌<◌, ◌==◌, ◌&&◌, Bool, true, false, cond, List, [], ◌∷◌, length, get_or, fold, Option, Some, None, slice_get, inl, inr, refl, sym, ◌∙◌, ap, subst, arith, eqb-true}
+use Rattle.std.proofs.Common.{◌≡◌, ◌≢◌, ℕ, ◌<◌, ◌==◌, ◌&&◌, Bool, true, false, cond, List, [], ◌∷◌, length, get_or, fold, Option, Some, None, slice_get, inl, inr, refl, sym, ◌∙◌, ap, subst, arith, eqb-true}
 use Rattle.std.proofs.Math.ListN.{set}
 use Rattle.std.specs.List.{Contains}
 use Rattle.std.specs.Option.{option_map_or}
@@ -17,7 +17,7 @@ use Rattle.symk_task.proofs.Places.{within_some, value_at}
 use Rattle.task_system.specs.System.{Leads}
 use Rattle.task_system.specs.Computed.{values_in, value_in, value_by, have_all, allow_all, value_set, step_by, step, system_of}
 use Rattle.task_system.proofs.Firing.{base_layer}
-use Rattle.set_values.specs.Steps.{AsksValue, IsAsked, NotOn, Ends, Leaves, IsLeft}
+use Rattle.set_values.specs.Steps.{IsAsked, NotOn, Leaves, IsLeft}
 
 -- the values of all variables in a state
 

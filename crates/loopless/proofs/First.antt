@@ -8,15 +8,11 @@ use Rattle.std.proofs.lemmas.List.Elements.{recursion_from_All, All-from_recursi
 use Rattle.std.proofs.lemmas.List.Sums.{sum_by-cons}
 use Rattle.task_system.specs.System.{State, System, Listed, IsPlan, IsPlanOf, cost_of}
 use Rattle.symk_task.specs.declared.parts.Mode.TheVariants.{Loopless}
-use Rattle.space_api.specs.View.{View, Valid, Has, IsEmpty, HasMember}
+use Rattle.space_api.specs.View.{View, Valid, IsEmpty, HasMember}
 use Rattle.space_api.specs.Frames.{Kept, Gives, Stays}
-use Rattle.space_api.specs.Owned.{Trades}
-use Rattle.space_api.proofs.Trading.{valid_clash, kept_made}
+use Rattle.space_api.proofs.Trading.{valid_clash}
 use Rattle.space_api.proofs.Keeping.{kept_trans}
 use Rattle.lazy_plans.specs.Law.{Last}
-use Rattle.run_graph.specs.Reached.{Useful}
-use Rattle.cost_search.specs.Search.{IsOwn, within_of}
-use Rattle.backward_search.specs.Backward.{IsBackward, search_of}
 use Rattle.backward_search.specs.declared.backward.Backward.{Backward}
 use Rattle.backward_search.proofs.Standing.{backward_kept}
 use Rattle.prefix_laws.specs.Queue.{Good, Right, Pending}
@@ -26,9 +22,10 @@ use Rattle.prefix_tree.specs.Entries.{entries_at}
 use Rattle.prefix_tree.specs.declared.tree.Node.{Node}
 use Rattle.prefix_tree.specs.declared.entry.Entry.{Entry}
 use Rattle.loopless.specs.Children.{IsEntry, prefixes}
-use Rattle.loopless.specs.Standing.{IsBeneath}
+use Rattle.loopless.specs.Standing.{IsBeneath, IsAlone}
 use Rattle.loopless.specs.Owing.{Owes, IsSound}
-use Rattle.loopless.proofs.Moving.{own_valid}
+use Rattle.loopless.proofs.Moving.{beneath_valid}
+use Rattle.loopless.proofs.Reaching.{wide_kept}
 use Rattle.prefix_laws.proofs.Turns.{first_right, first_pends}
 
 -- a permutation of one element is it
@@ -40,34 +37,24 @@ only e (x ∷ []) p =
 only e (x ∷ y ∷ es) p = absurd (omega (arith, length_permutation (e ∷ []) (x ∷ y ∷ es) p))
 
 -- the set of the initial state has a state that the system lists
-pub initial_listed : {Set : Type 0} (u v w : View Set) (start : Set) (r : Bool) → Kept u v → Kept v w → Gives v w (λ s. s ≡ v.system.initial) start → (IsTrue r → IsEmpty w start) → (IsFalse r → HasMember w start) → Listed u.system.states u.system.initial
-initial_listed u v w start true k l init empty member = absurd (valid_clash ((init.means v.system.initial).1 refl) (empty refl v.system.initial))
-initial_listed u v w start false k l init empty member =
+pub initial_listed : {Set : Type 0} (v w : View Set) (start : Set) (r : Bool) → Kept v w → Gives v w (λ s. s ≡ v.system.initial) start → (IsTrue r → IsEmpty w start) → (IsFalse r → HasMember w start) → Listed v.system.states v.system.initial
+initial_listed v w start true k init empty member = absurd (valid_clash ((init.means v.system.initial).1 refl) (empty refl v.system.initial))
+initial_listed v w start false k init empty member =
     let m = member refl in
     let is : m.0 ≡ v.system.initial = (init.means m.0).0 m.2 in
     let there : Listed w.system.states v.system.initial = subst (Listed w.system.states) is m.1 in
-    subst (λ (y : System). Listed y.states y.initial) k.system (subst (λ (y : System). Listed y.states v.system.initial) l.system there)
+    subst (λ (y : System). Listed y.states v.system.initial) k.system there
 
-module _ {Set : Type 0} (u v w x : View Set) (b : Backward Set) (within start : Set) (n : Node Set) (e : Entry) (es : List Entry)
-    (alone : (a : Set) → Valid u a → a ≡ within) (wide : (s : State) → Useful u.system s → Has u within s) (valid : Valid u within) (listed : Listed u.system.states u.system.initial)
-    (back : IsBackward v b) (is : within_of (search_of b) ≡ within) (made : Trades u v (λ a. ⊥) (IsOwn (search_of b)))
+module _ {Set : Type 0} (y : System) (v w x : View Set) (b : Backward Set) (start : Set) (n : Node Set) (e : Entry) (es : List Entry)
+    (same : v.system ≡ y) (alone : IsAlone v b) (listed : Listed v.system.states v.system.initial)
     (kept : Kept v w) (init : Gives v w (λ s. s ≡ v.system.initial) start) (stays : Stays w x)
     (set : n.set ≡ start) (one : n.uses ≡ 1) (put : IsPermutation (e ∷ []) es) (bound : e.bound.0 ≡ 0) (cost : e.cost ≡ 0) (place : e.node ≡ 0)
     (goal : Decides e.at_goal (IsTrue (w.system.goal v.system.initial))) where
-  k0 : Kept u v
-  k0 = kept_made made
-
   k1 : Kept v x
   k1 = kept_trans kept stays.kept
 
-  k : Kept u x
-  k = kept_trans k0 k1
-
-  back_x : IsBackward x b
-  back_x = backward_kept v x b k1 back
-
   start_listed : Listed x.system.states x.system.initial
-  start_listed = subst (λ (y : System). Listed y.states y.initial) (sym k.system) listed
+  start_listed = subst (λ (z : System). Listed z.states z.initial) (sym k1.system) listed
 
   good : Good x.system []
   good = good_first x.system start_listed
@@ -143,24 +130,21 @@ module _ {Set : Type 0} (u v w x : View Set) (b : Backward Set) (within start : 
       at zero = one
       at (suc i) = refl
 
-  beneath_valid : (a : Set) → IsBeneath b a → Valid v a
-  beneath_valid a o = elim o [ inl own ↦ own_valid v b back a own | inr same ↦ subst (λ (c : Set). Valid v c) (sym same) back.search.within ]
-
   kept_by : (a : Set) → Valid x a → IsBeneath b a ⊎ InTree (n ∷ []) a
   kept_by a h = elim (init.only a (stays.only a h)) [
-    | inl old ↦ elim (made.only a old) [ inl own ↦ inl (inl own) | inr first ↦ inl (inr (alone a first ∙ sym is)) ]
+    | inl old ↦ inl (alone.keeps a old)
     | inr new ↦ inr (subst (λ (c : Set). InTree (n ∷ []) c) (sym (new ∙ sym set)) root_in)
   ]
 
   pub begun : (most : Option ℕ) → IsSound x b (n ∷ []) most es None None
   begun most = subst (λ (l : List Entry). IsSound x b (n ∷ []) most l None None) (sym single) (record {
     ready = record {
-      backward = back_x;
-      wide = λ s useful. subst (λ (a : Set). Has x a s) (sym is) (k.same within valid s ∙ wide s (subst (λ (y : System). Useful y s) k.system useful));
+      backward = backward_kept v x b k1 alone.backward;
+      wide = wide_kept v x b k1 alone.backward alone.wide;
       tree = tree;
       each = (entry, tt);
       counted = root_counted;
-      apart = λ a h beneath. valid_clash (beneath_valid a beneath) (subst (λ (c : Set). IsFalse (v.valid c)) (sym (in_root a h)) fresh);
+      apart = λ a h beneath. valid_clash (beneath_valid v b alone.backward a beneath) (subst (λ (c : Set). IsFalse (v.valid c)) (sym (in_root a h)) fresh);
       keeps = kept_by;
     };
     right = subst (λ (p : List ℕ). Right x.system most (p ∷ [])) (sym path) (first_right x.system most);
@@ -172,10 +156,10 @@ module _ {Set : Type 0} (u v w x : View Set) (b : Backward Set) (within start : 
       none_some : ◌≡◌ {A = Last} None (Some None) → ⊥
       none_some e = cc
 
-  begun_pends : (p : List ℕ) → IsPlanOf u.system Loopless p → Pending x.system (prefixes (n ∷ []) es) p
+  begun_pends : (p : List ℕ) → IsPlanOf y Loopless p → Pending x.system (prefixes (n ∷ []) es) p
   begun_pends p i =
-      let now : IsPlanOf x.system Loopless p = subst (λ (y : System). IsPlanOf y Loopless p) (sym k.system) i in
+      let now : IsPlanOf x.system Loopless p = subst (λ (z : System). IsPlanOf z Loopless p) (sym (k1.system ∙ same)) i in
       subst (λ (l : List Entry). Pending x.system (prefixes (n ∷ []) l) p) (sym single) (subst (λ (q : List ℕ). Pending x.system (q ∷ []) p) (sym path) (first_pends x.system p now))
 
-  pub begun_all : (p : List ℕ) → IsPlanOf u.system Loopless p → Owes x.system (prefixes (n ∷ []) es) None p
+  pub begun_all : (p : List ℕ) → IsPlanOf y Loopless p → Owes x.system (prefixes (n ∷ []) es) None p
   begun_all p i = inl (begun_pends p i)

@@ -9,3 +9,4 @@ pub mod Opening
 pub mod Walking
 pub mod Asks
 pub mod First
+pub mod Inside

@@ -26,6 +26,9 @@ use Rattle.loopless.specs.declared.left.Left.{Left}
 pub own_valid : {Set : Type 0} (v : View Set) (b : Backward Set) → IsBackward v b → (a : Set) → IsOwn (search_of b) a → Valid v a
 own_valid v b z a o = uses_valid v (search_of b) z.search a (own_used (search_of b) a o)
 
+pub beneath_valid : {Set : Type 0} (v : View Set) (b : Backward Set) → IsBackward v b → (a : Set) → IsBeneath b a → Valid v a
+beneath_valid v b z a o = elim o [ inl own ↦ own_valid v b z a own | inr e ↦ subst (λ (x : _). Valid v x) (sym e) z.search.within ]
+
 -- nothing happened
 pub moved_stays : {Set : Type 0} (v w : View Set) (b : Backward Set) → IsBackward v b → Stays v w → Moved v w b b
 moved_stays v w b z s = record { trades = trades_stays v w (IsOwn (search_of b)) s (own_valid v b z); within = refl; states = s.kept.same (within_of (search_of b)) z.search.within }
@@ -99,17 +102,14 @@ module _ {Set : Type 0} (v w : View Set) (b : Backward Set) (nodes grown : List 
   used_beneath : (a : Set) → Uses (search_of b) a → IsBeneath b a
   used_beneath a u = elim u [ inl k ↦ inl (inl k) | inr o ↦ elim o [ inl e ↦ inl (inr (inl e)) | inr e ↦ inr e ] ]
 
-  beneath_valid : (a : Set) → IsBeneath b a → Valid v a
-  beneath_valid a o = elim o [ inl own ↦ own_valid v b z a own | inr e ↦ subst (λ (x : Set). Valid v x) (sym e) z.search.within ]
-
   off_tree : (a : Set) → IsBeneath b a → ¬ InTree nodes a
   off_tree a o i = apart a i o
 
   pub backward_traded : IsBackward w b
   backward_traded = record {
     search = search_in v w (search_of b) t.system
-        (λ a u. t.others a (beneath_valid a (used_beneath a u)) (off_tree a (used_beneath a u)))
-        (λ a u. t.same a (beneath_valid a (used_beneath a u)) (off_tree a (used_beneath a u))) z.search;
+        (λ a u. t.others a (beneath_valid v b z a (used_beneath a u)) (off_tree a (used_beneath a u)))
+        (λ a u. t.same a (beneath_valid v b z a (used_beneath a u)) (off_tree a (used_beneath a u))) z.search;
     side = z.side;
   }
 
@@ -117,7 +117,7 @@ module _ {Set : Type 0} (v w : View Set) (b : Backward Set) (nodes grown : List 
   wide_traded wide s u = t.same (within_of (search_of b)) z.search.within (off_tree (within_of (search_of b)) (inr refl)) s ∙ wide s (subst (λ (y : System). Useful y s) t.system u)
 
   pub apart_traded : AreApart b grown
-  apart_traded a i o = clash (v.valid a) (beneath_valid a o) (t.fresh a i (off_tree a o))
+  apart_traded a i o = clash (v.valid a) (beneath_valid v b z a o) (t.fresh a i (off_tree a o))
     where
       clash : (x : Bool) → x ≡ true → x ≡ false → ⊥
       clash x e f = cc

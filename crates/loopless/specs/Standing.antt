@@ -2,7 +2,7 @@
 use Rattle.std.specs.Prelude.{◌≡◌, ℕ, ◌+◌, ◌*◌, ◌-◌, ◌<◌, ◌≤◌, ◌^◌, ◌⊎◌, cond, IsTrue, IsFalse, List, [], ◌∷◌, Option, Some, None}
 use Rattle.std.specs.List.{AllByRecursion}
 use Rattle.task_system.specs.System.{State, System}
-use Rattle.space_api.specs.View.{View, Valid}
+use Rattle.space_api.specs.View.{View, Valid, Has}
 use Rattle.space_api.specs.Owned.{Trades}
 use Rattle.cost_search.specs.Search.{IsOwn, within_of}
 use Rattle.backward_search.specs.Backward.{IsBackward, search_of}
@@ -14,7 +14,7 @@ use Rattle.prefix_tree.specs.Tree.{IsTree, IsCounted, InTree, path_at}
 use Rattle.prefix_tree.specs.Entries.{entries_at}
 use Rattle.prefix_tree.specs.declared.tree.Node.{Node}
 use Rattle.prefix_tree.specs.declared.entry.Entry.{Entry}
-use Rattle.loopless.specs.Left.{IsWide}
+use Rattle.loopless.specs.Left.{IsWide, IsReached}
 use Rattle.loopless.specs.Children.{IsEntry, prefixes}
 
 -- the search back went on: its sets alone were traded, and it is kept to the same set as before
@@ -26,6 +26,21 @@ pub record Moved {Set : Type 0} (v w : View Set) (b h : Backward Set) : Type 0 w
 -- a is one of the sets of the search back, or the one that it is kept to
 abbrev pub IsBeneath : {Set : Type 0} → Backward Set → Set → Type 0
 IsBeneath b a = IsOwn (search_of b) a ⊎ (a ≡ within_of (search_of b))
+
+-- the search back stands and is wide, and each valid set is one of it or the one that it is kept to
+pub record IsAlone {Set : Type 0} (v : View Set) (b : Backward Set) : Type 0 where
+  pub backward : IsBackward v b
+  pub wide : IsWide v b
+  pub keeps : (a : Set) → Valid v a → IsBeneath b a
+
+-- so, but for one set more, which has each state that is reached
+pub record HasReached {Set : Type 0} (v : View Set) (b : Backward Set) (reached : Set) : Type 0 where
+  pub backward : IsBackward v b
+  pub wide : IsWide v b
+  pub valid : Valid v reached
+  pub states : (s : State) → IsReached v.system s → Has v reached s
+  pub apart : ¬ IsBeneath b reached
+  pub keeps : (a : Set) → Valid v a → IsBeneath b a ⊎ (a ≡ reached)
 
 -- no set of the tree is one of those
 abbrev pub AreApart : {Set : Type 0} → Backward Set → List (Node Set) → Type 0

@@ -5,6 +5,7 @@ ghost use Rattle.space_api.specs.View.{View, Valid};
 ghost use Rattle.loopless.specs.Engine.{system_of, most_of, ended_of, IsEngine, HasNone, HasAlone, HasUseful, OwesAll};
 
 use crate::engine::LooplessPlans;
+use crate::racing::keep_to_reached;
 use crate::reach::is_goal;
 use backward_search::{Backward, Kind};
 use prefix_tree::{Entry, Node, Queue};
@@ -15,7 +16,7 @@ use symk_task::Memory;
 
 impl<S: Space + Drop> LooplessPlans<S> {
     /// All loopless plans of the space's system that cost at most `most`, where it is given. No plan is taken yet: each one
-    /// pends. The search back is kept to `within`.
+    /// pends. The search back is kept to `within`, and to the states that are reached where these are soon found.
     ///
     /// The caller knows that `within` has each useful state and alone is valid.
     fn begin(
@@ -35,6 +36,7 @@ impl<S: Space + Drop> LooplessPlans<S> {
     {
         let mut space = space;
         let backward = Backward::new(alloc, &mut space, within, Kind::Least)?;
+        let backward = keep_to_reached(alloc, &mut space, backward, within, most)?;
         let start = space.init()?;
         // The initial state is one of the space.
         let _ = space.is_empty(start);

@@ -1,4 +1,4 @@
-use Rattle.std.proofs.Common.{◌≡◌, ℕ, ◌+◌, ◌<◌, List, length, get_or, slice_index_or, sym, subst, arith}
+use Rattle.std.proofs.Common.{◌≡◌, ◌+◌, ◌<◌, List, length, get_or, slice_index_or, sym, subst, arith}
 use Rattle.task_system.specs.System.{System}
 use Rattle.space_api.specs.Operators.{LeadFrom}
 use Rattle.space_api.proofs.Rising.{past_none, past_next, never_falls}

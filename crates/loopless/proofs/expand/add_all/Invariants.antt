@@ -1,4 +1,4 @@
-use Rattle.std.proofs.Common.{◌≡◌, ℕ, ◌<◌, ◌≤◌}
+use Rattle.std.proofs.Common.{ℕ, ◌<◌, ◌≤◌}
 use Rattle.space_api.proofs.Rising.{IsPast}
 use Rattle.prefix_tree.specs.Tree.{Grows, path_at, uses_at}
 use Rattle.loopless.specs.Children.{AreChildren, CountsOn}

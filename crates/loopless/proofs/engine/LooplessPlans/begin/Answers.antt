@@ -7,40 +7,45 @@ use Rattle.prefix_tree.specs.declared.entry.Entry.{Entry}
 use Rattle.loopless.specs.Children.{prefixes}
 use Rattle.loopless.specs.Owing.{Owes, IsSound}
 use Rattle.loopless.proofs.First.{begun, begun_all, initial_listed}
+use Rattle.loopless.proofs.Inside.{alone_fresh}
 use Rattle.loopless.proofs.engine.LooplessPlans.begin.Goals as goal
+
+pub keep_to_reached-requires-clause-alone : goal.keep_to_reached-requires-clause-alone
+keep_to_reached-requires-clause-alone g c =
+    let view = g.S.Space.view in
+    alone_fresh (view c.args.space) (view c.new.new.space) c.in_ok-backward.backward c.args.within c.requires.alone c.requires.within c.requires.wide c.in_ok-backward.ensures.backward c.in_ok-backward.ensures.ok.within_is c.in_ok-backward.ensures.trades
 
 pub returns-clause-lawful : goal.returns-clause-lawful
 returns-clause-lawful g c =
     let view = g.S.Space.view in
-    let u = view c.args.space in
-    let v = view c.new.new.space in
+    let v = view c.keep_to_reached.new.space in
     let w = view c.init.new.self in
     let x = view c.is_goal.new.space in
-    let b = c.in_ok-backward.backward in
+    let b = c.in_ok-backward-2.backward in
     let n : Node g.row.S-Set.Denot = record { parent = 0; op = 0; set = c.in_ok-start.start; uses = 1 } in
     let e : Entry = record { bound = record { 0 = 0 }; cost = 0; node = 0; settled = false; at_goal = c.in_ok-at_goal.at_goal } in
     let es = entries_of c.push-2.new.self in
     let tree : c.push.new.self.items ≡ n ∷ [] = c.in_ok-push.ensures.items ∙ ap (λ (l : List (Node g.row.S-Set.Denot)). l ++ n ∷ []) c.new-tree.ensures.items in
     let put : IsPermutation (e ∷ []) es = subst (λ (l : List Entry). IsPermutation (e ∷ l) es) c.new-queue.ensures c.in_ok-push-2.ensures.ok in
     let init = c.in_ok-start.ensures.ok in
-    let listed = initial_listed u v w c.in_ok-start.start c.is_empty.result (kept_made c.in_ok-backward.ensures.trades) c.in_ok-start.ensures.kept init c.is_empty.ensures.empty.0 c.is_empty.ensures.member in
+    let listed = initial_listed v w c.in_ok-start.start c.is_empty.result c.in_ok-start.ensures.kept init c.is_empty.ensures.empty.0 c.is_empty.ensures.member in
     let goal = c.in_ok-at_goal.ensures.ok v.system.initial (record { valid = init.valid; means = init.means }) in
-    subst (λ (l : List (Node g.row.S-Set.Denot)). IsSound x b l c.args.most es None None) (sym tree) (begun u v w x b c.args.within c.in_ok-start.start n e es c.requires.alone c.requires.wide c.requires.within listed c.in_ok-backward.ensures.backward c.in_ok-backward.ensures.ok.within_is c.in_ok-backward.ensures.trades c.in_ok-start.ensures.kept init c.in_ok-at_goal.ensures.stays refl refl put refl refl refl goal c.args.most)
+    subst (λ (l : List (Node g.row.S-Set.Denot)). IsSound x b l c.args.most es None None) (sym tree) (begun v.system v w x b c.in_ok-start.start n e es refl c.in_ok-backward-2.ensures.alone listed c.in_ok-start.ensures.kept init c.in_ok-at_goal.ensures.stays refl refl put refl refl refl goal c.args.most)
 
 pub returns-clause-all : goal.returns-clause-all
 returns-clause-all g c p i =
     let view = g.S.Space.view in
-    let u = view c.args.space in
-    let v = view c.new.new.space in
+    let v = view c.keep_to_reached.new.space in
     let w = view c.init.new.self in
     let x = view c.is_goal.new.space in
-    let b = c.in_ok-backward.backward in
+    let b = c.in_ok-backward-2.backward in
     let n : Node g.row.S-Set.Denot = record { parent = 0; op = 0; set = c.in_ok-start.start; uses = 1 } in
     let e : Entry = record { bound = record { 0 = 0 }; cost = 0; node = 0; settled = false; at_goal = c.in_ok-at_goal.at_goal } in
     let es = entries_of c.push-2.new.self in
     let tree : c.push.new.self.items ≡ n ∷ [] = c.in_ok-push.ensures.items ∙ ap (λ (l : List (Node g.row.S-Set.Denot)). l ++ n ∷ []) c.new-tree.ensures.items in
     let put : IsPermutation (e ∷ []) es = subst (λ (l : List Entry). IsPermutation (e ∷ l) es) c.new-queue.ensures c.in_ok-push-2.ensures.ok in
     let init = c.in_ok-start.ensures.ok in
-    let listed = initial_listed u v w c.in_ok-start.start c.is_empty.result (kept_made c.in_ok-backward.ensures.trades) c.in_ok-start.ensures.kept init c.is_empty.ensures.empty.0 c.is_empty.ensures.member in
+    let listed = initial_listed v w c.in_ok-start.start c.is_empty.result c.in_ok-start.ensures.kept init c.is_empty.ensures.empty.0 c.is_empty.ensures.member in
     let goal = c.in_ok-at_goal.ensures.ok v.system.initial (record { valid = init.valid; means = init.means }) in
-    subst (λ (l : List (Node g.row.S-Set.Denot)). Owes x.system (prefixes l es) None p) (sym tree) (begun_all u v w x b c.args.within c.in_ok-start.start n e es c.requires.alone c.requires.wide c.requires.within listed c.in_ok-backward.ensures.backward c.in_ok-backward.ensures.ok.within_is c.in_ok-backward.ensures.trades c.in_ok-start.ensures.kept init c.in_ok-at_goal.ensures.stays refl refl put refl refl refl goal p i)
+    let same = c.in_ok-backward-2.ensures.system ∙ (kept_made c.in_ok-backward.ensures.trades).system in
+    subst (λ (l : List (Node g.row.S-Set.Denot)). Owes x.system (prefixes l es) None p) (sym tree) (begun_all (view c.args.space).system v w x b c.in_ok-start.start n e es same c.in_ok-backward-2.ensures.alone listed c.in_ok-start.ensures.kept init c.in_ok-at_goal.ensures.stays refl refl put refl refl refl goal p i)

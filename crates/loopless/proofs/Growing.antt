@@ -1,5 +1,5 @@
 -- Entries while the tree grows, and the children of one, operator after operator.
-use Rattle.std.proofs.Common.{◌≡◌, ℕ, zero, suc, ◌+◌, ◌<◌, ◌≤◌, ◌^◌, ◌⊎◌, inl, inr, Bool, true, false, IsTrue, IsFalse, List, [], ◌∷◌, ◌++◌, length, Some, refl, sym, ◌∙◌, ap, subst, arith, add-one}
+use Rattle.std.proofs.Common.{◌≡◌, ℕ, zero, suc, ◌+◌, ◌-◌, ◌<◌, ◌≤◌, ◌^◌, ◌⊎◌, inl, inr, Bool, true, false, IsTrue, IsFalse, List, [], ◌∷◌, ◌++◌, length, Some, refl, sym, ◌∙◌, ap, subst, arith, add-one, eq-eqb}
 use Rattle.std.specs.Bool.{Decides}
 use Rattle.std.specs.List.{AllByRecursion}
 use Rattle.std.proofs.lemmas.List.{length-append}
@@ -10,7 +10,7 @@ use Rattle.space_api.specs.Owned.{Trades}
 use Rattle.space_api.proofs.Keeping.{kept_refl, kept_trans}
 use Rattle.prefix_laws.specs.Queue.{prefix, ind, count, sum_ops, Good, Bounds, Hopeless}
 use Rattle.prefix_laws.proofs.Splits.{count_join, cost_join}
-use Rattle.prefix_laws.proofs.Traces.{bounds_by, plan_by, one_end}
+use Rattle.prefix_laws.proofs.Traces.{bounds_by, plan_by, one_end, runs_join}
 use Rattle.prefix_tree.specs.Tree.{One, IsTree, IsNode, InTree, IsCounted, Grows, GivesUp, path_at, uses_at, with_child, one_at}
 use Rattle.prefix_tree.specs.Entries.{entries_at}
 use Rattle.prefix_tree.specs.declared.tree.Node.{Node}
@@ -20,7 +20,7 @@ use Rattle.prefix_tree.proofs.Counting.{counted_child, uses_put}
 use Rattle.prefix_tree.proofs.Using.{some_used, in_valid, tree_child, in_child, child_in, old_in, path_child, path_new, length_child}
 use Rattle.prefix_tree.proofs.Releasing.{entries_last}
 use Rattle.space_api.proofs.Trading.{trades_trans}
-use Rattle.loopless.specs.Left.{CostsAtLeast}
+use Rattle.loopless.specs.Left.{CostsAtLeast, EndsAtLeast}
 use Rattle.loopless.specs.Reach.{IsLonger, IsReach}
 use Rattle.loopless.specs.Children.{IsEntry, prefixes, Added, AreChildren, CountsOn, Regrows}
 use Rattle.loopless.specs.declared.reach.Reached.{Reached}
@@ -189,6 +189,27 @@ module _ {Set : Type 0} (v w : View Set) (nodes : List (Node Set)) (n : Node Set
   used_push =
       let inside : n.parent < length (nodes ++ n ∷ []) = omega (arith, behind, length-append nodes (n ∷ [])) in
       omega (arith, uses_put (nodes ++ n ∷ []) n.parent (uses_at nodes n.parent + 1) inside)
+
+prefix_join : (e q : List ℕ) → prefix e (e ++ q) ≡ true
+prefix_join [] q = refl
+prefix_join (x ∷ e) q = rw (eq-eqb x x refl, prefix_join e q) refl
+
+prefix_front : (e q r : List ℕ) → prefix e ((e ++ q) ++ r) ≡ true
+prefix_front [] q r = refl
+prefix_front (x ∷ e) q r = rw (eq-eqb x x refl, prefix_front e q r) refl
+
+-- what the bound of an entry leaves after what its prefix costs, and after what a longer one does
+pub ends_after : {T : Type 0} (y : System) (nodes : List (Node T)) (e : Entry) (low : ℕ) → IsEntry y nodes e → low ≤ e.bound.0 - e.cost → EndsAtLeast y (path_at nodes e.node) low
+ends_after y nodes e low z le s run q t more goal =
+    let p = path_at nodes e.node in
+    let b = z.bounds (p ++ q) (t, runs_join y p q y.initial s t run more, goal) (prefix_join p q) in
+    omega (arith, b, z.cost, cost_join y p q, le)
+
+pub ends_longer : {T : Type 0} (y : System) (nodes : List (Node T)) (e : Entry) (op low : ℕ) → IsEntry y nodes e → low ≤ e.bound.0 - (e.cost + y.cost op) → EndsAtLeast y (path_at nodes e.node ++ op ∷ []) low
+ends_longer y nodes e op low z le s run q t more goal =
+    let p = path_at nodes e.node in
+    let b = z.bounds ((p ++ op ∷ []) ++ q) (t, runs_join y (p ++ op ∷ []) q y.initial s t run more, goal) (prefix_front p (op ∷ []) q) in
+    omega (arith, b, z.cost, cost_join y (p ++ op ∷ []) q, cost_join y p (op ∷ []), le)
 
 each_last : {X : Type 0} (P : X → Type 0) (xs : List X) (x : X) → AllByRecursion P xs → P x → AllByRecursion P (xs ++ x ∷ [])
 each_last P [] x a h = (h, tt)

@@ -1,5 +1,5 @@
 -- What least layers tell of what is left to the goal.
-use Rattle.std.proofs.Common.{◌≡◌, ℕ, ◌+◌, ◌<◌, ◌≤◌, ◌^◌, ◌⊎◌, inl, inr, IsTrue, List, [], ◌∷◌, ◌++◌, Some, None, refl, ap, subst, arith}
+use Rattle.std.proofs.Common.{◌≡◌, ℕ, ◌+◌, ◌<◌, ◌≤◌, ◌^◌, ◌⊎◌, inl, inr, IsTrue, List, [], ◌∷◌, ◌++◌, Option, Some, None, refl, ap, subst, arith}
 use Rattle.task_system.specs.System.{State, System, Runs, cost_of}
 use Rattle.space_api.specs.View.{View, Has}
 use Rattle.space_api.proofs.Runs.{run_more}
@@ -21,7 +21,7 @@ use Rattle.cost_search.specs.Meeting.{IsLeastAt, NoneMeetsBelow}
 use Rattle.backward_search.specs.Backward.{IsBackward, search_of}
 use Rattle.backward_search.specs.declared.backward.Backward.{Backward}
 use Rattle.prefix_tree.specs.Tree.{One}
-use Rattle.loopless.specs.Left.{IsWide, IsReached, CostsAtLeast, LeadsNowhere}
+use Rattle.loopless.specs.Left.{IsWide, IsReached, CostsAtLeast, NoneMeetsFrom, IsFirstFrom, LeadsNowhere}
 
 walk_costs : (y : System) (p : List ℕ) → walk_cost (seen_from Back y) p ≡ cost_of y p
 walk_costs y [] = refl
@@ -81,6 +81,22 @@ module _ {Set : Type 0} (v : View Set) (b : Backward Set) (z : IsBackward v b) (
 
   pub known_small : known_of (layers_of (search_of b)) ≤ 2 ^ 64
   known_small = settled.range
+
+  -- a layer that costs less than what is left has not the state
+  from_low : (set : Set) (s : State) (low n : ℕ) → One v set s → CostsAtLeast v.system s low → NoneMeetsFrom v (layers_of (search_of b)) set low n → NoneMeetsBelow v (layers_of (search_of b)) set n
+  from_low set s low n one least none d lt m = elim (less_or d low) [
+    | inr ge ↦ none d ge lt m
+    | inl less ↦
+        let is : m.0 ≡ s = (one.means m.0).0 m.2 in
+        let w = settled.right.sound d m.1.0 m.0 m.1.1 in
+        let r = (run_of_back v.system w.0 m.0).0 w.1 in
+        let le = least w.0 r.0 (subst (λ (x : State). Runs v.system x w.0 r.0) is r.1) r.2 in
+        absurd (omega (arith, le, less, walk_costs v.system w.0, w.2))
+  ]
+
+  pub first_least : (set : Set) (s : State) (low : ℕ) (o : Option ℕ) → One v set s → CostsAtLeast v.system s low → IsFirstFrom v (layers_of (search_of b)) set low o → IsLeastAt v (layers_of (search_of b)) set o
+  first_least set s low None one least h = from_low set s low (2 ^ 64) one least h
+  first_least set s low (Some c) one least h = (h.0, from_low set s low c one least h.1)
 
   fewer : (set : Set) (n m : ℕ) → n ≤ m → NoneMeetsBelow v (layers_of (search_of b)) set m → NoneMeetsBelow v (layers_of (search_of b)) set n
   fewer set n m le none d lt = none d (omega (arith, lt, le))

@@ -18,7 +18,7 @@ use Rattle.prefix_tree.specs.declared.tree.Node.{Node}
 use Rattle.prefix_tree.specs.declared.entry.Entry.{Entry}
 use Rattle.prefix_tree.proofs.Paths.{one_as, node_as}
 use Rattle.prefix_tree.proofs.Using.{used_here, in_valid}
-use Rattle.loopless.specs.Left.{IsWide, IsReached, IsLeft}
+use Rattle.loopless.specs.Left.{IsWide, IsReached, CostsAtLeast, IsLeft}
 use Rattle.loopless.specs.Children.{IsEntry}
 use Rattle.loopless.specs.Standing.{Moved, IsBeneath, AreApart}
 use Rattle.loopless.specs.declared.left.Left.{Left}
@@ -65,6 +65,9 @@ module _ {Set : Type 0} (v w : View Set) (b h : Backward Set) (nodes : List (Nod
 
   pub reached_here : (p : List ℕ) (good : Good v.system p) → IsReached w.system good.end
   reached_here p good = subst (λ (y : System). IsReached y good.end) (sym m.trades.system) (p, good.runs)
+
+  pub least_here : (s : State) (low : ℕ) → CostsAtLeast v.system s low → CostsAtLeast w.system s low
+  least_here s low h = subst (λ (y : System). CostsAtLeast y s low) (sym m.trades.system) h
 
   pub left_here : (s : State) (o : Option Left) → IsLeft w.system s o → IsLeft v.system s o
   left_here s o h = subst (λ (y : System). IsLeft y s o) m.trades.system h

@@ -8,6 +8,7 @@ ghost use Rattle.prefix_tree.specs.Entries.{HasRoom, entries_at, entries_of};
 ghost use Rattle.loopless.specs.Left.{IsWide};
 ghost use Rattle.loopless.specs.Children.{IsEntry, Added, AreChildren, CountsOn, Regrows};
 
+use crate::left::left_after;
 use crate::reach::reach;
 use backward_search::Backward;
 use prefix_tree::{Entry, Node, Queue, add, node_at, release_all};
@@ -55,9 +56,10 @@ fn add_child<S: Space>(
     ensures added { OnOk result (Added (S.view space.old).system tree.new.items
         (path_at tree.old.items entry.node) op children.old.items children.new.items) }
 {
-    let price = space.cost_of(op);
+    let cost = entry.cost + space.cost_of(op) as u128;
+    let low = left_after(entry.bound.0, cost);
     children.reserve(1)?;
-    match reach(space, backward, tree, entry.node, op)? {
+    match reach(space, backward, tree, entry.node, op, low)? {
         None => Ok(()),
         Some(to) => match add(tree, entry.node, op, to.set) {
             Err(_) => {
@@ -65,7 +67,6 @@ fn add_child<S: Space>(
                 Err(AllocError)
             }
             Ok(node) => {
-                let cost = entry.cost + price as u128;
                 children.push(entry_of(cost, to.left.cost, node, to.left.exact, to.at_goal))?;
                 Ok(())
             }

@@ -8,7 +8,7 @@ ghost use Rattle.loopless.specs.Left.{IsWide};
 ghost use Rattle.loopless.specs.Children.{IsEntry};
 ghost use Rattle.loopless.specs.Standing.{Moved, AreApart, IsBetter, stale};
 
-use crate::left::{Left, left_from};
+use crate::left::{Left, left_after, left_from};
 use backward_search::Backward;
 use prefix_tree::{Entry, Node, node_at};
 use space_api::{Space, SpaceFault};
@@ -96,7 +96,8 @@ pub(crate) fn refresh<S: Space>(
 {
     look_further(alloc, space, backward, entry)?;
     let here = node_at(tree, entry.node);
-    match left_from(space, backward, here.set)? {
+    let low = left_after(entry.bound.0, entry.cost);
+    match left_from(space, backward, here.set, low)? {
         None => Ok(None),
         Some(left) => Ok(Some(improved(entry, left))),
     }

@@ -2,7 +2,7 @@ use Rattle.prefix_tree.specs.Tree.{path_at}
 use Rattle.prefix_tree.proofs.Paths.{tree_kept}
 use Rattle.prefix_tree.proofs.Counting.{uses_beyond}
 use Rattle.backward_search.proofs.Standing.{backward_kept}
-use Rattle.loopless.proofs.Reaching.{node_here, none_lost, wide_kept, made_on, made_back, next_reached, seen_lost, seen_reach}
+use Rattle.loopless.proofs.Reaching.{node_here, none_lost, wide_kept, made_on, made_back, next_reached, next_least, seen_lost, seen_reach}
 use Rattle.loopless.proofs.reach.reach.Goals as goal
 
 pub node_at-here-requires : goal.node_at-here-requires
@@ -41,7 +41,8 @@ returns-in-Ok-Some-clause-ok g c =
     let made = rw c.in-Some.is at c.in_ok-step.ensures.made in
     let step = rw c.in-Some.is at (c.in_ok-step.ensures.ok node.good.end node.one) in
     let reached = next_reached u v w (path_at c.args.tree.now c.args.node) c.args.op node.good made.0 c.look.ensures.stays c.in-Some.next step in
-    let seen = rw c.in-Ok-Some.field-0-is at (c.in-Ok-Some.ensures.ok step.0 step.3 reached) in
+    let least = next_least u v w (path_at c.args.tree.now c.args.node) c.args.op node.good made.0 c.look.ensures.stays c.in-Some.next step c.args.low c.requires.low in
+    let seen = rw c.in-Ok-Some.field-0-is at (c.in-Ok-Some.ensures.ok step.0 step.3 reached least) in
     seen_reach u v w (path_at c.args.tree.now c.args.node) c.args.op node.good made.0 c.look.ensures.stays c.in-Some.next step made c.in-Ok-Some.reached seen
 
 pub returns-in-Ok-None-clause-ok : goal.returns-in-Ok-None-clause-ok
@@ -53,7 +54,8 @@ returns-in-Ok-None-clause-ok g c =
     let made = rw c.in-Some.is at c.in_ok-step.ensures.made in
     let step = rw c.in-Some.is at (c.in_ok-step.ensures.ok node.good.end node.one) in
     let reached = next_reached u v w (path_at c.args.tree.now c.args.node) c.args.op node.good made.0 c.look.ensures.stays c.in-Some.next step in
-    let seen = rw c.in-Ok-None.field-0-is at (c.in-Ok-None.ensures.ok step.0 step.3 reached) in
+    let least = next_least u v w (path_at c.args.tree.now c.args.node) c.args.op node.good made.0 c.look.ensures.stays c.in-Some.next step c.args.low c.requires.low in
+    let seen = rw c.in-Ok-None.field-0-is at (c.in-Ok-None.ensures.ok step.0 step.3 reached least) in
     (made_back u w (g.S.Space.view c.forget.new.self) c.in-Some.next (made_on u v w c.in-Some.next made c.look.ensures.stays) c.forget.ensures, seen_lost u v w (path_at c.args.tree.now c.args.node) c.args.op node.good made.0 c.look.ensures.stays c.in-Some.next step seen)
 
 pub returns-in-Err-clause-err : goal.returns-in-Err-clause-err

@@ -2,7 +2,8 @@ use Rattle.std.proofs.Common.{Some, None}
 use Rattle.prefix_tree.specs.Tree.{path_at}
 use Rattle.backward_search.proofs.Standing.{backward_kept}
 use Rattle.loopless.proofs.Reaching.{node_here}
-use Rattle.loopless.proofs.Moving.{moved_then, wide_moved, valid_here, one_here, reached_here, left_here, better, lost}
+use Rattle.loopless.proofs.Moving.{moved_then, wide_moved, valid_here, one_here, reached_here, left_here, least_here, better, lost}
+use Rattle.loopless.proofs.Growing.{ends_after}
 use Rattle.loopless.proofs.refresh.refresh.Goals as goal
 
 pub left_from-requires-clause-wide : goal.left_from-requires-clause-wide
@@ -43,7 +44,8 @@ improved-requires-clause-small g c =
     let node = node_here u c.args.tree.now c.args.entry.node c.node_at-here.result c.requires.tree c.requires.used (c.node_at-here.ensures c.node_at-here.result) in
     let one = one_here u v b h nodes m c.requires.apart c.requires.tree i n node.good.end c.requires.used is node.one in
     let reached = reached_here u v b h nodes m c.requires.apart c.requires.tree (path_at c.args.tree.now c.args.entry.node) node.good in
-    let now = c.in_ok-left_from.ensures.left node.good.end one reached in
+    let low = least_here u v b h nodes m c.requires.apart c.requires.tree node.good.end c.left_after-low.result (ends_after u.system nodes c.args.entry c.left_after-low.result c.requires.entry c.left_after-low.ensures node.good.end node.good.runs) in
+    let now = c.in_ok-left_from.ensures.left node.good.end one reached low in
     let left = rw c.in-Some.is at now in
     left.1
 
@@ -61,7 +63,8 @@ returns-in-None-clause-better g c =
     let node = node_here u c.args.tree.now c.args.entry.node c.node_at-here.result c.requires.tree c.requires.used (c.node_at-here.ensures c.node_at-here.result) in
     let one = one_here u v b h nodes m c.requires.apart c.requires.tree i n node.good.end c.requires.used is node.one in
     let reached = reached_here u v b h nodes m c.requires.apart c.requires.tree (path_at c.args.tree.now c.args.entry.node) node.good in
-    let now = c.in_ok-left_from.ensures.left node.good.end one reached in
+    let low = least_here u v b h nodes m c.requires.apart c.requires.tree node.good.end c.left_after-low.result (ends_after u.system nodes c.args.entry c.left_after-low.result c.requires.entry c.left_after-low.ensures node.good.end node.good.runs) in
+    let now = c.in_ok-left_from.ensures.left node.good.end one reached low in
     let left = left_here u v b h nodes m c.requires.apart c.requires.tree node.good.end None (rw c.in-None.is at now) in
     lost u.system nodes c.args.entry c.args.entry c.requires.entry node.good left
 
@@ -79,7 +82,8 @@ returns-in-Some-clause-better g c =
     let node = node_here u c.args.tree.now c.args.entry.node c.node_at-here.result c.requires.tree c.requires.used (c.node_at-here.ensures c.node_at-here.result) in
     let one = one_here u v b h nodes m c.requires.apart c.requires.tree i n node.good.end c.requires.used is node.one in
     let reached = reached_here u v b h nodes m c.requires.apart c.requires.tree (path_at c.args.tree.now c.args.entry.node) node.good in
-    let now = c.in_ok-left_from.ensures.left node.good.end one reached in
+    let low = least_here u v b h nodes m c.requires.apart c.requires.tree node.good.end c.left_after-low.result (ends_after u.system nodes c.args.entry c.left_after-low.result c.requires.entry c.left_after-low.ensures node.good.end node.good.runs) in
+    let now = c.in_ok-left_from.ensures.left node.good.end one reached low in
     let left = left_here u v b h nodes m c.requires.apart c.requires.tree node.good.end (Some c.in-Some.left) (rw c.in-Some.is at now) in
     let e = c.improved.ensures in
     (e.node, better u.system nodes c.args.entry c.improved.result c.requires.entry node.good c.in-Some.left left e.node e.cost e.at_goal e.bound, e.stale)

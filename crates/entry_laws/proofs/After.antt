@@ -33,11 +33,6 @@ module _ (y : System) (cost : ℕ) (ok : ℕ → Bool) where
       elim_on true = refl
       elim_on false = refl
 
-  swap : (a b c : Bool) → (a && (b && c)) ≡ (b && (a && c))
-  swap true b c = refl
-  swap false true c = refl
-  swap false false c = refl
-
   rest_splits : (r : List ℕ) → Covers r → ind (eqb (cost_of y r) cost) ≡ ind (are_equal r [] && eqb cost 0) + sum_ops y.operators (part r)
   rest_splits [] cov =
       let z : sum_ops y.operators (part []) ≡ 0 = sum_zero y.operators (part []) (λ k b. no_child k) in

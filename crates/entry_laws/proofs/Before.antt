@@ -13,9 +13,6 @@ module _ (y : System) (has : State → Bool) (cost : ℕ) (test : List ℕ → B
   Along d s [] = Backs d s
   Along d s (op ∷ p) = Backs d s × (op < y.operators) × ((t : State) → y.step op s ≡ Some t → Along (d + y.cost op) t p)
 
-  child : ℕ → ℕ → State → List ℕ → ℕ
-  child op d s p = hits y (back op) (rest op) (next op test) d s p
-
   abbrev here : ℕ → List ℕ → ℕ → State → ℕ → ℕ
   here op p d s k = ind ((eqb op k && test p) && (eqb d (rest k) && back k s))
 

@@ -56,15 +56,6 @@ module _ (y : System) (front back : ℕ → State → Bool) (f b : ℕ) (tab : T
       let test : begins y (op ∷ []) r (op ∷ rest) ≡ true = rw (eq-eqb op op refl) (eq-eqb _ _ z) in
       (m.0, at_cut d op r d m.0 t (op ∷ rest) low near (q, m.1, x) m.2 goal test refl)
 
-  -- where the layers meet, a plan has this cut
-  pub cross_plan : (d op r : ℕ) (s : State) → op < y.operators → d < f → r < b → b ≤ y.cost op + r → meeting y front back d op r s ≡ true → (p : List ℕ) × IsPlan y p × IsCut y b p (Cross d op r)
-  cross_plan d op r s number low near far h =
-      let m = both _ _ h in
-      let g = tab.front_sound d s low m.0 in
-      let t = led y op s (back r) (y.step op s) number refl m.1 in
-      let e = tab.back_sound r t.0 near t.1 in
-      (g.0 ++ op ∷ e.0, (e.1, joined y g.0 (op ∷ e.0) y.initial s e.1 g.1 (t.0, t.2, e.2), e.3), (g.0, e.0, refl, g.2, e.4, near, far))
-
   -- what the first entry of a cut stands on
   pub cross_stands : (d op r ring listed : ℕ) → op < y.operators → d < f → r < b → d + y.cost op + r ≡ listed → ((s : State) × (meeting y front back d op r s ≡ true) × FwdIn y d ring s) → Stands y f b listed (Head (meeting y front back d op r) d ring (op ∷ []) r)
   cross_stands d op r ring listed number low near c member = (
@@ -75,15 +66,6 @@ module _ (y : System) (front back : ℕ → State → Bool) (f b : ℕ) (tab : T
     low,
     near,
   )
-
-  -- layers cut to a set that has every useful state stay right
-  pub narrowed : (u : State → Bool) → ((s : State) → Useful y s → u s ≡ true) → Tables y (λ c s. front c s && u s) (λ c s. back c s && u s) f b
-  narrowed u all = record {
-    front_sound = λ c s low h. tab.front_sound c s low (both (front c s) (u s) h).0;
-    front_all = λ c s low serves g. both_of _ _ (tab.front_all c s low serves g) (all s serves);
-    back_sound = λ c s low h. tab.back_sound c s low (both (back c s) (u s) h).0;
-    back_all = λ c s low serves g. both_of _ _ (tab.back_all c s low serves g) (all s serves);
-  }
 
   into_parts : (has : State → Bool) (cost k : ℕ) (s t : State) → y.cost k ≤ cost → front (cost - y.cost k) s ≡ true → y.step k s ≡ Some t → has t ≡ true → into y front has cost k s ≡ true
   into_parts has cost k s t le there step h = rw (leb_yes (y.cost k) cost le, there, step) h
@@ -120,9 +102,6 @@ module _ (y : System) (front back : ℕ → State → Bool) (f b : ℕ) (tab : T
         | inr w ↦ inl w
       ] in
       inr (k, zeros y p, t, lead.number, ok, joined y ops (k ∷ []) y.initial s t run (t, lead, refl), (p, u, rest, goal, left, refl), fall)
-
-rebuilt : (y : System) (front back : ℕ → State → Bool) (u : State → Bool) (d op r : ℕ) (s t : State) → front d s ≡ true → u s ≡ true → y.step op s ≡ Some t → back r t ≡ true → u t ≡ true → meeting y (λ c x. front c x && u x) (λ c x. back c x && u x) d op r s ≡ true
-rebuilt y front back u d op r s t a e step h k = rw (step, a, e, h, k) refl
 
 spent : (a c : Bool) (x : Bool) → (c ≡ true → a ≡ true) → x ≡ (a && not c) → ind c + ind x ≡ ind a
 spent true true x h e = rw e (omega arith)

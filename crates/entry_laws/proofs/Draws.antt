@@ -171,9 +171,6 @@ module _ (y : System) (b cost : ℕ) where
 pub next_lawful : (y : System) (front back : ℕ → State → Bool) (f b cost : ℕ) → Tables y front back f b → Lawful y front back f b cost [] (undrawn true None)
 next_lawful y front back f b cost tables = record { tables = tables; stands = tt; once = λ p plan is. omega arith }
 
-below_or : (a c : ℕ) → (a < c) ⊎ (c ≤ a)
-below_or a c = grind arith
-
 same_or : (a c : ℕ) → c ≤ a → (c < a) ⊎ (a ≡ c)
 same_or a c h = grind arith
 

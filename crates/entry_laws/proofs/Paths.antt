@@ -3,11 +3,9 @@ use Rattle.std.proofs.Common.{◌≡◌, ℕ, ◌+◌, ◌<◌, ◌≤◌, Bool,
 use Rattle.std.proofs.lemmas.Bool.Decides.{nat_tests}
 use Rattle.std.proofs.lemmas.Bool.{eqb-true}
 use Rattle.task_system.specs.System.{State, System, Leads, Runs}
-use Rattle.run_graph.specs.Reached.{ReachedAt, ToGoalAt}
-use Rattle.entry_laws.proofs.Ends.{fwd_of_ends}
 use Rattle.task_system.specs.System.{are_equal}
-use Rattle.entry_laws.specs.Counts.{ind, on_some, at_some}
-use Rattle.entry_laws.specs.Entries.{reach, FwdIn, BwdIn}
+use Rattle.entry_laws.specs.Counts.{at_some}
+use Rattle.entry_laws.specs.Entries.{reach}
 use Rattle.entry_laws.proofs.Cutting.{falsum}
 
 pub some_is : (n m : State) → Some n ≡ Some m → n ≡ m
@@ -20,10 +18,6 @@ both false b h = absurd (falsum h)
 pub either : (b : Bool) → (b ≡ true) ⊎ (b ≡ false)
 either true = inl refl
 either false = inr refl
-
-pub counted : (b : Bool) → 0 < ind b → b ≡ true
-counted true h = refl
-counted false h = absurd (omega arith)
 
 pub le_of : (a b : ℕ) → leb a b ≡ true → a ≤ b
 le_of a b h = grind (arith, nat_tests)
@@ -59,19 +53,3 @@ parted y (op ∷ q) p s t (n, leads, run) = let m = parted y q p n t run in (m.0
 pub led : (y : System) (op : ℕ) (s : State) (has : State → Bool) (o : Option State) → op < y.operators → y.step op s ≡ o → at_some o has ≡ true → (t : State) × (has t ≡ true) × Leads y op s t
 led y op s has None b e h = absurd (falsum h)
 led y op s has (Some t) b e h = (t, h, record { number = b; step = e })
-
-pub fwd_in : (y : System) (c n : ℕ) (s : State) → FwdIn y c n s → ReachedAt y c s
-fwd_in y c n s (q, ends, cost, z) = subst (λ (k : ℕ). ReachedAt y k s) cost (fwd_of_ends y q s ends)
-
-pub bwd_in : (y : System) (c n : ℕ) (s : State) → BwdIn y c n s → ToGoalAt y c s
-bwd_in y c n s (p, t, run, goal, cost, z) = (p, t, run, goal, cost)
-
-one_of : (a b : ℕ) → 0 < a + b → (0 < a) ⊎ (0 < b)
-one_of a b h = grind arith
-
-later : (o : Option State) (f : State → ℕ) (x z : ℕ) → ((t : State) → 0 < f t → x ≡ z) → 0 < on_some o f → x ≡ z
-later None f x z ih h = absurd (omega arith)
-later (Some t) f x z ih h = ih t h
-
-both_true : (a b c : Bool) → a ≡ true → b ≡ true → c ≡ true → 0 < ind (a && (b && c))
-both_true a b c e f g = rw (e, f, g) (omega arith)

@@ -1,5 +1,5 @@
 -- What a turn does to what is owed.
-use Rattle.std.proofs.Common.{◌≡◌, ℕ, ◌+◌, ◌<◌, ◌≤◌, Bool, false, ◌⊎◌, ◌↔◌, inl, inr, List, [], ◌∷◌, ◌++◌, Option, refl, ◌∙◌, ap, subst, arith, length}
+use Rattle.std.proofs.Common.{◌≡◌, ℕ, ◌+◌, ◌<◌, ◌≤◌, Bool, false, ◌↔◌, inl, inr, List, [], ◌∷◌, ◌++◌, Option, refl, ◌∙◌, ap, subst, arith, length}
 use Rattle.std.specs.List.{AllByRecursion}
 use Rattle.task_system.specs.System.{State, System, IsPlan, cost_of}
 use Rattle.task_system.specs.System.{are_equal}
@@ -22,9 +22,6 @@ all_front P (y ∷ xs) x a = let r = all_front P xs x a.1 in ((a.0, r.0), r.1)
 all_append : {X : Type 0} (P : X → Type 0) (xs ys : List X) → AllByRecursion P xs → AllByRecursion P ys → AllByRecursion P (xs ++ ys)
 all_append P [] ys a b = b
 all_append P (x ∷ xs) ys a b = (a.0, all_append P xs ys a.1 b)
-
-one_of : (a b : ℕ) → 0 < a + b → (0 < a) ⊎ (0 < b)
-one_of a b h = grind arith
 
 -- a number read off the entry that is taken next
 abbrev pub last_by : (Plain → ℕ) → List Plain → ℕ

@@ -31,11 +31,3 @@ begins y (op ∷ ops) cost = next op (begins y ops cost)
 abbrev pub hits : System → (State → Bool) → ℕ → (List ℕ → Bool) → ℕ → State → List ℕ → ℕ
 hits y has cost rest d s [] = ind (rest [] && (eqb d cost && has s))
 hits y has cost rest d s (op ∷ p) = ind (rest (op ∷ p) && (eqb d cost && has s)) + on_some (y.step op s) (λ t. hits y has cost rest (d + y.cost op) t p)
-
--- a prefix is grown backwards out of the set; `ops` stand between the set and the meeting state, and what follows that costs `after`
-abbrev pub before_hits : System → (State → Bool) → ℕ → List ℕ → ℕ → List ℕ → ℕ
-before_hits y has cost ops after p = hits y has cost (begins y ops after) 0 y.initial p
-
--- a suffix is grown forwards from one state; `ops` stand before it
-abbrev pub after_hits : System → ℕ → List ℕ → List ℕ → ℕ
-after_hits y cost ops p = ind (begins y ops cost p)

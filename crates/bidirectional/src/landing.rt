@@ -14,7 +14,7 @@ ghost use Rattle.bidirectional.specs.Cutting.{Lands, LandsBy};
 
 use crate::cutting::cost_before;
 use cost_layers::Layers;
-use layer_steps::join_along;
+use layer_steps::unite_along;
 use run_graph::Side;
 use space_api::{Space, SpaceFault};
 
@@ -36,7 +36,7 @@ fn land_back<S: Space>(
     ensures err { OnErr result (NoMore (S.view space.old) (S.view space.new)) }
 {
     let before = space.pre_cost(w, to, from)?;
-    let more = join_along(space, Side::Ahead, to, landed, w, before);
+    let more = unite_along(space, Side::Ahead, to, landed, w, before);
     space.forget(before);
     more
 }
@@ -59,7 +59,7 @@ fn land_from<S: Space>(
     ensures err { OnErr result (NoMore (S.view space.old) (S.view space.new)) }
 {
     if ahead {
-        join_along(space, Side::Ahead, to, landed, w, from)
+        unite_along(space, Side::Ahead, to, landed, w, from)
     } else {
         land_back(space, from, w, to, landed)
     }

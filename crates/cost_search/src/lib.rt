@@ -13,10 +13,9 @@
 #![tactic(auto)]
 
 mod costs;
-mod cutting;
-mod finding;
-mod giving;
-mod queue;
+mod next_layer;
+mod release;
+mod restrict;
 mod search;
 
 pub use costs::cost_after;

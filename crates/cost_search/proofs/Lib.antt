@@ -6,6 +6,7 @@ pub mod Standing
 pub mod Taking
 pub mod Passing
 pub mod NoneOut
+pub mod Directing
 pub mod Found
 pub mod Narrowed
 pub mod CutSets

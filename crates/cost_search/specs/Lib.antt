@@ -6,3 +6,5 @@ pub mod Finding
 pub mod Search
 pub mod New
 pub mod Narrowing
+pub mod Kinds
+pub mod Directed

@@ -12,11 +12,17 @@
 //! The search by cost is that of E. W. Dijkstra (1959), over sets of states.
 #![tactic(auto)]
 
+mod backward;
 mod costs;
+mod directed;
+mod direction;
+mod forward;
 mod next_layer;
 mod release;
 mod restrict;
 mod search;
 
 pub use costs::cost_after;
+pub use directed::Directed;
+pub use direction::{Direction, FromGoal, FromInit};
 pub use search::{Search, Step};

@@ -11,8 +11,8 @@ use Rattle.lazy_plans.specs.declared.stop.Stop.{Stop}
 use Rattle.lazy_plans.specs.declared.stop.Stop.TheVariants.{Memory}
 use Rattle.lazy_plans.proofs.Given.{turned_from, ended_by, again_none, again_stop}
 use Rattle.lazy_plans.proofs.Told.{equal_is, equal_self}
-use Rattle.backward_search.specs.declared.backward.Backward.{Backward}
-use Rattle.backward_search.proofs.Standing.{backward_kept}
+use Rattle.cost_search.specs.Directed.{Backward}
+use Rattle.cost_search.proofs.Directing.{directed_kept}
 use Rattle.prefix_laws.specs.Queue.{Right, Pending}
 use Rattle.prefix_tree.specs.declared.tree.Node.{Node}
 use Rattle.prefix_tree.specs.declared.entry.Entry.{Entry}
@@ -83,7 +83,7 @@ held_stays y most a b p g q = (
 
 -- the space was tidied, or that was refused
 pub ready_stays : {Set : Type 0} (v w : View Set) (b : Backward Set) (nodes : List (Node Set)) (es : List Entry) → SetsStay v w → IsReady v b nodes es → IsReady w b nodes es
-ready_stays v w b nodes es s z = ready_moved v w b b nodes es (backward_kept v w b s.kept z.backward) (moved_stays v w b z.backward s) z
+ready_stays v w b nodes es s z = ready_moved v w b b nodes es (directed_kept v w b s.kept z.backward) (moved_stays v w b z.backward s) z
 
 -- after the turns of a call, and after the space was tidied
 module _ {Set : Type 0} (v w : View Set) (h : Backward Set) (nodes grown : List (Node Set)) (most : Option ℕ) (es new : List Entry)

@@ -13,8 +13,8 @@ use Rattle.space_api.specs.Frames.{Kept, Gives, Stays}
 use Rattle.space_api.proofs.Trading.{valid_clash}
 use Rattle.space_api.proofs.Keeping.{kept_trans}
 use Rattle.lazy_plans.specs.Law.{Last}
-use Rattle.backward_search.specs.declared.backward.Backward.{Backward}
-use Rattle.backward_search.proofs.Standing.{backward_kept}
+use Rattle.cost_search.specs.Directed.{Backward}
+use Rattle.cost_search.proofs.Directing.{directed_kept}
 use Rattle.prefix_laws.specs.Queue.{Good, Right, Pending}
 use Rattle.prefix_laws.proofs.Traces.{good_first, plan_by}
 use Rattle.prefix_tree.specs.Tree.{One, IsTree, IsNode, InTree, IsCounted, path_at, uses_at, one_at}

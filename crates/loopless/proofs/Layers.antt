@@ -18,8 +18,7 @@ use Rattle.cost_layers.specs.Layers.{known_of, beyond_of, Stands}
 use Rattle.layer_steps.specs.Opening.{IsOpen}
 use Rattle.cost_search.specs.Search.{layers_of, within_of, seen_of}
 use Rattle.cost_search.specs.Meeting.{IsLeastAt, NoneMeetsBelow}
-use Rattle.backward_search.specs.Backward.{IsBackward, search_of}
-use Rattle.backward_search.specs.declared.backward.Backward.{Backward}
+use Rattle.cost_search.specs.Directed.{Backward, IsBackward, search_of}
 use Rattle.prefix_tree.specs.Tree.{One}
 use Rattle.loopless.specs.Left.{IsWide, IsReached, CostsAtLeast, NoneMeetsFrom, IsFirstFrom, LeadsNowhere}
 

@@ -9,8 +9,7 @@ use Rattle.space_api.proofs.Trading.{trades_stays, trades_trans}
 use Rattle.run_graph.specs.Reached.{Useful}
 use Rattle.cost_search.specs.Search.{IsOwn, within_of}
 use Rattle.cost_search.proofs.Standing.{Uses, search_in, uses_valid, own_used}
-use Rattle.backward_search.specs.Backward.{IsBackward, search_of}
-use Rattle.backward_search.specs.declared.backward.Backward.{Backward}
+use Rattle.cost_search.specs.Directed.{Backward, IsBackward, search_of}
 use Rattle.prefix_laws.specs.Queue.{Good, Bounds, Hopeless}
 use Rattle.prefix_laws.proofs.Traces.{bounds_by, stuck}
 use Rattle.prefix_tree.specs.Tree.{One, IsTree, InTree, path_at, uses_at}
@@ -114,6 +113,7 @@ module _ {Set : Type 0} (v w : View Set) (b : Backward Set) (nodes grown : List 
         (λ a u. t.others a (beneath_valid v b z a (used_beneath a u)) (off_tree a (used_beneath a u)))
         (λ a u. t.same a (beneath_valid v b z a (used_beneath a u)) (off_tree a (used_beneath a u))) z.search;
     side = z.side;
+    kind = z.kind;
   }
 
   pub wide_traded : IsWide v b → IsWide w b

@@ -7,7 +7,7 @@ use Rattle.task_system.specs.System.{System}
 use Rattle.space_api.specs.View.{View}
 use Rattle.space_api.proofs.Trading.{valid_clash, trades_trans}
 use Rattle.lazy_plans.specs.Law.{Gave, Stays}
-use Rattle.backward_search.specs.declared.backward.Backward.{Backward}
+use Rattle.cost_search.specs.Directed.{Backward}
 use Rattle.prefix_laws.specs.Queue.{Good, Right, Pending, Children, weight}
 use Rattle.prefix_tree.specs.Tree.{IsCounted, Grows, GivesUp, path_at, uses_at, one_at}
 use Rattle.prefix_tree.specs.Entries.{entries_at}

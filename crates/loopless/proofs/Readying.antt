@@ -7,8 +7,7 @@ use Rattle.task_system.specs.System.{System}
 use Rattle.space_api.specs.View.{View}
 use Rattle.space_api.specs.Owned.{Trades}
 use Rattle.lazy_plans.specs.Law.{Stays}
-use Rattle.backward_search.specs.Backward.{IsBackward}
-use Rattle.backward_search.specs.declared.backward.Backward.{Backward}
+use Rattle.cost_search.specs.Directed.{Backward, IsBackward}
 use Rattle.prefix_laws.specs.Queue.{Good, Right, Pending, Replaced, weight}
 use Rattle.prefix_laws.proofs.Turns as turns
 use Rattle.prefix_tree.specs.Tree.{IsTree, InTree, IsCounted, GivesUp, path_at, uses_at, one_at}

@@ -7,7 +7,7 @@ use Rattle.space_api.specs.View.{View}
 use Rattle.lazy_plans.specs.Law.{Gave, Stays, Stops, NoneLeft, Turned, top}
 use Rattle.lazy_plans.specs.declared.stop.Stop.TheVariants.{Memory, CostRange}
 use Rattle.lazy_plans.proofs.Given.{turned_from}
-use Rattle.backward_search.specs.declared.backward.Backward.{Backward}
+use Rattle.cost_search.specs.Directed.{Backward}
 use Rattle.prefix_laws.specs.Queue.{Bounds, Right, Pending}
 use Rattle.prefix_laws.proofs.Turns as turns
 use Rattle.prefix_tree.specs.Tree.{path_at}

@@ -6,7 +6,7 @@ use Rattle.space_api.specs.View.{View}
 use Rattle.lazy_plans.specs.Law.{Last, Ended, Turned, last_of}
 use Rattle.lazy_plans.specs.declared.stop.Stop.{Stop}
 use Rattle.lazy_plans.specs.declared.stop.Stop.TheVariants.{Memory}
-use Rattle.backward_search.specs.declared.backward.Backward.{Backward}
+use Rattle.cost_search.specs.Directed.{Backward}
 use Rattle.prefix_laws.specs.Queue.{Right, Pending, pending}
 use Rattle.prefix_tree.specs.declared.tree.Node.{Node}
 use Rattle.prefix_tree.specs.declared.entry.Entry.{Entry}

@@ -5,8 +5,7 @@ use Rattle.task_system.specs.System.{State, System}
 use Rattle.space_api.specs.View.{View, Valid, Has}
 use Rattle.space_api.specs.Owned.{Trades}
 use Rattle.cost_search.specs.Search.{IsOwn, within_of}
-use Rattle.backward_search.specs.Backward.{IsBackward, search_of}
-use Rattle.backward_search.specs.declared.backward.Backward.{Backward}
+use Rattle.cost_search.specs.Directed.{Backward, IsBackward, search_of}
 use Rattle.symk_task.specs.declared.parts.Mode.TheVariants.{Loopless}
 use Rattle.lazy_plans.specs.Law.{Gave, Stays, top}
 use Rattle.prefix_laws.specs.Queue.{Hopeless, Right, Pending, weight}

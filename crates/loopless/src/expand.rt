@@ -2,7 +2,7 @@
 
 ghost use Rattle.std.specs.Prelude.{◌≡◌, ℕ, ◌+◌, ◌<◌, ◌≤◌, ◌*◌, ◌-◌, ◌^◌, [], IfOk, OnOk, OnErr, length};
 ghost use Rattle.space_api.specs.View.{View};
-ghost use Rattle.backward_search.specs.Backward.{IsBackward};
+ghost use Rattle.cost_search.specs.Directed.{IsBackward};
 ghost use Rattle.prefix_tree.specs.Tree.{IsTree, Grows, IsCounted, HasUses, GivesUp, path_at, uses_at};
 ghost use Rattle.prefix_tree.specs.Entries.{HasRoom, entries_at, entries_of};
 ghost use Rattle.loopless.specs.Left.{IsWide};

@@ -6,7 +6,7 @@ ghost use Rattle.space_api.specs.View.{View, Valid};
 ghost use Rattle.space_api.specs.Frames.{Stays};
 ghost use Rattle.cost_layers.specs.Layers.{Held};
 ghost use Rattle.cost_search.specs.Meeting.{IsLayerMeeting};
-ghost use Rattle.backward_search.specs.Backward.{IsBackward};
+ghost use Rattle.cost_search.specs.Directed.{IsBackward};
 ghost use Rattle.prefix_tree.specs.Tree.{One};
 ghost use Rattle.loopless.specs.Left.{IsWide, IsReached, CostsAtLeast, IsFirstFrom, IsLeft};
 

@@ -6,7 +6,7 @@ ghost use Rattle.std.specs.Prelude.{IsTrue};
 ghost use Rattle.task_system.specs.System.{State};
 ghost use Rattle.space_api.specs.View.{View, Valid};
 ghost use Rattle.space_api.specs.Frames.{Stays};
-ghost use Rattle.backward_search.specs.Backward.{IsBackward};
+ghost use Rattle.cost_search.specs.Directed.{IsBackward};
 ghost use Rattle.prefix_tree.specs.Tree.{One, IsTree, path_at, uses_at};
 ghost use Rattle.loopless.specs.Left.{IsWide, IsReached, CostsAtLeast, EndsAtLeast};
 ghost use Rattle.loopless.specs.Reach.{Makes, IsStepped, IsSeen, IsReach};

@@ -2,7 +2,7 @@
 
 ghost use Rattle.std.specs.Prelude.{◌≡◌, ◌+◌, ◌*◌, ◌-◌, ◌<◌, ◌≤◌, ◌^◌, ◌⊎◌, IsFalse, IfOk};
 ghost use Rattle.space_api.specs.View.{View};
-ghost use Rattle.backward_search.specs.Backward.{IsBackward};
+ghost use Rattle.cost_search.specs.Directed.{IsBackward};
 ghost use Rattle.prefix_tree.specs.Tree.{IsTree, uses_at};
 ghost use Rattle.loopless.specs.Left.{IsWide};
 ghost use Rattle.loopless.specs.Children.{IsEntry};

@@ -3,7 +3,7 @@
 ghost use Rattle.std.specs.Prelude.{IfOk};
 ghost use Rattle.space_api.specs.View.{Valid};
 ghost use Rattle.space_api.specs.Frames.{Kept};
-ghost use Rattle.backward_search.specs.Backward.{IsBackward};
+ghost use Rattle.cost_search.specs.Directed.{IsBackward};
 
 use backward_search::{Backward, Kind, Step};
 use bdd_space::BddSpace;

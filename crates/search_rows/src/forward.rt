@@ -3,7 +3,7 @@
 ghost use Rattle.std.specs.Prelude.{IfOk};
 ghost use Rattle.space_api.specs.View.{Valid};
 ghost use Rattle.space_api.specs.Frames.{Kept};
-ghost use Rattle.forward_search.specs.Forward.{IsForward};
+ghost use Rattle.cost_search.specs.Directed.{IsForward};
 
 use bdd_space::BddSpace;
 use explicit_space::{ExplicitSpace, FuseSpace};

@@ -4,7 +4,7 @@ use Rattle.space_api.specs.Operators.{LeadFrom}
 use Rattle.space_api.proofs.Rising.{past_none, past_next, never_falls}
 use Rattle.prefix_tree.specs.Tree.{path_at}
 use Rattle.prefix_tree.specs.declared.tree.Node.{Node}
-use Rattle.backward_search.proofs.Standing.{backward_kept}
+use Rattle.cost_search.proofs.Directing.{directed_kept}
 use Rattle.loopless.specs.Children.{AreChildren}
 use Rattle.loopless.proofs.Reaching.{node_here, wide_kept}
 use Rattle.loopless.proofs.Skipping.{skip_to, when_ok}
@@ -38,7 +38,7 @@ pub add_child-requires-clause-op : goal.add_child-requires-clause-op
 add_child-requires-clause-op g c = subst (λ (y : System). get_or c.deref-op-items.result.now c.operators.op-index 0 < y.operators) (sym c.operators.invariant.grows.kept.system) (let lead : LeadFrom (g.S.Space.view c.args.space.now) c.node_at-here.result.set c.deref-op-items.result.now = subst (LeadFrom (g.S.Space.view c.args.space.now) c.node_at-here.result.set) (sym c.deref-op-items.ensures.value) c.in_ok-ops.ensures in lead.known c.operators.op-index 0 c.operators-test.true)
 
 pub add_child-requires-clause-backward : goal.add_child-requires-clause-backward
-add_child-requires-clause-backward g c = backward_kept (g.S.Space.view c.args.space.now) (g.S.Space.view c.operators.space) c.args.backward.now c.operators.invariant.grows.kept c.requires.backward
+add_child-requires-clause-backward g c = directed_kept (g.S.Space.view c.args.space.now) (g.S.Space.view c.operators.space) c.args.backward.now c.operators.invariant.grows.kept c.requires.backward
 
 pub add_child-requires-clause-wide : goal.add_child-requires-clause-wide
 add_child-requires-clause-wide g c = wide_kept (g.S.Space.view c.args.space.now) (g.S.Space.view c.operators.space) c.args.backward.now c.operators.invariant.grows.kept c.requires.backward c.requires.wide

@@ -1,7 +1,7 @@
 use Rattle.prefix_tree.specs.Tree.{path_at}
 use Rattle.prefix_tree.proofs.Paths.{tree_kept}
 use Rattle.prefix_tree.proofs.Counting.{uses_beyond}
-use Rattle.backward_search.proofs.Standing.{backward_kept}
+use Rattle.cost_search.proofs.Directing.{directed_kept}
 use Rattle.loopless.proofs.Reaching.{node_here, none_lost, wide_kept, made_on, made_back, next_reached, next_least, seen_lost, seen_reach}
 use Rattle.loopless.proofs.reach.reach.Goals as goal
 
@@ -14,7 +14,7 @@ step-requires-clause-set g c = (node_here (g.S.Space.view c.args.space.now) c.ar
 pub look-requires-clause-backward : goal.look-requires-clause-backward
 look-requires-clause-backward g c =
     let made = rw c.in-Some.is at c.in_ok-step.ensures.made in
-    backward_kept (g.S.Space.view c.args.space.now) (g.S.Space.view c.step.new.space) c.args.backward.now made.0 c.requires.backward
+    directed_kept (g.S.Space.view c.args.space.now) (g.S.Space.view c.step.new.space) c.args.backward.now made.0 c.requires.backward
 
 pub look-requires-clause-wide : goal.look-requires-clause-wide
 look-requires-clause-wide g c =

@@ -1,6 +1,6 @@
 use Rattle.std.proofs.Common.{Some, None}
 use Rattle.prefix_tree.specs.Tree.{path_at}
-use Rattle.backward_search.proofs.Standing.{backward_kept}
+use Rattle.cost_search.proofs.Directing.{directed_kept}
 use Rattle.loopless.proofs.Reaching.{node_here}
 use Rattle.loopless.proofs.Moving.{moved_then, wide_moved, valid_here, one_here, reached_here, left_here, least_here, better, lost}
 use Rattle.loopless.proofs.Growing.{ends_after}
@@ -13,19 +13,19 @@ pub left_from-requires-clause-set : goal.left_from-requires-clause-set
 left_from-requires-clause-set g c = valid_here (g.S.Space.view c.args.space.now) (g.S.Space.view c.look_further.new.space) c.args.backward.now c.look_further.new.backward c.args.tree.now c.look_further.ensures.moved c.requires.apart c.requires.tree c.args.entry.node c.node_at-here.result c.requires.used (c.node_at-here.ensures c.node_at-here.result)
 
 pub returns-in_err-left_from-clause-backward : goal.returns-in_err-left_from-clause-backward
-returns-in_err-left_from-clause-backward g c = backward_kept (g.S.Space.view c.look_further.new.space) (g.S.Space.view c.left_from.new.space) c.look_further.new.backward c.left_from.ensures.stays.kept c.look_further.ensures.backward
+returns-in_err-left_from-clause-backward g c = directed_kept (g.S.Space.view c.look_further.new.space) (g.S.Space.view c.left_from.new.space) c.look_further.new.backward c.left_from.ensures.stays.kept c.look_further.ensures.backward
 
 pub returns-in_err-left_from-clause-moved : goal.returns-in_err-left_from-clause-moved
 returns-in_err-left_from-clause-moved g c = moved_then (g.S.Space.view c.args.space.now) (g.S.Space.view c.look_further.new.space) (g.S.Space.view c.left_from.new.space) c.args.backward.now c.look_further.new.backward c.look_further.ensures.backward c.look_further.ensures.moved c.left_from.ensures.stays
 
 pub returns-in-None-clause-backward : goal.returns-in-None-clause-backward
-returns-in-None-clause-backward g c = backward_kept (g.S.Space.view c.look_further.new.space) (g.S.Space.view c.left_from.new.space) c.look_further.new.backward c.left_from.ensures.stays.kept c.look_further.ensures.backward
+returns-in-None-clause-backward g c = directed_kept (g.S.Space.view c.look_further.new.space) (g.S.Space.view c.left_from.new.space) c.look_further.new.backward c.left_from.ensures.stays.kept c.look_further.ensures.backward
 
 pub returns-in-None-clause-moved : goal.returns-in-None-clause-moved
 returns-in-None-clause-moved g c = moved_then (g.S.Space.view c.args.space.now) (g.S.Space.view c.look_further.new.space) (g.S.Space.view c.left_from.new.space) c.args.backward.now c.look_further.new.backward c.look_further.ensures.backward c.look_further.ensures.moved c.left_from.ensures.stays
 
 pub returns-in-Some-clause-backward : goal.returns-in-Some-clause-backward
-returns-in-Some-clause-backward g c = backward_kept (g.S.Space.view c.look_further.new.space) (g.S.Space.view c.left_from.new.space) c.look_further.new.backward c.left_from.ensures.stays.kept c.look_further.ensures.backward
+returns-in-Some-clause-backward g c = directed_kept (g.S.Space.view c.look_further.new.space) (g.S.Space.view c.left_from.new.space) c.look_further.new.backward c.left_from.ensures.stays.kept c.look_further.ensures.backward
 
 pub returns-in-Some-clause-moved : goal.returns-in-Some-clause-moved
 returns-in-Some-clause-moved g c = moved_then (g.S.Space.view c.args.space.now) (g.S.Space.view c.look_further.new.space) (g.S.Space.view c.left_from.new.space) c.args.backward.now c.look_further.new.backward c.look_further.ensures.backward c.look_further.ensures.moved c.left_from.ensures.stays

@@ -1,4 +1,4 @@
-use Rattle.backward_search.specs.Backward.{IsBackward}
+use Rattle.cost_search.specs.Directed.{IsBackward}
 use Rattle.search_rows.proofs.backward.settles.Given as goal
 
 abbrev pub invariant-costs : goal.invariant-costs

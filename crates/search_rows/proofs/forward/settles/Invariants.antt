@@ -1,4 +1,4 @@
-use Rattle.forward_search.specs.Forward.{IsForward}
+use Rattle.cost_search.specs.Directed.{IsForward}
 use Rattle.search_rows.proofs.forward.settles.Given as goal
 
 abbrev pub invariant-costs : goal.invariant-costs

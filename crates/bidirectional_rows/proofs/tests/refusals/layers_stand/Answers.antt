@@ -1,4 +1,5 @@
-use Rattle.forward_search.proofs.Standing.{layers_kept}
+use Rattle.cost_layers.specs.Layers.{rings_at, whole_at}
+use Rattle.cost_layers.proofs.Holding.{holds_kept}
 use Rattle.cost_search.specs.Search.{layers_of}
 use Rattle.bidirectional.specs.Sides.{rear}
 use Rattle.bidirectional.proofs.Known.{rear_held}
@@ -7,4 +8,5 @@ use Rattle.bidirectional_rows.proofs.tests.refusals.layers_stand.Goals as goal
 pub alternate-requires-2 : goal.alternate-requires-2
 alternate-requires-2 g c =
     let view = g.S.Space.view in
-    rw c.backward_layers.ensures.value (layers_kept (view c.args.space.now) (view c.alternate.new.space) (layers_of (rear c.args.both.now.sides)) c.alternate.ensures.kept (rear_held (view c.args.space.now) c.args.both.now.sides c.requires.sides))
+    let l = layers_of (rear c.args.both.now.sides) in
+    rw c.backward_layers.ensures.value (holds_kept (view c.args.space.now) (view c.alternate.new.space) (rings_at l) (whole_at l) c.alternate.ensures.kept (rear_held (view c.args.space.now) c.args.both.now.sides c.requires.sides))

@@ -5,7 +5,7 @@ use Rattle.std.proofs.lemmas.List.{at_drop_more}
 use Rattle.std.proofs.lemmas.Option.{slice_get_read}
 use Rattle.symk_io.specs.View.{Bytes}
 use Rattle.symk_io.specs.Memory.{bytes_of, text_in, left_of}
-use Rattle.symk_io.specs.declared.shelf.MemFile.{MemFile}
+use Rattle.symk_io.specs.declared.mem_files.MemFile.{MemFile}
 
 pub found : (fs : List MemFile) (name : Bytes) (i : ℕ) (f : MemFile) → i < length fs → f ≡ get_or fs i f → bytes_eq (string_bytes f.name) name ≡ true → text_in (drop i fs) name ≡ text_in fs name → text_in fs name ≡ Some (left_of (slice_get fs i) 0)
 found fs name i f lt is eq inv =

@@ -3,7 +3,7 @@ use Rattle.std.specs.Prelude.{◌≡◌, List, []}
 use Rattle.std.specs.declared.option.Option.TheVariants.{Some}
 use Rattle.symk_io.specs.View.{FilesView, SinkView}
 use Rattle.symk_io.specs.Memory.{text_in, shelf_left, names_of}
-use Rattle.symk_io.specs.declared.shelf.MemFile.{MemFile}
+use Rattle.symk_io.specs.declared.mem_files.MemFile.{MemFile}
 use Rattle.symk_io.specs.declared.memory.MemFiles.{MemFiles}
 use Rattle.symk_io.specs.declared.memory.MemSink.{MemSink}
 

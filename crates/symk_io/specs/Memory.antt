@@ -4,10 +4,10 @@ use Rattle.std.specs.Str.{bytes_eq}
 use Rattle.std.specs.declared.option.Option.{Option}
 use Rattle.std.specs.declared.option.Option.TheVariants.{Some, None}
 use Rattle.symk_io.specs.View.{Bytes}
-use Rattle.symk_io.specs.declared.shelf.MemText.{MemText}
-use Rattle.symk_io.specs.declared.shelf.MemText.TheVariants as text
-use Rattle.symk_io.specs.declared.shelf.MemFile.{MemFile}
-use Rattle.symk_io.specs.declared.shelf.Shelf.{Shelf}
+use Rattle.symk_io.specs.declared.mem_files.MemText.{MemText}
+use Rattle.symk_io.specs.declared.mem_files.MemText.TheVariants as text
+use Rattle.symk_io.specs.declared.mem_files.MemFile.{MemFile}
+use Rattle.symk_io.specs.declared.mem_files.Shelf.{Shelf}
 
 abbrev pub bytes_of : MemText → Bytes
 bytes_of (text.Bytes bytes) = bytes.items

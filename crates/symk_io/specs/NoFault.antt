@@ -2,7 +2,7 @@
 use Rattle.std.specs.Prelude.{◌≡◌, List, [], Option, Some, unwrap_or}
 use Rattle.symk_io.specs.View.{Bytes, FilesView, SinkView}
 use Rattle.symk_io.specs.Memory.{text_in, shelf_left, names_of}
-use Rattle.symk_io.specs.declared.shelf.MemFile.{MemFile}
+use Rattle.symk_io.specs.declared.mem_files.MemFile.{MemFile}
 use Rattle.symk_io.specs.declared.no_fault.NoFaultFiles.{NoFaultFiles}
 use Rattle.symk_io.specs.declared.no_fault.NoFaultSink.{NoFaultSink}
 

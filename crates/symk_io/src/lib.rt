@@ -13,17 +13,17 @@
 mod fault;
 mod files;
 mod host;
+mod mem_files;
 mod memory;
 mod no_fault;
-mod shelf;
 mod sink;
 
 pub use fault::{IoFault, ReadStop};
 pub use files::{Files, read_all};
 pub use host::{HostFiles, HostSink};
+pub use mem_files::{MemFile, MemText};
 pub use memory::{MemFiles, MemSink};
 pub use no_fault::{NoFaultFiles, NoFaultSink};
-pub use shelf::{MemFile, MemText};
 pub use sink::{Sink, put};
 
 #[cfg(test)]

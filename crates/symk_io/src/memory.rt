@@ -3,7 +3,7 @@ ghost use Rattle.std.specs.Prelude.{◌≡◌, ◌^◌, ◌-◌, ◌<◌, ◌≤
 ghost use Rattle.symk_io.specs.Causes.{Counted};
 ghost use Rattle.symk_io.specs.Failing.{fails_next, next_call, HasMade, Meets, NeverOtherwise};
 
-use crate::shelf::Shelf;
+use crate::mem_files::Shelf;
 use crate::{Files, IoFault, MemFile, Sink};
 use std::alloc::Global;
 

@@ -1,7 +1,7 @@
 // Files and a sink in memory that never fail.
 ghost use Rattle.std.specs.Prelude.{◌≡◌, [], Some};
 
-use crate::shelf::Shelf;
+use crate::mem_files::Shelf;
 use crate::{Files, IoFault, MemFile, Sink};
 use std::alloc::Global;
 

@@ -1,7 +1,7 @@
 use Rattle.std.proofs.Common.{arith}
 use Rattle.std.proofs.lemmas.Grind.{common_steps}
 use Rattle.symk_io.proofs.Growth.{given_front}
-use Rattle.symk_io.proofs.shelf.give_bytes.Goals as goal
+use Rattle.symk_io.proofs.mem_files.give_bytes.Goals as goal
 
 pub returns-then-n-gt0-clause-bytes : goal.returns-then-n-gt0-clause-bytes
 returns-then-n-gt0-clause-bytes c =

@@ -1,6 +1,6 @@
 use Rattle.std.proofs.Common.{rules}
 use Rattle.symk_io.proofs.Finding.{found}
-use Rattle.symk_io.proofs.shelf.place_of.Goals as goal
+use Rattle.symk_io.proofs.mem_files.place_of.Goals as goal
 
 pub returns-then-eq-clause-some : goal.returns-then-eq-clause-some
 returns-then-eq-clause-some c =

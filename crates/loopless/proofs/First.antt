@@ -139,7 +139,7 @@ module _ {Set : Type 0} (y : System) (v w x : View Set) (b : Backward Set) (star
   pub begun : (most : Option ℕ) → IsSound x b (n ∷ []) most es None None
   begun most = subst (λ (l : List Entry). IsSound x b (n ∷ []) most l None None) (sym single) (record {
     ready = record {
-      backward = backward_kept v x b k1 alone.backward;
+      backward = directed_kept v x b k1 alone.backward;
       wide = wide_kept v x b k1 alone.backward alone.wide;
       tree = tree;
       each = (entry, tt);

@@ -118,6 +118,9 @@ module _ (y : System) (front back : ℕ → State → Bool) where
   sum_push [] k f = omega arith
   sum_push (x ∷ ks) k f = omega (arith, sum_push ks k f)
 
+  pub sofar_none : (e : Plain) → Sofar y front back e [] [] []
+  sofar_none e = record { counts = λ p. refl; each = tt; each_falls = tt; falls = λ i h f. absurd h }
+
   pub sofar_more : (e : Plain) (done : List ℕ) (k : ℕ) (level falling level2 falling2 : List Plain) → Sofar y front back e done level falling → Added y front back e k level falling level2 falling2 → Sofar y front back e (done ++ k ∷ []) level2 falling2
   sofar_more e done k level falling level2 falling2 s a = record {
     counts = λ p. omega (arith, s.counts p, a.counts p, sum_push done k (child_hits y front back e p));

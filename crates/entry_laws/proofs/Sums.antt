@@ -7,6 +7,10 @@ pub sum_add : (n : ℕ) (f g : ℕ → ℕ) → sum_ops n (λ k. f k + g k) ≡ 
 sum_add zero f g = refl
 sum_add (suc n) f g = omega (arith, sum_add n f g)
 
+pub sum_same : (n : ℕ) (f g : ℕ → ℕ) → ((k : ℕ) → k < n → f k ≡ g k) → sum_ops n f ≡ sum_ops n g
+sum_same zero f g h = refl
+sum_same (suc n) f g h = omega (arith, sum_same n f g (λ k b. h k (omega arith)), h n (omega arith))
+
 pub sum_zero : (n : ℕ) (f : ℕ → ℕ) → ((k : ℕ) → k < n → f k ≡ 0) → sum_ops n f ≡ 0
 sum_zero zero f h = refl
 sum_zero (suc n) f h = omega (arith, sum_zero n f (λ k b. h k (omega arith)), h n (omega arith))

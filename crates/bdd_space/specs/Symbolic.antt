@@ -50,7 +50,7 @@ pub record IsSpace (e : Symbolic) (start : List ℕ) : Type 0 where
   pub reduced : IsReduced e.nodes
   pub own : OwnAre e.task e.order e.nodes e.own
   pub relations : AreRelationsOf e.task e.order e.nodes e.relations
-  pub steps : AreStepFacts e.task e.steps
+  pub steps : AreStepFacts e.task e.order e.steps
   pub sets : AreSets e.order e.nodes e.sets
   pub initial : IsInitial e.task start
 

@@ -78,7 +78,7 @@ impl<'a> BddSpace<'a> {
             &derived,
             JOINED_NODES,
         )?;
-        let steps = StepFacts::of(alloc, task)?;
+        let steps = StepFacts::of(alloc, task, &order)?;
         let sets = Slots::new(alloc);
         Ok(BddSpace {
             task,

@@ -1,16 +1,14 @@
 -- The walk down a set, block by block.
-use Rattle.std.proofs.Common.{◌≡◌, ◌⊎◌, ℕ, ◌+◌, ◌<◌, ◌==◌, ◌||◌, Bool, true, false, List, length, get_or, inl, inr, refl, sym, ◌∙◌, ap, subst, arith}
+use Rattle.std.proofs.Common.{◌≡◌, ◌⊎◌, ℕ, ◌+◌, ◌<◌, Bool, true, List, length, get_or, inl, inr, sym, ◌∙◌, ap, subst, arith}
 use Rattle.std.specs.List.{All, Contains}
-use Rattle.std.proofs.lemmas.Bool.{cases_eq, eq-eqb}
 use Rattle.std.proofs.lemmas.List.{get_or_default}
 use Rattle.bdd_table.specs.declared.node.Node.{Node}
 use Rattle.bdd_table.specs.Diagram.{Bits, means}
 use Rattle.var_order.specs.declared.block.Block.{Block}
 use Rattle.var_order.specs.Layout.{Layout, IsLayout, IsInside, block_at, bits}
 use Rattle.var_order.specs.Codes.{value_at, IsInRange}
-use Rattle.set_values.specs.declared.occurring.Occurring.{Occurring}
 use Rattle.set_values.specs.Marks.{is_marked, value_of, SomeHolds, Passes}
-use Rattle.set_values.specs.Occurs.{AreInOrder, AreMarked, occurs_at}
+use Rattle.set_values.specs.Occurs.{AreInOrder, AreMarked, AreOccurring}
 
 module _ (o : Layout) (nodes : List Node) (set : ℕ) (starts slots : List ℕ) where
   -- the set's codes are found below the first so many blocks of the list
@@ -56,16 +54,10 @@ all_in_order o slots n l e i = record {
 }
 
 -- what is marked occurs
-pub are_occurring : (o : Layout) (nodes : List Node) (set : ℕ) (r : Occurring) (slots : List ℕ) → AreInOrder o slots → AreMarked o nodes set r.starts.items r.marks.items slots (length slots) → (b : Bits) (slot : ℕ) → IsInRange o 0 b → means nodes set b ≡ true → slot < length o.blocks → occurs_at o r slot (value_at o 0 b slot) ≡ true
-are_occurring o nodes set r slots i m b slot range holds lt = elim (cases_eq (block_at o slot).width 0) [
-  | inl none ↦ ap (λ (t : Bool). t || is_marked r.marks.items (get_or r.starts.items slot 0 + value_at o 0 b slot)) (eq-eqb (block_at o slot).width 0 none)
-  | inr some ↦ (
-      let in_list = i.each slot lt (let ne : ¬ ((block_at o slot).width ≡ 0) = some in omega (arith, ne)) in
+pub are_occurring : (o : Layout) (nodes : List Node) (set : ℕ) (starts slots : List ℕ) (marks : List Bool) → AreInOrder o slots → AreMarked o nodes set starts marks slots (length slots) → AreOccurring o nodes set starts marks
+are_occurring o nodes set starts slots marks i m = record {
+  each = λ b slot range holds lt some. (
+      let in_list = i.each slot lt some in
       let at : get_or slots in_list.0 0 ≡ slot = get_or_default slots in_list.0 0 slot in_list.1 ∙ in_list.2 in
-      or_right ((block_at o slot).width == 0) (is_marked r.marks.items (get_or r.starts.items slot 0 + value_at o 0 b slot))
-      (subst (λ (v : ℕ). is_marked r.marks.items (get_or r.starts.items v 0 + value_at o 0 b v) ≡ true) at (m b in_list.0 range holds in_list.1)))
-]
-  where
-    or_right : (x y : Bool) → y ≡ true → (x || y) ≡ true
-    or_right true y h = refl
-    or_right false y h = h
+      subst (λ (v : ℕ). is_marked marks (get_or starts v 0 + value_at o 0 b v) ≡ true) at (m b in_list.0 range holds in_list.1));
+}

@@ -1,8 +1,7 @@
 -- Which operators may lead from states of a set, or into them.
-use Rattle.std.specs.Prelude.{◌≡◌, ℕ, ◌<◌, true, List, [], length, slice_index_or, All, Contains}
+use Rattle.std.specs.Prelude.{◌≡◌, ℕ, ◌<◌, Bool, true, List, [], length, slice_index_or, All, Contains}
 use Rattle.std.specs.List.{list_all}
 use Rattle.std.specs.List.Sorted.{IsStrictlyIncreasing}
-use Rattle.symk_task.specs.declared.parts.Fact.{Fact}
 use Rattle.symk_task.specs.declared.parts.TaskParts.{TaskParts}
 use Rattle.task_system.specs.System.{Leads}
 use Rattle.task_system.specs.Computed.{system_of}
@@ -10,14 +9,13 @@ use Rattle.bdd_table.specs.declared.node.Node.{Node}
 use Rattle.bdd_table.specs.Diagram.{Bits, means}
 use Rattle.var_order.specs.Layout.{Layout}
 use Rattle.var_order.specs.Codes.{IsCode, IsStateOf}
-use Rattle.set_values.specs.declared.occurring.Occurring.{Occurring}
-use Rattle.set_values.specs.Occurs.{may_hold}
+use Rattle.set_values.specs.Marks.{is_marked}
 
--- the numbers, rising, of those of the first so many lists all of whose facts may hold
-pub record AreChosen (o : Layout) (r : Occurring) (lists : List (List Fact)) (n : ℕ) (ops : List ℕ) : Type 0 where
+-- the numbers, rising, of those of the first so many lists all of whose places are marked
+pub record AreChosen (marks : List Bool) (lists : List (List ℕ)) (n : ℕ) (ops : List ℕ) : Type 0 where
   pub rising : IsStrictlyIncreasing ops
-  pub each : (op : ℕ) → op < n → list_all (may_hold o r) (slice_index_or lists op []) ≡ true → Contains ops op
-  pub only : (k : ℕ) (d : ℕ) → k < length ops → (slice_index_or ops k d < n) × (list_all (may_hold o r) (slice_index_or lists (slice_index_or ops k d) []) ≡ true)
+  pub each : (op : ℕ) → op < n → list_all (is_marked marks) (slice_index_or lists op []) ≡ true → Contains ops op
+  pub only : (k : ℕ) (d : ℕ) → k < length ops → (slice_index_or ops k d < n) × (list_all (is_marked marks) (slice_index_or lists (slice_index_or ops k d) []) ≡ true)
 
 -- rising numbers below n that miss none of which P holds
 pub record MissNone (n : ℕ) (P : ℕ → Type 0) (ops : List ℕ) : Type 0 where

@@ -7,6 +7,9 @@ use Rattle.symk_task.specs.declared.parts.Fact.{Fact}
 use Rattle.symk_task.specs.declared.parts.Effect.{Effect}
 use Rattle.symk_task.specs.declared.parts.Operator.{Operator}
 use Rattle.symk_task.specs.declared.parts.TaskParts.{TaskParts}
+use Rattle.var_order.specs.Layout.{Layout}
+use Rattle.set_values.specs.Occurs.{ArePlaces}
+use Rattle.set_values.specs.Placed.{IsPlaceOf}
 use Rattle.set_values.specs.declared.stepping.StepFacts.{StepFacts}
 
 -- the effect asks for the value
@@ -48,7 +51,13 @@ pub record AreFactsBy (Of : Operator → Fact → Type 0) (operators : List Oper
   pub each : length lists ≡ length operators
   pub facts : (op : ℕ) (d : Operator) (f : Fact) → op < length operators → Contains (slice_index_or lists op []) f ↔ Of (slice_index_or operators op d) f
 
--- the lists are those of what the task's operators ask for, and of what they leave
-pub record AreStepFacts (task : TaskParts) (steps : StepFacts) : Type 0 where
-  pub before : AreFactsBy IsAsked task.operators steps.before.items
-  pub after : AreFactsBy IsLeft task.operators steps.after.items
+-- each list has places of the marks of facts of one operator
+pub record AreWatched (o : Layout) (starts : List ℕ) (Of : Operator → Fact → Type 0) (operators : List Operator) (lists : List (List ℕ)) : Type 0 where
+  pub each : length lists ≡ length operators
+  pub only : (op place : ℕ) (d : Operator) → op < length operators → Contains (slice_index_or lists op []) place → (f : Fact) × Of (slice_index_or operators op d) f × IsPlaceOf o starts f place
+
+-- the places are those of the order, and the lists are of what the task's operators ask for, and of what they leave
+pub record AreStepFacts (task : TaskParts) (o : Layout) (steps : StepFacts) : Type 0 where
+  pub places : ArePlaces o steps.places
+  pub before : AreWatched o steps.places.starts.items IsAsked task.operators steps.before.items
+  pub after : AreWatched o steps.places.starts.items IsLeft task.operators steps.after.items

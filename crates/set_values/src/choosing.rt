@@ -3,38 +3,38 @@
 ghost use Rattle.std.specs.Prelude.{◌≡◌, ◌<◌, length, IfOk};
 ghost use Rattle.std.specs.List.{list_all};
 ghost use Rattle.var_order.specs.Layout.{IsOrderOf};
-ghost use Rattle.set_values.specs.Occurs.{may_hold};
+ghost use Rattle.set_values.specs.Marks.{is_marked};
 ghost use Rattle.set_values.specs.Steps.{AreStepFacts};
 ghost use Rattle.set_values.specs.Leading.{AreChosen, MissNone, LeadsFrom, LeadsInto};
 
-use crate::occurring::Occurring;
+use crate::marking::is_marked;
+use crate::occurring::marks_of;
 use crate::stepping::StepFacts;
 use bdd_table::{Id, Table};
 use std::alloc::Global;
-use symk_task::{Fact, List, Memory, Task};
+use symk_task::{List, Memory, Task};
 use var_order::Order;
 
-/// Whether each of the facts may hold.
-fn all_may_hold(order: &Order, occurring: &Occurring, facts: &[Fact]) -> bool
-    ensures { result ≡ list_all (may_hold order.now occurring.now) facts.now }
+/// Whether each of the places is marked.
+fn all_marked(marks: &[bool], places: &[usize]) -> bool
+    ensures { result ≡ list_all (is_marked marks.now) places.now }
 {
-    facts.iter().all(|fact| occurring.may_hold(order, *fact))
+    places.iter().all(|place| is_marked(marks, *place))
 }
 
-/// The numbers of the lists all of whose facts may hold.
+/// The numbers of the lists all of whose places are marked.
 fn chosen(
     alloc: Global,
-    order: &Order,
-    occurring: &Occurring,
-    lists: &[List<Fact>],
+    marks: &[bool],
+    lists: &[List<usize>],
     count: u32,
 ) -> Result<Vec<u32>, Memory>
     requires { length lists.now ≡ count }
-    ensures { IfOk result (λ ops. AreChosen order.now occurring.now lists.now count ops.items) }
+    ensures { IfOk result (λ ops. AreChosen marks.now lists.now count ops.items) }
 {
     let mut ops = Vec::new(alloc);
     'operators: for op in 0..count {
-        if all_may_hold(order, occurring, lists[op as usize].as_slice()) {
+        if all_marked(marks, lists[op as usize].as_slice()) {
             ops.push(op)?;
         }
     }
@@ -52,12 +52,12 @@ pub fn leading_from(
 ) -> Result<Vec<u32>, Memory>
     requires set { set < length table.now }
     requires order { IsOrderOf task.now order.now }
-    requires steps { AreStepFacts task.now steps.now }
+    requires steps { AreStepFacts task.now order.now steps.now }
     ensures { IfOk result (λ ops.
         MissNone (length task.now.operators) (LeadsFrom task.now order.now table.now set) ops.items) }
 {
-    let occurring = Occurring::of(alloc, table, order, set)?;
-    chosen(alloc, order, &occurring, &steps.before, task.operators())
+    let marks = marks_of(alloc, table, order, &steps.places, set)?;
+    chosen(alloc, &marks, &steps.before, task.operators())
 }
 
 /// The operators that may have steps into states of the set, rising: those all of whose facts afterwards occur in it.
@@ -71,10 +71,10 @@ pub fn leading_into(
 ) -> Result<Vec<u32>, Memory>
     requires set { set < length table.now }
     requires order { IsOrderOf task.now order.now }
-    requires steps { AreStepFacts task.now steps.now }
+    requires steps { AreStepFacts task.now order.now steps.now }
     ensures { IfOk result (λ ops.
         MissNone (length task.now.operators) (LeadsInto task.now order.now table.now set) ops.items) }
 {
-    let occurring = Occurring::of(alloc, table, order, set)?;
-    chosen(alloc, order, &occurring, &steps.after, task.operators())
+    let marks = marks_of(alloc, table, order, &steps.places, set)?;
+    chosen(alloc, &marks, &steps.after, task.operators())
 }

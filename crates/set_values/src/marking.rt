@@ -23,3 +23,10 @@ pub fn mark_all(marks: &mut Vec<bool>, first: usize, count: u32)
         mark(marks, first + value as usize);
     }
 }
+
+/// Whether the place is marked, or there is no such place.
+pub fn is_marked(marks: &[bool], place: usize) -> bool
+    ensures { result ≡ is_marked marks.now place }
+{
+    marks.get(place).copied().unwrap_or(true)
+}

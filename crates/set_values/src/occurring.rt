@@ -1,27 +1,29 @@
 //! Which values occur in a set.
 
+/// Where the marks of values stand, one for each value of each variable.
+#[derive(Drop)]
+pub struct Places {
+    /// For each value of a state the place where the marks of its variable begin.
+    pub starts: Vec<usize>,
+    /// The values of a state that have bits, by the places of these.
+    pub slots: Vec<u32>,
+    /// The marks, none of them set.
+    pub unmarked: Vec<bool>,
+}
+
 ghost use Rattle.std.specs.Prelude.{◌≡◌, ◌+◌, ◌<◌, ℕ, true, length, slice_index, IfOk, OnOk, All, Contains};
 ghost use Rattle.bdd_table.specs.Diagram.{Bits, means};
 ghost use Rattle.var_order.specs.Layout.{IsLayout, block_at};
 ghost use Rattle.var_order.specs.Codes.{value_at, IsInRange};
 ghost use Rattle.set_values.specs.Marks.{is_marked};
-ghost use Rattle.set_values.specs.Occurs.{AreStarts, AreInOrder, AreMarked, AreOccurring, may_hold};
+ghost use Rattle.set_values.specs.Occurs.{AreStarts, AreInOrder, AreMarked, ArePlaces, AreOccurring};
 
 use crate::walking::pass;
 use bdd_table::{Id, Table};
 use std::alloc::Global;
 use std::mem::swap;
-use symk_task::{Fact, Memory};
+use symk_task::Memory;
 use var_order::{Block, Order};
-
-/// Which values the variables have in states of a set.
-#[derive(Drop)]
-pub struct Occurring {
-    /// For each value of a state the place where the marks of its variable begin.
-    starts: Vec<usize>,
-    /// A mark for each value of each variable.
-    marks: Vec<bool>,
-}
 
 /// Adds so many places that are not marked.
 fn add_row(marks: &mut Vec<bool>, count: u32) -> Result<(), Memory> {
@@ -87,41 +89,44 @@ fn walk(
     Ok(())
 }
 
-impl Occurring {
-    /// The values that the variables have in states of the set. The walk goes variable by variable, in the order of
-    /// the bits, and follows the bits of each value from each Id that is left below the variables before. So it takes
-    /// room in proportion to the nodes of the set, and time in proportion to these times the values of a variable.
-    pub fn of(alloc: Global, table: &Table, order: &Order, set: Id) -> Result<Occurring, Memory>
-        requires { set < length table.now }
-        ensures { IfOk result (AreOccurring order.now table.now set) }
+impl Places {
+    /// The places for the values of an order.
+    pub fn of(alloc: Global, order: &Order) -> Result<Places, Memory>
+        ensures { IfOk result (ArePlaces order.now) }
     {
-        let (starts, mut marks) = rows(alloc, order.blocks())?;
+        let (starts, unmarked) = rows(alloc, order.blocks())?;
         let slots = in_order(alloc, order)?;
-        walk(alloc, table, order, set, &slots, &starts, &mut marks)?;
-        Ok(Occurring { starts, marks })
+        Ok(Places {
+            starts,
+            slots,
+            unmarked,
+        })
     }
+}
 
-    /// Whether the place is marked, or there is no such place.
-    fn is_marked(&self, slot: usize, value: u32) -> bool
-        ensures { result ≡ is_marked self.now.marks.items (slice_index self.now.starts.items slot + value) }
-    {
-        let start = self.starts.get(slot).copied().unwrap_or(0);
-        let Some(place) = start.checked_add(value as usize) else {
-            return true;
-        };
-        self.marks.get(place).copied().unwrap_or(true)
-    }
-
-    /// Whether the fact may hold in a state of the set. Of a derived variable nothing is known, and the answer is yes.
-    pub fn may_hold(&self, order: &Order, fact: Fact) -> bool
-        ensures { result ≡ may_hold order.now self.now fact }
-    {
-        match order.slot(fact.var) {
-            Some(slot) => {
-                let at = slot as usize;
-                order.blocks()[at].width == 0 || self.is_marked(at, fact.val)
-            }
-            None => true,
-        }
-    }
+/// The values that the variables have in states of the set, marked. The walk goes variable by variable, in the order
+/// of the bits, and follows the bits of each value from each Id that is left below the variables before. So it takes
+/// room in proportion to the nodes of the set, and time in proportion to these times the values of a variable.
+pub fn marks_of(
+    alloc: Global,
+    table: &Table,
+    order: &Order,
+    places: &Places,
+    set: Id,
+) -> Result<Vec<bool>, Memory>
+    requires set { set < length table.now }
+    requires places { ArePlaces order.now places.now }
+    ensures { IfOk result (λ marks. AreOccurring order.now table.now set places.now.starts.items marks.items) }
+{
+    let mut marks = Vec::from_slice(alloc, &places.unmarked)?;
+    walk(
+        alloc,
+        table,
+        order,
+        set,
+        &places.slots,
+        &places.starts,
+        &mut marks,
+    )?;
+    Ok(marks)
 }

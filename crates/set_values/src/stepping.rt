@@ -6,17 +6,22 @@ ghost use Rattle.std.specs.BTreeSet.{contains};
 ghost use Rattle.symk_task.specs.declared.parts.Fact.{Fact as FactOf};
 ghost use Rattle.set_values.specs.Steps.{AsksValue, IsAsked, IsLeft, Ends, Leaves, NotOn, AreLast, AreFactsBy, AreStepFacts};
 
+use crate::occurring::Places;
+use crate::placing::all_places;
 use std::alloc::Global;
 use std::collections::BTreeSet;
 use symk_task::{Effect, Fact, List, Memory, Operator, Task};
+use var_order::Order;
 
-/// The facts of the steps of each operator.
+/// The facts of the steps of each operator, as the places of their marks.
 #[derive(Drop)]
 pub struct StepFacts {
+    /// Where the marks of values stand.
+    pub places: Places,
     /// For each operator what holds where its steps start.
-    pub before: Vec<List<Fact>>,
+    pub before: Vec<List<usize>>,
     /// For each operator what holds where its steps end.
-    pub after: Vec<List<Fact>>,
+    pub after: Vec<List<usize>>,
 }
 
 /// Adds the value that the effect asks for, if it asks for one.
@@ -148,13 +153,20 @@ fn all_left(alloc: Global, operators: &[Operator]) -> Result<Vec<List<Fact>>, Me
 }
 
 impl StepFacts {
-    /// The facts of the task's operators.
-    pub fn of(alloc: Global, task: &Task) -> Result<StepFacts, Memory>
-        ensures { IfOk result (AreStepFacts task.now) }
+    /// The facts of the task's operators, by the order of the bits of its states.
+    pub fn of(alloc: Global, task: &Task, order: &Order) -> Result<StepFacts, Memory>
+        ensures { IfOk result (AreStepFacts task.now order.now) }
     {
         let operators = task.parts().operators.as_slice();
-        let before = all_asked(alloc, operators)?;
-        let after = all_left(alloc, operators)?;
-        Ok(StepFacts { before, after })
+        let places = Places::of(alloc, order)?;
+        let asked = all_asked(alloc, operators)?;
+        let left = all_left(alloc, operators)?;
+        let before = all_places(alloc, order, &places.starts, &asked)?;
+        let after = all_places(alloc, order, &places.starts, &left)?;
+        Ok(StepFacts {
+            places,
+            before,
+            after,
+        })
     }
 }

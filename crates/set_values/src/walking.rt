@@ -154,7 +154,8 @@ fn add(
     }
 }
 
-/// Puts what is left of the Ids below the block in the place of other Ids, each once; the values that leave something are marked.
+/// Puts what is left of the Ids below the block in the place of other Ids, each once; the values that leave something
+/// are marked.
 pub fn pass(
     table: &Table,
     block: Block,

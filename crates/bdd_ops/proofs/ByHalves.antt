@@ -74,12 +74,12 @@ module _ (pairs : List (ℕ × ℕ)) (level from to middle : ℕ) (c pair : ℕ 
 -- past the last first level each level stays
 pub past_last : (pairs : List (ℕ × ℕ)) (level : ℕ) (d last : ℕ × ℕ) → FirstsRise pairs → 1 ≤ length pairs → last ≡ slice_index_or pairs (length pairs - 1) d → last.0 < level → (l : ℕ) → level ≤ l → renamed pairs l ≡ l
 past_last pairs level d last up some is past l from = none_is pairs l (λ k c h e. (
-  let at_end : (slice_index_or pairs (length pairs - 1) c).0 ≡ last.0 = ap (λ (p : ℕ × ℕ). p.0) (get_or_default pairs (length pairs - 1) c d (omega (arith, some)) ∙ sym is) in
-  elim (order k (length pairs - 1)) [
-    | inl a ↦ let u = up k (length pairs - 1) c a (omega (arith, some)) in absurd (omega (arith, u, at_end, past, from, e))
-    | inr (inl a) ↦ let v : (slice_index_or pairs k c).0 ≡ (slice_index_or pairs (length pairs - 1) c).0 = ap (λ (j : ℕ). (slice_index_or pairs j c).0) a in absurd (omega (arith, v, at_end, past, from, e))
-    | inr (inr a) ↦ absurd (omega (arith, a, h))
-  ]))
+    let at_end : (slice_index_or pairs (length pairs - 1) c).0 ≡ last.0 = ap (λ (p : ℕ × ℕ). p.0) (get_or_default pairs (length pairs - 1) c d (omega (arith, some)) ∙ sym is) in
+    elim (order k (length pairs - 1)) [
+      | inl a ↦ let u = up k (length pairs - 1) c a (omega (arith, some)) in absurd (omega (arith, u, at_end, past, from, e))
+      | inr (inl a) ↦ let v : (slice_index_or pairs k c).0 ≡ (slice_index_or pairs (length pairs - 1) c).0 = ap (λ (j : ℕ). (slice_index_or pairs j c).0) a in absurd (omega (arith, v, at_end, past, from, e))
+      | inr (inr a) ↦ absurd (omega (arith, a, h))
+    ]))
 
 -- no pair, no level that is moved
 pub none_moved : (pairs : List (ℕ × ℕ)) → length pairs ≡ 0 → (l : ℕ) → renamed pairs l ≡ l

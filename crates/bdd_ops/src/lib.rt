@@ -22,4 +22,4 @@ mod rename;
 mod tests;
 mod waiting;
 
-pub use ops::Ops;
+pub use ops::{CACHE, Ops};

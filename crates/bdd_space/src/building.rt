@@ -13,7 +13,7 @@ ghost use Rattle.bdd_space.specs.Seen.{seen};
 use crate::slots::Slots;
 use crate::symbolic::{BddSpace, Own};
 use axiom_layers::{Derived, compile};
-use bdd_ops::Ops;
+use bdd_ops::{CACHE, Ops};
 use bdd_sets::{state_set, valid_set};
 use bdd_table::Table;
 use operator_relations::OperatorRelations;
@@ -21,10 +21,6 @@ use set_values::StepFacts;
 use std::alloc::Global;
 use symk_task::{Memory, State, Task};
 use var_order::Order;
-
-/// How many results the operations keep: of the sizes that were measured, none is best for all tasks, and this one is never far
-/// from it.
-const CACHE: usize = 65_536;
 
 /// Relations of one cost are joined while a joined one has at most so many nodes. Fewer relations make fewer products an image,
 /// and larger ones dearer products; at a few thousand nodes a joined relation is still small beside the sets of a search that

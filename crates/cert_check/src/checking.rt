@@ -17,16 +17,13 @@ use crate::fault::CertFault;
 use crate::judging::{CertVerdict, judge};
 use crate::reading::read_cert;
 use axiom_layers::compile;
-use bdd_ops::Ops;
+use bdd_ops::{CACHE, Ops};
 use bdd_table::Table;
 use cert_bits::places_of;
 use certificates::Certificate;
 use std::alloc::Global;
 use symk_task::{Memory, Task};
 use var_order::Order;
-
-/// How many results the operations keep.
-const CACHE: usize = 65_536;
 
 /// Whether the states that the certificate names are inductive.
 fn judge_cert(

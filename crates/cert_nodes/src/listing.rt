@@ -13,16 +13,13 @@ ghost use Rattle.cert_nodes.specs.Listed.{listed};
 
 use crate::levels::indexes_of;
 use crate::moving::rebuilt;
-use bdd_ops::Ops;
+use bdd_ops::{CACHE, Ops};
 use bdd_table::{Id, Table};
 use cert_bits::places_of;
 use certificates::{CertNode, Certificate};
 use std::alloc::Global;
 use symk_task::{List, Memory, Task};
 use var_order::Order;
-
-/// How many results the operations keep.
-const CACHE: usize = 65_536;
 
 /// The nodes of a table, from the first on.
 fn nodes_of(alloc: Global, table: &Table) -> Result<List<CertNode>, Memory>

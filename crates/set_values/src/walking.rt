@@ -58,7 +58,8 @@ fn add_ends(
     requires id { id < length table.now }
     requires ends { AreKnown table.now ends.old.items }
     requires room { CanPass block start }
-    ensures { OnOk result (Adds table.now block start id ends.old.items ends.new.items marks.old.items marks.new.items) }
+    ensures { OnOk result (Adds table.now block start id ends.old.items ends.new.items marks.old.items
+        marks.new.items) }
 {
     let _ = table.held();
     'values: for value in 0..block.values {
@@ -80,7 +81,8 @@ fn add_skipped(
     requires id { id < length table.now }
     requires ends { AreKnown table.now ends.old.items }
     requires room { CanPass block start }
-    ensures { OnOk result (Adds table.now block start id ends.old.items ends.new.items marks.old.items marks.new.items) }
+    ensures { OnOk result (Adds table.now block start id ends.old.items ends.new.items marks.old.items
+        marks.new.items) }
 {
     let _ = table.held();
     mark_all(marks, start, block.values);
@@ -101,8 +103,10 @@ fn add_forced(
     requires end { end < length table.now }
     requires ends { AreKnown table.now ends.old.items }
     requires room { CanPass block start }
-    requires forced { (b : Bits) → means table.now id b ≡ true → (value_of block b ≡ value) × (means table.now end b ≡ true) }
-    ensures { OnOk result (Adds table.now block start id ends.old.items ends.new.items marks.old.items marks.new.items) }
+    requires forced { (b : Bits) → means table.now id b ≡ true
+        → (value_of block b ≡ value) × (means table.now end b ≡ true) }
+    ensures { OnOk result (Adds table.now block start id ends.old.items ends.new.items marks.old.items
+        marks.new.items) }
 {
     let _ = table.held();
     if value < block.values {
@@ -124,7 +128,8 @@ fn add_inside(
     requires id { id < length table.now }
     requires ends { AreKnown table.now ends.old.items }
     requires room { CanPass block start }
-    ensures { OnOk result (Adds table.now block start id ends.old.items ends.new.items marks.old.items marks.new.items) }
+    ensures { OnOk result (Adds table.now block start id ends.old.items ends.new.items marks.old.items
+        marks.new.items) }
 {
     match one_value(table, id, block) {
         Some(one) => add_forced(table, block, start, id, one.value, one.end, marks, ends),
@@ -144,7 +149,8 @@ fn add(
     requires id { id < length table.now }
     requires ends { AreKnown table.now ends.old.items }
     requires room { CanPass block start }
-    ensures { OnOk result (Adds table.now block start id ends.old.items ends.new.items marks.old.items marks.new.items) }
+    ensures { OnOk result (Adds table.now block start id ends.old.items ends.new.items marks.old.items
+        marks.new.items) }
 {
     let _ = table.held();
     if block.width == 0 || table.level(id) >= 2 * (block.first + block.width) {

@@ -9,6 +9,8 @@ use Rattle.std.proofs.lemmas.List.{get_or_default, get_or_append_left, get_or_pu
 use Rattle.symk_task.specs.declared.parts.Fact.{Fact}
 use Rattle.symk_task.specs.declared.parts.Effect.{Effect}
 use Rattle.symk_task.specs.declared.parts.Operator.{Operator}
+use Rattle.var_order.specs.Layout.{Layout}
+use Rattle.set_values.specs.Placed.{IsPlaceOf, ArePlacesOf}
 use Rattle.set_values.specs.Steps.{AsksValue, SomeAsks, IsAsked, NotOn, Ends, IsLeft, AreLast, AreFactsBy}
 
 -- P holds of one of the first n elements
@@ -43,6 +45,38 @@ contains_below {X} xs x = (
   (λ (k, lt, is). record { at = k; before = lt; item = x; is = is; holds = refl }),
   (λ h. (h.at, h.before, get_or_default xs h.at x h.item h.before ∙ h.is ∙ h.holds)),
 )
+
+-- one of all elements
+pub some_of_all : {X : Type 0} (P : X → Type 0) (xs : List X) → SomeBelow P xs (length xs) ↔ ((x : X) × Contains xs x × P x)
+some_of_all P xs = (
+  (λ h. (h.item, (h.at, h.before, h.is), h.holds)),
+  (λ (x, (k, lt, is), p). record { at = k; before = lt; item = x; is = is; holds = p }),
+)
+
+-- the places of the marks of facts
+
+-- the places are those of the first n facts
+pub record PlacedBelow (o : Layout) (starts : List ℕ) (facts : List Fact) (n : ℕ) (places : List ℕ) : Type 0 where
+  pub each : (p : ℕ) → Contains places p ↔ SomeBelow (λ f. IsPlaceOf o starts f p) facts n
+
+pub placed_none : (o : Layout) (starts : List ℕ) (facts : List Fact) → PlacedBelow o starts facts 0 []
+placed_none o starts facts = record {
+  each = λ p. ((λ (k, lt, is). absurd (omega (arith, lt))), (λ s. absurd (some_none (λ f. IsPlaceOf o starts f p) facts s)));
+}
+
+pub placed_more : (o : Layout) (starts : List ℕ) (facts : List Fact) (n : ℕ) (f : Fact) (old new : List ℕ) → n < length facts → f ≡ get_or facts n f → PlacedBelow o starts facts n old → ((p : ℕ) → Contains new p ↔ (Contains old p ⊎ IsPlaceOf o starts f p)) → PlacedBelow o starts facts (n + 1) new
+placed_more o starts facts n f old new lt is a add = record {
+  each = λ p. (
+      let next = some_more (λ g. IsPlaceOf o starts g p) facts n f lt is in (
+        (λ h. next.1 (elim ((add p).0 h) [ inl c ↦ inl ((a.each p).0 c) | inr i ↦ inr i ])),
+        (λ s. (add p).1 (elim (next.0 s) [ inl b ↦ inl ((a.each p).1 b) | inr i ↦ inr i ])),
+      ));
+}
+
+pub placed_all : (o : Layout) (starts : List ℕ) (facts : List Fact) (places : List ℕ) → PlacedBelow o starts facts (length facts) places → ArePlacesOf o starts facts places
+placed_all o starts facts places a p =
+    let all = some_of_all (λ f. IsPlaceOf o starts f p) facts in
+    ((λ h. all.0 ((a.each p).0 h)), (λ w. (a.each p).1 (all.1 w)))
 
 -- what an operator asks for
 

@@ -2,7 +2,7 @@
 use Rattle.std.proofs.Common.{◌≡◌, ◌⊎◌, ℕ, zero, suc, ◌+◌, ◌<◌, Bool, true, List, [], ◌∷◌, ◌++◌, length, take, get_or, Option, Some, None, IsSome, IsSomeAnd, unwrap_or, slice_get, inl, inr, refl, sym, ◌∙◌, ap, subst, arith}
 use Rattle.std.proofs.lemmas.List.{take_more}
 use Rattle.std.specs.List.{All, AllZip, Contains}
-use Rattle.std.proofs.lemmas.List.Elements.{Contains-get_or, All-contains}
+use Rattle.std.proofs.lemmas.List.Elements.{Contains-get_or}
 use Rattle.std.proofs.lemmas.Slice.Zip.{AllZip-long}
 use Rattle.std.proofs.lemmas.List.Sums.{list_all-from_AllPass}
 use Rattle.std.proofs.lemmas.Option.{slice_get_within, slice_get_past, slice_get_cases, unwrap_or-slice_get, get_or_from_slice_get}
@@ -82,7 +82,7 @@ module _ (task : TaskParts) (o : Layout) (nodes : List Node) (set : ℕ) (starts
         c.each op lt (list_all-from_AllPass (is_marked marks) (get_or lists op [])
         (λ k d less.
         let p = get_or (get_or lists op []) k d in
-        let w = watched.only op p x lt (Contains-get_or (get_or lists op []) k d less) in
+        let w = (watched.places op p x lt).0 (Contains-get_or (get_or lists op []) k d less) in
         may w.0 p (subst (λ (y : Operator). Of y w.0) same w.1) w.2))
 
     known : (ops : List ℕ) → AreChosen marks lists (length task.operators) ops → All (λ op. op < length task.operators) ops
@@ -110,10 +110,12 @@ module _ (task : TaskParts) (o : Layout) (nodes : List Node) (set : ℕ) (starts
 pub watched_of : (o : Layout) (starts : List ℕ) (Of : Operator → Fact → Type 0) (operators : List Operator) (lists : List (List Fact)) (all : List (List ℕ)) → AreFactsBy Of operators lists → AllZip (ArePlacesOf o starts) lists all → AreWatched o starts Of operators all
 watched_of o starts Of operators lists all facts zip = record {
   each = AllZip-long (ArePlacesOf o starts) lists all zip ∙ facts.each;
-  only = λ op p d lt h. (
+  places = λ op p d lt. (
       let less : op < length lists = (let e = facts.each in omega (arith, lt, e)) in
-      let at = All-contains (λ (q : ℕ). (f : Fact) × Contains (get_or lists op []) f × IsPlaceOf o starts f q) (get_or all op []) p (zip_at op less) h in
-      (at.0, (facts.facts op d at.0 lt).0 at.1, at.2));
+      let at = zip_at op less p in (
+        (λ h. let w = at.0 h in (w.0, (facts.facts op d w.0 lt).0 w.1, w.2)),
+        (λ w. at.1 (w.0, (facts.facts op d w.0 lt).1 w.1, w.2)),
+      ));
 }
   where
     zip_at : (op : ℕ) → op < length lists → ArePlacesOf o starts (get_or lists op []) (get_or all op [])
@@ -135,10 +137,3 @@ zip_push R (a ∷ xs) (b ∷ ys) x y z r = (z.0, zip_push R xs ys x y z.1 r)
 pub zip_more : (o : Layout) (starts : List ℕ) (lists : List (List Fact)) (all : List (List ℕ)) (i : ℕ) (facts : List Fact) (places : List ℕ) → i < length lists → facts ≡ get_or lists i facts → AllZip (ArePlacesOf o starts) (take i lists) all → ArePlacesOf o starts facts places → AllZip (ArePlacesOf o starts) (take (i + 1) lists) (all ++ places ∷ [])
 zip_more o starts lists all i facts places lt is z r =
     subst (λ (xs : List (List Fact)). AllZip (ArePlacesOf o starts) xs (all ++ places ∷ [])) (sym (take_more lists i facts lt ∙ ap (λ (x : List Fact). take i lists ++ (x ∷ [])) (sym is))) (zip_push (ArePlacesOf o starts) (take i lists) all facts places z r)
-
--- one fact more
-pub placed_more : (o : Layout) (starts : List ℕ) (facts : List Fact) (f : Fact) (old new : List ℕ) → Contains facts f → ArePlacesOf o starts facts old → ((p : ℕ) → Contains new p → Contains old p ⊎ IsPlaceOf o starts f p) → ArePlacesOf o starts facts new
-placed_more o starts facts f old new in_it are add k d lt = elim (add (get_or new k d) (Contains-get_or new k d lt)) [
-  | inl h ↦ All-contains (λ (q : ℕ). (g : Fact) × Contains facts g × IsPlaceOf o starts g q) old (get_or new k d) are h
-  | inr is ↦ (f, in_it, is)
-]

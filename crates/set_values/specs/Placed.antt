@@ -1,5 +1,5 @@
 -- Where the marks of facts stand.
-use Rattle.std.specs.Prelude.{◌≡◌, ℕ, ◌+◌, ◌<◌, List, slice_index, Some, All, Contains}
+use Rattle.std.specs.Prelude.{◌≡◌, ◌↔◌, ℕ, ◌+◌, ◌<◌, List, slice_index, Some, Contains}
 use Rattle.symk_task.specs.declared.parts.Fact.{Fact}
 use Rattle.var_order.specs.Layout.{Layout, slot_of, block_at}
 
@@ -10,6 +10,6 @@ pub record IsPlaceOf (o : Layout) (starts : List ℕ) (f : Fact) (place : ℕ) :
   pub some : 0 < (block_at o slot).width
   pub is : place ≡ slice_index starts slot + f.val
 
--- each place is that of the mark of one of the facts
+-- the places are those of the marks of the facts, but of facts whose variables have no bits
 abbrev pub ArePlacesOf : Layout → List ℕ → List Fact → List ℕ → Type 0
-ArePlacesOf o starts facts places = All (λ place. (f : Fact) × Contains facts f × IsPlaceOf o starts f place) places
+ArePlacesOf o starts facts places = (place : ℕ) → Contains places place ↔ ((f : Fact) × Contains facts f × IsPlaceOf o starts f place)

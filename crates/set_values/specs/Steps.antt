@@ -51,10 +51,10 @@ pub record AreFactsBy (Of : Operator → Fact → Type 0) (operators : List Oper
   pub each : length lists ≡ length operators
   pub facts : (op : ℕ) (d : Operator) (f : Fact) → op < length operators → Contains (slice_index_or lists op []) f ↔ Of (slice_index_or operators op d) f
 
--- each list has places of the marks of facts of one operator
+-- each list has the places of the marks of the facts of one operator, but of facts whose variables have no bits
 pub record AreWatched (o : Layout) (starts : List ℕ) (Of : Operator → Fact → Type 0) (operators : List Operator) (lists : List (List ℕ)) : Type 0 where
   pub each : length lists ≡ length operators
-  pub only : (op place : ℕ) (d : Operator) → op < length operators → Contains (slice_index_or lists op []) place → (f : Fact) × Of (slice_index_or operators op d) f × IsPlaceOf o starts f place
+  pub places : (op place : ℕ) (d : Operator) → op < length operators → Contains (slice_index_or lists op []) place ↔ ((f : Fact) × Of (slice_index_or operators op d) f × IsPlaceOf o starts f place)
 
 -- the places are those of the order, and the lists are of what the task's operators ask for, and of what they leave
 pub record AreStepFacts (task : TaskParts) (o : Layout) (steps : StepFacts) : Type 0 where

@@ -1,6 +1,6 @@
 //! The places of the marks of facts.
 
-ghost use Rattle.std.specs.Prelude.{◌≡◌, ◌⊎◌, ℕ, IfOk, IfSome, OnOk, Contains};
+ghost use Rattle.std.specs.Prelude.{◌≡◌, ◌↔◌, ◌⊎◌, ℕ, IfOk, MatchOption, OnOk, Contains};
 ghost use Rattle.std.specs.List.{AllZip};
 ghost use Rattle.set_values.specs.Occurs.{AreStarts};
 ghost use Rattle.set_values.specs.Placed.{IsPlaceOf, ArePlacesOf};
@@ -12,7 +12,8 @@ use var_order::Order;
 /// The place of the mark of a fact, if its variable has bits.
 fn place_of(order: &Order, starts: &[usize], fact: Fact) -> Option<usize>
     requires { AreStarts order.now.blocks starts.now }
-    ensures { IfSome result (IsPlaceOf order.now starts.now fact) }
+    ensures { MatchOption result ((p : ℕ) → ¬ IsPlaceOf order.now starts.now fact p)
+        (λ place. (p : ℕ) → IsPlaceOf order.now starts.now fact p ↔ (p ≡ place)) }
 {
     let slot = order.slot(fact.var)? as usize;
     if order.blocks()[slot].width == 0 {
@@ -29,13 +30,13 @@ fn add_place(
     places: &mut List<usize>,
 ) -> Result<(), Memory>
     requires { AreStarts order.now.blocks starts.now }
-    ensures { OnOk result ((p : ℕ) → Contains places.new p → Contains places.old p
-        ⊎ IsPlaceOf order.now starts.now fact p) }
+    ensures { OnOk result ((p : ℕ) → Contains places.new p ↔ (Contains places.old p
+        ⊎ IsPlaceOf order.now starts.now fact p)) }
 {
-    match place_of(order, starts, fact) {
-        None => Ok(()),
-        Some(place) => places.push(place),
+    if let Some(place) = place_of(order, starts, fact) {
+        places.push(place)?;
     }
+    Ok(())
 }
 
 /// The places of the marks of these facts, but of facts whose variables have no bits.

@@ -37,8 +37,8 @@ fn stays(ops: &mut Ops, n: u16) -> Result<Id, TableFault> {
     Ok(all)
 }
 
-/// The image of a state of `n` bits by the step that changes nothing, and the conjunction of both, which binds no level: calls
-/// that go down all `2 n` levels.
+/// The image of a state of `n` bits by the step that changes nothing, and the conjunction of both, which binds
+/// no level: calls that go down all `2 n` levels.
 pub fn deep(ops: &mut Ops, n: u16) -> Result<Made, TableFault> {
     let places = below(ops.table().allocator(), n)?;
     let state = all_on(ops, n)?;

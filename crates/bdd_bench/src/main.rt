@@ -1,10 +1,10 @@
 //! Times the operations on decision diagrams, on works that are known to the field.
 //!
-//! The words name a work, its size, and how many results the cache may hold: `queens N CACHE`, `switches N CACHE`, `sliding
-//! N CACHE` (a board of three rows and N columns), `gripper N CACHE`, or `deep N CACHE` (diagrams of 2 N levels, to see that
-//! they run within the stack). The output says how many rounds the work took and how many nodes its last diagram has;
-//! standard error says the time. `bench/diagrams.sh` runs it beside a program on BuDDy that does the same. It stands on
-//! `bdd_table` and `bdd_ops`.
+//! The words name a work, its size, and how many results the cache may hold: `queens N CACHE`, `switches N
+//! CACHE`, `sliding N CACHE` (a board of three rows and N columns), `gripper N CACHE`, or `deep N CACHE`
+//! (diagrams of 2 N levels, to see that they run within the stack). The output says how many rounds the work
+//! took and how many nodes its last diagram has; standard error says the time. `bench/diagrams.sh` runs it
+//! beside a program on BuDDy that does the same. It stands on `bdd_table` and `bdd_ops`.
 #![tactic(auto)]
 
 mod calls;

@@ -5,7 +5,8 @@ use Rattle.task_system.specs.System.{State, Listed}
 use Rattle.task_system.specs.Computed.{system_of}
 use Rattle.task_system.proofs.StatesLaw.{states_law}
 use Rattle.var_order.specs.Codes.{IsStateOf}
-use Rattle.var_order.proofs.Laying.{of_state}
+use Rattle.symk_task.specs.Variables.{IsState}
+use Rattle.var_order.proofs.Laying.{state_of, of_state}
 use Rattle.bdd_sets.specs.Sets.{Has, IsSetOfStates}
 use Rattle.space_api.specs.View.{HasMember, IsEmpty, HasSame}
 use Rattle.bdd_space.specs.Slots.{set_at}
@@ -61,16 +62,19 @@ module _ (e : Symbolic) (start : List ℕ) (i : IsSpace e start) (a f : ℕ) (is
     (λ same. same_sets e.order e.nodes f g i.order.layout i.reduced known (id_there e.order e.nodes e.sets b g i.sets there) (λ s. sym (seen_is s) ∙ same s ∙ has_there e b g s there)),
   )
 
-  -- the initial state is one of the set where the Id is true by all bits of it
+  -- a state is one of the set where the Id is true by all bits of it
+  pub state_says : (s : State) → IsStateOf e.order s → (r : Bool) → IsTrue r ↔ Has e.order e.nodes f s → r ≡ (seen e).has a s
+  state_says s state r says =
+      both_true r ((seen e).has a s)
+      (λ h. seen_is s ∙ has_from e.order e.nodes f s state (says.0 h (code_of e.order s) (code_law e.order s i.order.layout state)))
+      (λ h. says.1 (λ b code. (known.set b).1 (s, state, code, has_member e.order e.nodes f s i.order.layout (sym (seen_is s) ∙ h))))
+
+  -- and so is the initial one
   pub start_says : (r : Bool) → IsTrue r ↔ Has e.order e.nodes f start → r ≡ (seen e).has a (system_of e.task).initial
   start_says r says =
       let same : start ≡ (system_of e.task).initial = one_initial e.task start (system_of e.task).initial i.initial (start_law e.task i.fits) in
       let state : IsStateOf e.order start = subst (IsStateOf e.order) (sym same) (start_state e start i) in
-      both_true r ((seen e).has a (system_of e.task).initial)
-      (λ h. seen_is (system_of e.task).initial ∙ ap (has_state e.order e.nodes f) (sym same) ∙ has_from e.order e.nodes f start state (says.0 h (code_of e.order start) (code_law e.order start i.order.layout state)))
-      (λ h. says.1 (λ b code. (
-      let has = sym (seen_is (system_of e.task).initial ∙ ap (has_state e.order e.nodes f) (sym same)) ∙ h in
-      (known.set b).1 (start, state, code, has_member e.order e.nodes f start i.order.layout has))))
+      state_says start state r says ∙ ap ((seen e).has a) same
 
 -- the same, as its callers see the space
 
@@ -97,6 +101,14 @@ module _ (e old : Symbolic) (start : List ℕ) (i : IsSpace e start) (same : e �
 
   pub start_by : (r : Bool) → IsTrue r ↔ Has e.order e.nodes f start → r ≡ (seen old).has a (system_of old.task).initial
   start_by r says = subst (λ (x : Symbolic). r ≡ (seen x).has a (system_of x.task).initial) same (start_says e start i a f here r says)
+
+  pub state_by : (s : State) → IsState old.task s → (r : Bool) → IsTrue r ↔ Has e.order e.nodes f s → r ≡ (seen old).has a s
+  state_by s state r says =
+      let mine : IsState e.task s = subst (λ (x : Symbolic). IsState x.task s) (sym same) state in
+      subst (λ (x : Symbolic). r ≡ (seen x).has a s) same (state_says e start i a f here s (state_of e.task e.order s i.order mine) r says)
+
+  pub bits_by : (s : State) → IsState old.task s → IsStateOf e.order s
+  bits_by s state = state_of e.task e.order s i.order (subst (λ (x : Symbolic). IsState x.task s) (sym same) state)
 
   -- what is asked of the set to look for a state in it
   pub turns_by : IsSetOfStates e.order e.nodes f

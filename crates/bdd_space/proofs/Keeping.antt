@@ -46,6 +46,7 @@ space_grown e start new i k r = record {
   relations = relations_kept e.task e.order e.nodes new e.relations k i.relations;
   sets = λ a. set_grown e.order e.nodes new (set_at e.sets a) k (i.sets a);
   steps = i.steps;
+  rules = i.rules;
   initial = i.initial;
 }
 
@@ -93,6 +94,7 @@ module _ (e : Symbolic) (id r : ℕ) (new : List Slot) (puts : Puts e.sets id ne
     relations = i.relations;
     sets = sets_put known i.sets;
     steps = i.steps;
+    rules = i.rules;
     initial = i.initial;
   }
 

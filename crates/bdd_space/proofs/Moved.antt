@@ -141,7 +141,7 @@ abbrev pub own_at : List ℕ → Own
 own_at places = record { all = get_or places 0 0; start = get_or places 1 0; goals = get_or places 2 0 }
 
 abbrev pub collected : Symbolic → List Node → List ℕ → OperatorRelations → List Slot → ℕ → Symbolic
-collected e now places relations slots n = record { task = e.task; order = e.order; nodes = now; own = own_at places; relations = relations; steps = e.steps; sets = slots; last = n }
+collected e now places relations slots n = record { task = e.task; rules = e.rules; order = e.order; nodes = now; own = own_at places; relations = relations; steps = e.steps; sets = slots; last = n }
 
 abbrev pub set_from : Symbolic → ℕ
 set_from e = 3 + length (relation_roots e.relations)
@@ -194,6 +194,7 @@ module _ (e : Symbolic) (start : List ℕ) (now : List Node) (places : List ℕ)
     relations = are;
     sets = λ a. slot_set e.order e.nodes now (get_or e.sets a (Free 0)) (get_or slots a (Free 0)) (slot_moved a) (i.sets a);
     steps = i.steps;
+    rules = i.rules;
     initial = i.initial;
   }
 

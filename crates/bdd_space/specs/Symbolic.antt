@@ -3,6 +3,8 @@ use Rattle.std.specs.Prelude.{◌≡◌, ◌↔◌, ℕ, Bool, false, IsTrue, �
 use Rattle.symk_task.specs.declared.parts.TaskParts.{TaskParts}
 use Rattle.symk_task.specs.Plans.{IsInitial}
 use Rattle.symk_task.specs.Fits.{Fits}
+use Rattle.task_run.specs.declared.counting.Counting.{Counting}
+use Rattle.task_run.specs.Counted.{AreRulesOf}
 use Rattle.task_system.specs.System.{Listed}
 use Rattle.task_system.specs.Computed.{system_of}
 use Rattle.bdd_table.specs.declared.node.Node.{Node}
@@ -20,6 +22,7 @@ use Rattle.bdd_space.specs.Members.{has_state, IsKnownSet, HasThose}
 
 pub record Symbolic : Type 0 where
   pub task : TaskParts
+  pub rules : List Counting
   pub order : Layout
   pub nodes : List Node
   pub own : Own
@@ -46,6 +49,7 @@ AreSets o nodes sets = (a : ℕ) → IfSome (set_at sets a) (IsKnownSet o nodes)
 -- what a space keeps true
 pub record IsSpace (e : Symbolic) (start : List ℕ) : Type 0 where
   pub fits : Fits e.task
+  pub rules : AreRulesOf e.task e.rules
   pub order : IsOrderOf e.task e.order
   pub reduced : IsReduced e.nodes
   pub own : OwnAre e.task e.order e.nodes e.own

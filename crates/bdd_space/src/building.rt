@@ -20,11 +20,12 @@ use operator_relations::OperatorRelations;
 use set_values::StepFacts;
 use std::alloc::Global;
 use symk_task::{Memory, State, Task};
+use task_run::Rules;
 use var_order::Order;
 
-/// Relations of one cost are joined while a joined one has at most so many nodes. Fewer relations make fewer products an image,
-/// and larger ones dearer products; at a few thousand nodes a joined relation is still small beside the sets of a search that
-/// is worth the name.
+/// Relations of one cost are joined while a joined one has at most so many nodes. Fewer relations make fewer products
+/// an image, and larger ones dearer products; at a few thousand nodes a joined relation is still small beside the
+/// sets of a search that is worth the name.
 const JOINED_NODES: u64 = 4096;
 
 /// The Ids that a space keeps for itself.
@@ -50,8 +51,8 @@ fn own_sets(
 }
 
 impl<'a> BddSpace<'a> {
-    /// The space of the task, with no valid set. The relations of operators of one cost are joined by halves, in the order of the
-    /// operators, while a joined one has at most 4,096 nodes.
+    /// The space of the task, with no valid set. The relations of operators of one cost are joined by halves, in the
+    /// order of the operators, while a joined one has at most 4,096 nodes.
     pub fn of(alloc: Global, task: &'a Task) -> Result<BddSpace<'a>, Memory>
         ensures task { IfOk result (λ space. space.task ≡ task.now) }
         ensures system { IfOk result (λ space. (seen space).system ≡ system_of task.now) }
@@ -63,6 +64,7 @@ impl<'a> BddSpace<'a> {
         let _ = task.parts();
         let order = Order::of(alloc, task)?;
         let initial = task.start(alloc)?;
+        let rules = Rules::of(alloc, task)?;
         let mut ops = Ops::new(Table::new(alloc)?, CACHE)?;
         let derived = compile(alloc, task, &order, &mut ops)?;
         let own = own_sets(task, &order, &initial, &derived, &mut ops)?;
@@ -80,6 +82,7 @@ impl<'a> BddSpace<'a> {
             task,
             order,
             initial,
+            rules,
             ops,
             own,
             relations,

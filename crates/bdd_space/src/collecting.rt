@@ -67,7 +67,8 @@ impl<'a> BddSpace<'a> {
         Ok(roots)
     }
 
-    /// Throws away the nodes that neither a valid set nor the space itself needs. Where memory is wanting, all is as before.
+    /// Throws away the nodes that neither a valid set nor the space itself needs. Where memory is wanting, all is as
+    /// before.
     pub(crate) fn collect(&mut self) -> Result<(), Memory>
         ensures stays { Stays (seen self.old) (seen self.new) }
         ensures ok { OnOk result (Collected (Needs self.old) (Needs self.new) (seen self.old) (seen self.new)) }
@@ -96,8 +97,8 @@ impl<'a> BddSpace<'a> {
         MANY < nodes && self.swept < nodes / 4
     }
 
-    /// Collects where the table is crowded, though no caller asks for it, so that garbage doesn't make it grow. What was needed
-    /// when one asked last stays as it was told.
+    /// Collects where the table is crowded, though no caller asks for it, so that garbage doesn't make it grow. What
+    /// was needed when one asked last stays as it was told.
     pub(crate) fn sweep(&mut self)
         ensures stays { Stays (seen self.old) (seen self.new) }
         ensures last { (seen self.new).last ≡ (seen self.old).last }

@@ -37,8 +37,8 @@ impl Slot {
     }
 }
 
-/// Sets by number. A place that is given back is linked before those that were given back earlier, and is the next to be
-/// used again, so that the list grows no longer than the sets that are held at once.
+/// Sets by number. A place that is given back is linked before those that were given back earlier, and is the next to
+/// be used again, so that the list grows no longer than the sets that are held at once.
 #[derive(Drop)]
 pub(crate) struct Slots {
     slots: Vec<Slot>,

@@ -14,7 +14,8 @@ ghost use Rattle.bdd_space.specs.Seen.{seen, Needs};
 use crate::symbolic::BddSpace;
 use space_api::{Space, SpaceFault};
 use std::alloc::Global;
-use symk_task::Fact;
+use symk_task::{Fact, State, Task};
+use task_run::Rules;
 
 impl<'a> Space for BddSpace<'a> {
     type Set = usize;
@@ -51,37 +52,37 @@ impl<'a> Space for BddSpace<'a> {
     }
 
     fn unite(&mut self, a: usize, b: usize) -> Result<usize, SpaceFault> {
-        let set = self.united(a, b)?;
+        let set = self.union_of(a, b)?;
         self.add(set)
     }
 
     fn meet(&mut self, a: usize, b: usize) -> Result<usize, SpaceFault> {
-        let set = self.common(a, b)?;
+        let set = self.intersection_of(a, b)?;
         self.add(set)
     }
 
     fn minus(&mut self, a: usize, b: usize) -> Result<usize, SpaceFault> {
-        let set = self.left(a, b)?;
+        let set = self.difference_of(a, b)?;
         self.add(set)
     }
 
     fn image_cost(&mut self, w: u64, a: usize) -> Result<usize, SpaceFault> {
-        let set = self.reached_at(w, a)?;
+        let set = self.cost_image_of(w, a)?;
         self.add(set)
     }
 
     fn image_op(&mut self, op: u32, a: usize) -> Result<usize, SpaceFault> {
-        let set = self.reached(op, a)?;
+        let set = self.image_of(op, a)?;
         self.add(set)
     }
 
     fn pre_cost(&mut self, w: u64, a: usize, within: usize) -> Result<usize, SpaceFault> {
-        let set = self.leading_at(w, a, within)?;
+        let set = self.cost_preimage_of(w, a, within)?;
         self.add(set)
     }
 
     fn pre_op(&mut self, op: u32, a: usize, within: usize) -> Result<usize, SpaceFault> {
-        let set = self.leading(op, a, within)?;
+        let set = self.preimage_of(op, a, within)?;
         self.add(set)
     }
 
@@ -95,6 +96,11 @@ impl<'a> Space for BddSpace<'a> {
 
     fn last(&self) -> usize {
         self.last
+    }
+
+    /// The steps of the operations on diagrams.
+    fn work(&self) -> u64 {
+        self.ops.steps()
     }
 
     fn tidy(&mut self) -> Result<(), SpaceFault> {
@@ -111,6 +117,10 @@ impl<'a> Space for BddSpace<'a> {
 
     fn same(&self, a: usize, b: usize) -> bool {
         self.have_same(a, b)
+    }
+
+    fn has(&self, a: usize, state: &State) -> bool {
+        self.has_values(a, state)
     }
 
     fn has_init(&self, a: usize) -> bool {
@@ -142,5 +152,13 @@ impl<'a> Space for BddSpace<'a> {
     /// The operators whose conditions on base variables all have values that occur in the set.
     fn operators_from(&self, alloc: Global, a: usize) -> Result<Vec<u32>, SpaceFault> {
         self.leading_out(alloc, a)
+    }
+
+    fn task(&self) -> &Task {
+        self.task
+    }
+
+    fn rules(&self) -> &Rules {
+        self.counting()
     }
 }

@@ -7,6 +7,7 @@ use operator_relations::OperatorRelations;
 use set_values::StepFacts;
 use std::marker::Model;
 use symk_task::{Memory, State, Task};
+use task_run::Rules;
 use var_order::Order;
 
 /// The sets of states of one task, each a decision diagram.
@@ -15,6 +16,8 @@ pub struct BddSpace<'a> {
     pub(crate) task: &'a Task,
     pub(crate) order: Order,
     pub(crate) initial: State,
+    /// The task's rules that count.
+    pub(crate) rules: Rules,
     pub(crate) ops: Ops,
     pub(crate) own: Own,
     pub(crate) relations: OperatorRelations,
@@ -45,6 +48,7 @@ impl<'a> Model for BddSpace<'a> {
 
     ghost view = { λ a. record {
       task = a.task.now;
+      rules = a.rules;
       order = a.order;
       nodes = a.ops;
       own = a.own;
@@ -56,6 +60,7 @@ impl<'a> Model for BddSpace<'a> {
 
     ghost invariant = { λ a. IsSpace (record {
       task = a.task.now;
+      rules = a.rules;
       order = a.order;
       nodes = a.ops;
       own = a.own;

@@ -1,5 +1,5 @@
-//! Worked rows on a switch: off at first, on is the goal, the first operator turns it on and the second off. And a run of many
-//! rounds on two switches.
+//! Worked rows on a switch: off at first, on is the goal, the first operator turns it on and the second off. And a
+//! run of many rounds on two switches.
 
 ghost use Rattle.space_api.specs.View.{Valid};
 ghost use Rattle.space_api.specs.Frames.{Kept};

@@ -13,7 +13,7 @@ use Rattle.run_graph.specs.Layering.{At}
 use Rattle.cost_layers.specs.Layers.{Held, Stands, rings_at, whole_at}
 use Rattle.cost_layers.specs.declared.layers.Layers.{Layers}
 use Rattle.cost_layers.proofs.Holding.{layer_at}
-use Rattle.cost_search.proofs.Meeting.{stands_kept, no_stand}
+use Rattle.cost_search.proofs.Meeting.{stands_kept}
 use Rattle.layer_steps.specs.Arcs.{AlongIn}
 use Rattle.layer_steps.specs.Gathered.{Joins}
 use Rattle.bidirectional.specs.Cutting.{CutsBy, IsFirstOp, Lands, LandsBy}
@@ -55,13 +55,6 @@ module _ {Set : Type 0} (v w : View Set) (front : Layers Set) (to landed : Set) 
 
   pub lands_nowhere : ((x : ℕ) → x + c + z ≡ cost → b ≤ z + c → ⊥) → (s : State) → ¬ LandsBy v.system (Stands v front) (Has v to) cost b z c s
   lands_nowhere none s h = none h.2.x (omega (arith, h.2.sum, h.1)) (omega (arith, h.2.first, h.1))
-
-  pub lands_no_layer : (x : ℕ) → (x + c + z ≡ cost) × (b ≤ z + c) → whole_at front x ≡ None → (s : State) → ¬ LandsBy v.system (Stands v front) (Has v to) cost b z c s
-  lands_no_layer x sums is s h =
-      let m = h.2.meets in
-      let e : h.2.x ≡ x = omega (arith, h.2.sum, h.1, sums.0) in
-      let member = subst (λ (n : ℕ). (i : ℕ) × Stands v front n i m.from) e m.member in
-      no_stand v front x member.0 m.from held is member.1
 
 -- where sets are kept
 module _ {Set : Type 0} (v u : View Set) (front : Layers Set) (held : Held v front) (k : Kept v u) (to : Set) (ok : Valid v to) (cost b z w : ℕ) (t : State) where

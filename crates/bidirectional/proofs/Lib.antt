@@ -7,6 +7,7 @@ pub mod Known
 pub mod Finding
 pub mod Advancing
 pub mod Firsts
+pub mod Gathered
 pub mod NextCut
 pub mod Rest
 pub mod Opening

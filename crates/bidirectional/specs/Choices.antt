@@ -12,10 +12,10 @@ Prefers (Lighter last) f b = (last.ahead < last.back) ⊎ ((last.ahead ≡ last.
 
 -- what it is once a step is noted
 abbrev pub noted : Choice → Bool → ℕ → Choice
-noted Forward ahead nodes = Forward
-noted Backward ahead nodes = Backward
-noted Lower ahead nodes = Lower
-noted (Lighter last) ahead nodes = Lighter (record {
-  ahead = if ahead then nodes else last.ahead;
-  back = if ahead then last.back else nodes;
+noted Forward ahead work = Forward
+noted Backward ahead work = Backward
+noted Lower ahead work = Lower
+noted (Lighter last) ahead work = Lighter (record {
+  ahead = if ahead then work else last.ahead;
+  back = if ahead then last.back else work;
 })

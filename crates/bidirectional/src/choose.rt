@@ -5,12 +5,13 @@ ghost use Rattle.bidirectional.specs.Choices.{Prefers, noted};
 
 /// Chooses the side that goes on.
 pub trait Choose {
-    /// Whether the forward side goes on, from what the forward layers (`f`) and the backward layers (`b`) are known below.
+    /// Whether the forward side goes on, from what the forward layers (`f`) and the backward layers (`b`) are known
+    /// below.
     fn forward_next(&mut self, f: u128, b: u128) -> bool;
 
-    /// Is told of each step of a side once it is done: whether it was the forward side's, and how many nodes more the space
-    /// holds than before, 0 where it holds fewer.
-    fn note_step(&mut self, forward: bool, nodes: usize);
+    /// Is told of each step of a side once it is done: whether it was the forward side's, and how much work it was by
+    /// the space's count, with the test before it whether the sides meet.
+    fn note_step(&mut self, forward: bool, work: u64);
 }
 
 /// Always the forward side.
@@ -25,13 +26,13 @@ pub struct AlwaysBackward;
 #[derive(Clone, Copy, Debug, PartialEq, Eq)]
 pub struct Lower;
 
-/// The side whose last step made fewer nodes; where both made as many, as `Lower`.
+/// The side whose last step was less work; where both were as much, as `Lower`.
 #[derive(Clone, Copy, Debug, PartialEq, Eq)]
 pub struct Lighter {
-    /// How many nodes the last step of the forward side made, 0 before its first.
-    pub ahead: usize,
-    /// How many nodes the last step of the backward side made, 0 before its first.
-    pub back: usize,
+    /// How much work the last step of the forward side was, 0 before its first.
+    pub ahead: u64,
+    /// How much work the last step of the backward side was, 0 before its first.
+    pub back: u64,
 }
 
 impl Lighter {
@@ -63,7 +64,7 @@ impl Choose for AlwaysForward {
         true
     }
 
-    fn note_step(&mut self, _forward: bool, _nodes: usize)
+    fn note_step(&mut self, _forward: bool, _work: u64)
         ensures { self.new ≡ self.old }
     {}
 }
@@ -75,7 +76,7 @@ impl Choose for AlwaysBackward {
         false
     }
 
-    fn note_step(&mut self, _forward: bool, _nodes: usize)
+    fn note_step(&mut self, _forward: bool, _work: u64)
         ensures { self.new ≡ self.old }
     {}
 }
@@ -87,7 +88,7 @@ impl Choose for Lower {
         f <= b
     }
 
-    fn note_step(&mut self, _forward: bool, _nodes: usize)
+    fn note_step(&mut self, _forward: bool, _work: u64)
         ensures { self.new ≡ self.old }
     {}
 }
@@ -105,14 +106,14 @@ impl Choose for Lighter {
         }
     }
 
-    fn note_step(&mut self, forward: bool, nodes: usize)
-        ensures ahead { self.new.ahead ≡ (if forward then nodes else self.old.ahead) }
-        ensures back { self.new.back ≡ (if forward then self.old.back else nodes) }
+    fn note_step(&mut self, forward: bool, work: u64)
+        ensures ahead { self.new.ahead ≡ (if forward then work else self.old.ahead) }
+        ensures back { self.new.back ≡ (if forward then self.old.back else work) }
     {
         if forward {
-            self.ahead = nodes;
+            self.ahead = work;
         } else {
-            self.back = nodes;
+            self.back = work;
         }
     }
 }
@@ -130,11 +131,11 @@ impl Choose for Choice {
         }
     }
 
-    fn note_step(&mut self, forward: bool, nodes: usize)
-        ensures { self.new ≡ noted self.old forward nodes }
+    fn note_step(&mut self, forward: bool, work: u64)
+        ensures { self.new ≡ noted self.old forward work }
     {
         if let Choice::Lighter(lighter) = self {
-            lighter.note_step(forward, nodes);
+            lighter.note_step(forward, work);
         }
     }
 }

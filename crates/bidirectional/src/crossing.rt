@@ -96,8 +96,9 @@ pub(crate) fn layer_meets<S: Space>(
     }
 }
 
-/// The least cost from `low` on and below `high` at which a forward layer meets the set by an operator of cost `w`, if what
-/// is left would no longer be below `b` with it; `high` where there is none. Layers are tried by steps ahead, or else by steps back.
+/// The least cost from `low` on and below `high` at which a forward layer meets the set by an operator of cost `w`,
+/// if what is left would no longer be below `b` with it; `high` where there is none. Layers are tried by steps ahead,
+/// or else by steps back.
 fn least_by<S: Space>(
     space: &mut S,
     front: &Layers<S::Set>,
@@ -195,8 +196,8 @@ fn dearest<S: Space>(space: &S) -> u64
     most
 }
 
-/// The least cost from `low` on and below `high` at which layers of both sides meet; `high` where there is none. An operator crosses
-/// into no layer that even the dearest one leaves below `b`.
+/// The least cost from `low` on and below `high` at which layers of both sides meet; `high` where there is none. An
+/// operator crosses into no layer that even the dearest one leaves below `b`.
 pub(crate) fn least_cross<S: Space>(
     space: &mut S,
     front: &Layers<S::Set>,

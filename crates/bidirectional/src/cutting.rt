@@ -1,17 +1,25 @@
 //! The cuts of one cost, one after the other.
 
-ghost use Rattle.std.specs.Prelude.{◌≡◌, ◌+◌, ◌-◌, ◌<◌, ◌≤◌, ◌^◌, ◌↔◌, ℕ, None, IsTrue, IfOk, MatchOption};
+/// Operators that cross, in order, and the cost that is left after each.
+#[derive(Drop)]
+pub(crate) struct Crossing {
+    pub(crate) z: u64,
+    pub(crate) ops: Vec<u32>,
+}
+
+ghost use Rattle.std.specs.Prelude.{◌≡◌, ◌+◌, ◌<◌, ◌≤◌, ◌↔◌, ℕ, IsTrue, IfOk, MatchOption, All, map};
 ghost use Rattle.task_system.specs.System.{State};
 ghost use Rattle.space_api.specs.View.{View, Valid, Has, Preimage};
 ghost use Rattle.space_api.specs.Frames.{Stays};
 ghost use Rattle.run_graph.specs.Layering.{InLayer};
 ghost use Rattle.cost_layers.specs.Layers.{whole_at, Held, Stands};
-ghost use Rattle.bidirectional.specs.Cutting.{LeadsInto, CutsBy, CutsInto, IsFirstOp, IsFirstCut, HasEach};
+ghost use Rattle.bidirectional.specs.Cutting.{LeadsInto, CutsBy, IsFirstOp, HasEach, Begin, AreFirstCuts, cross_at};
 
 use crate::crossing::{cost_from, layer_meets};
 use crate::landing::landing;
 use cost_layers::Layers;
 use cost_search::cost_after;
+use plan_cuts::Cut;
 use space_api::{Space, SpaceFault};
 use std::alloc::Global;
 
@@ -145,8 +153,9 @@ fn op_cuts<S: Space>(
     }
 }
 
-/// The first operator from this one on that crosses into the set at this cost; none is tried that leads into no state of it.
-fn first_among<S: Space>(
+/// The operators from this one on that cross into the set at this cost, in order; all, unless one is enough. None
+/// is tried that leads into no state of it.
+fn ops_among<S: Space>(
     alloc: Global,
     space: &mut S,
     front: &Layers<S::Set>,
@@ -155,25 +164,30 @@ fn first_among<S: Space>(
     z: u64,
     from: u64,
     to: S::Set,
-) -> Result<Option<u32>, SpaceFault>
+    one: bool,
+) -> Result<Vec<u32>, SpaceFault>
     requires front { Held (S.view space.old) front.now }
     requires to { Valid (S.view space.old) to }
     ensures stays { Stays (S.view space.old) (S.view space.new) }
-    ensures ok { IfOk result (IsFirstOp (S.view space.old).system (Stands (S.view space.old) front.now)
-        (Has (S.view space.old) to) cost b z from) }
+    ensures ok { IfOk result (λ ops. Begin (IsFirstOp (S.view space.old).system (Stands (S.view space.old) front.now)
+        (Has (S.view space.old) to) cost b z) one from ops.items) }
 {
     let costs = meeting_costs(alloc, space, front, cost, b, z, to)?;
     let ops = space.operators_into(alloc, to)?;
+    let mut found = Vec::new(alloc);
     'operators: for op in &ops {
         if from <= *op as u64 && op_cuts(space, front, cost, b, z, *op, &costs, to)? {
-            return Ok(Some(*op));
+            found.push(*op)?;
+            if one {
+                return Ok(found);
+            }
         }
     }
-    Ok(None)
+    Ok(found)
 }
 
 /// The same; no operator is asked for where the set has no state.
-fn first_landed<S: Space>(
+fn ops_landed<S: Space>(
     alloc: Global,
     space: &mut S,
     front: &Layers<S::Set>,
@@ -182,22 +196,24 @@ fn first_landed<S: Space>(
     z: u64,
     from: u64,
     to: S::Set,
-) -> Result<Option<u32>, SpaceFault>
+    one: bool,
+) -> Result<Vec<u32>, SpaceFault>
     requires front { Held (S.view space.old) front.now }
     requires to { Valid (S.view space.old) to }
     ensures stays { Stays (S.view space.old) (S.view space.new) }
-    ensures ok { IfOk result (IsFirstOp (S.view space.old).system (Stands (S.view space.old) front.now)
-        (Has (S.view space.old) to) cost b z from) }
+    ensures ok { IfOk result (λ ops. Begin (IsFirstOp (S.view space.old).system (Stands (S.view space.old) front.now)
+        (Has (S.view space.old) to) cost b z) one from ops.items) }
 {
     if space.is_empty(to) {
-        return Ok(None);
+        return Ok(Vec::new(alloc));
     }
-    first_among(alloc, space, front, cost, b, z, from, to)
+    ops_among(alloc, space, front, cost, b, z, from, to, one)
 }
 
-/// The first operator from this one on that crosses into the set at this cost. It is looked for among those that lead into the
-/// states of the set into which some operator crosses, which are few; these are found by steps ahead, or else by steps back.
-fn first_op<S: Space>(
+/// The operators from this one on that cross into the set at this cost, in order; all, unless one is enough. They
+/// are looked for among those that lead into the states of the set into which some operator crosses, which are few;
+/// these are found once, by steps ahead, or else by steps back.
+fn ops_from<S: Space>(
     alloc: Global,
     space: &mut S,
     front: &Layers<S::Set>,
@@ -206,22 +222,23 @@ fn first_op<S: Space>(
     z: u64,
     from: u64,
     to: S::Set,
+    one: bool,
     ahead: bool,
-) -> Result<Option<u32>, SpaceFault>
+) -> Result<Vec<u32>, SpaceFault>
     requires front { Held (S.view space.old) front.now }
     requires to { Valid (S.view space.old) to }
     ensures stays { Stays (S.view space.old) (S.view space.new) }
-    ensures ok { IfOk result (IsFirstOp (S.view space.old).system (Stands (S.view space.old) front.now)
-        (Has (S.view space.old) to) cost b z from) }
+    ensures ok { IfOk result (λ ops. Begin (IsFirstOp (S.view space.old).system (Stands (S.view space.old) front.now)
+        (Has (S.view space.old) to) cost b z) one from ops.items) }
 {
     let landed = landing(space, front, cost, b, z, to, ahead)?;
-    let first = first_landed(alloc, space, front, cost, b, z, from, landed);
+    let ops = ops_landed(alloc, space, front, cost, b, z, from, landed, one);
     space.forget(landed);
-    first
+    ops
 }
 
 /// The same, into the backward layer of this cost.
-fn first_into<S: Space>(
+fn ops_into<S: Space>(
     alloc: Global,
     space: &mut S,
     front: &Layers<S::Set>,
@@ -230,17 +247,18 @@ fn first_into<S: Space>(
     b: u128,
     z: u64,
     from: u64,
+    one: bool,
     ahead: bool,
-) -> Result<Option<u32>, SpaceFault>
+) -> Result<Vec<u32>, SpaceFault>
     requires front { Held (S.view space.old) front.now }
     requires back { Held (S.view space.old) back.now }
     ensures stays { Stays (S.view space.old) (S.view space.new) }
-    ensures ok { IfOk result (IsFirstOp (S.view space.old).system (Stands (S.view space.old) front.now)
-        (InLayer (Stands (S.view space.old) back.now) z) cost b z from) }
+    ensures ok { IfOk result (λ ops. Begin (IsFirstOp (S.view space.old).system (Stands (S.view space.old) front.now)
+        (InLayer (Stands (S.view space.old) back.now) z) cost b z) one from ops.items) }
 {
     match back.layer(z) {
-        Some(whole) => first_op(alloc, space, front, cost, b, z, from, whole, ahead),
-        None => Ok(None),
+        Some(whole) => ops_from(alloc, space, front, cost, b, z, from, whole, one, ahead),
+        None => Ok(Vec::new(alloc)),
     }
 }
 
@@ -251,7 +269,8 @@ fn first_from(z: u64, first: u64, from: u64) -> u64
     if z == first { from } else { 0 }
 }
 
-/// The first pair of a cost that is left and an operator, from these on, at which layers of both sides meet at this cost.
+/// The operators by which layers of both sides meet at this cost where the least cost is left at which some do, from
+/// this pair of a cost that is left and an operator on; all of them, unless one is enough. None where no layers meet.
 pub(crate) fn first_cross<S: Space>(
     alloc: Global,
     space: &mut S,
@@ -261,17 +280,18 @@ pub(crate) fn first_cross<S: Space>(
     b: u128,
     first: u64,
     from: u64,
+    one: bool,
     ahead: bool,
-) -> Result<Option<(u32, u64)>, SpaceFault>
+) -> Result<Option<Crossing>, SpaceFault>
     requires front { Held (S.view space.old) front.now }
     requires back { Held (S.view space.old) back.now }
     ensures stays { Stays (S.view space.old) (S.view space.new) }
-    ensures ok { IfOk result (IsFirstCut (S.view space.old).system (Stands (S.view space.old) front.now)
-        (Stands (S.view space.old) back.now) cost b first from) }
+    ensures ok { IfOk result (AreFirstCuts (S.view space.old).system (Stands (S.view space.old) front.now)
+        (Stands (S.view space.old) back.now) cost b one first from) }
 {
     let mut next = cost_from(back, first as u128);
     'costs: while let Some(z) = next {
-        if let Some(op) = first_into(
+        let ops = ops_into(
             alloc,
             space,
             front,
@@ -280,11 +300,36 @@ pub(crate) fn first_cross<S: Space>(
             b,
             z,
             first_from(z, first, from),
+            one,
             ahead,
-        )? {
-            return Ok(Some((op, z)));
+        )?;
+        if !ops.is_empty() {
+            return Ok(Some(Crossing { z, ops }));
         }
         next = cost_after(back, z);
     }
     Ok(None)
+}
+
+/// The cuts of plans of this cost by these operators, `z` being what is left after each.
+pub(crate) fn cuts_by<S: Space>(
+    alloc: Global,
+    space: &S,
+    cost: u64,
+    z: u64,
+    ops: &[u32],
+) -> Result<Vec<Cut>, SpaceFault>
+    requires known { All (λ op. op < (S.view space.now).system.operators) ops.now }
+    requires sums { All (λ op. (S.view space.now).system.cost op + z ≤ cost) ops.now }
+    ensures { IfOk result (λ cuts. cuts.items ≡ map (cross_at (S.view space.now).system cost z) ops.now) }
+{
+    let mut cuts = Vec::with_capacity(alloc, ops.len())?;
+    'operators: for op in ops {
+        cuts.push(Cut::Cross {
+            x: cost - z - space.cost_of(*op),
+            op: *op,
+            y: z,
+        })?;
+    }
+    Ok(cuts)
 }

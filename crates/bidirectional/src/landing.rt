@@ -18,8 +18,8 @@ use layer_steps::unite_along;
 use run_graph::Side;
 use space_api::{Space, SpaceFault};
 
-/// The states of a set, and those of `to` into which operators of cost `w` lead from the other set. The states from which they lead
-/// into `to` come first: they are few, and so is what they lead to.
+/// The states of a set, and those of `to` into which operators of cost `w` lead from the other set. The states from
+/// which they lead into `to` come first: they are few, and so is what they lead to.
 fn land_back<S: Space>(
     space: &mut S,
     from: S::Set,
@@ -86,7 +86,8 @@ fn add_from<S: Space>(
     more
 }
 
-/// The states of `to` into which operators of cost `w` cross at this cost, beside those of a set that they take the place of.
+/// The states of `to` into which operators of cost `w` cross at this cost, beside those of a set that they take the
+/// place of.
 fn add_landing<S: Space>(
     space: &mut S,
     front: &Layers<S::Set>,

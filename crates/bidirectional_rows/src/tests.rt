@@ -258,7 +258,8 @@ fn each_cost_of_a_plan_follows_the_one_before(rt: HostRuntime) -> Result<(), Fai
     Ok(())
 }
 
-/// A row: a task, the greatest cost, the first and the last cost of a plan up to it, how many there are, and what comes then.
+/// A row: a task, the greatest cost, the first and the last cost of a plan up to it, how many there are, and
+/// what comes then.
 #[derive(Clone, Copy)]
 struct CostRow {
     task: u32,
@@ -337,8 +338,8 @@ fn the_costs_of_plans_come_rising_and_their_end_is_told(rt: HostRuntime) -> Resu
     Ok(())
 }
 
-/// Whether the first cut stands before the second: by cost; then whole plans first, then by the cost that is left, then by
-/// the operator.
+/// Whether the first cut stands before the second: by cost; then whole plans first, then by the cost that is
+/// left, then by the operator.
 fn stands_before(first: PlanCut, second: PlanCut) -> bool {
     if first.cost != second.cost {
         return first.cost < second.cost;

@@ -1,5 +1,5 @@
 -- What the calls of a table say of a set.
-use Rattle.std.proofs.Common.{◌≡◌, ◌↔◌, ℕ, suc, ◌+◌, ◌<◌, ◌≤◌, ◌⊎◌, inl, inr, Bool, true, false, not, ◌&&◌, eqb, List, length, IsTrue, MatchBool, Option, Some, None, MatchOption, IsSomeAnd, refl, sym, ◌∙◌, ap, subst, arith, eq-eqb, true≢false}
+use Rattle.std.proofs.Common.{◌≡◌, ◌↔◌, ℕ, ◌+◌, ◌<◌, ◌≤◌, ◌⊎◌, inl, inr, Bool, true, false, not, ◌&&◌, eqb, List, length, IsTrue, MatchBool, Option, Some, None, MatchOption, IsSomeAnd, sym, ◌∙◌, ap, subst, arith, eq-eqb, true≢false}
 use Rattle.std.specs.List.{All}
 use Rattle.std.proofs.lemmas.Bool.{ne_eqb}
 use Rattle.std.proofs.lemmas.Option.{slice_get_cases}
@@ -13,13 +13,12 @@ use Rattle.bdd_table.specs.declared.node.Node.{Node}
 use Rattle.bdd_table.specs.Diagram.{Bits, means, IsReduced, Keeps}
 use Rattle.bdd_table.proofs.Meaning.{means_false}
 use Rattle.var_order.specs.Layout.{Layout, IsOrderOf}
-use Rattle.var_order.proofs.Laying.{state_of}
 use Rattle.bdd_sets.specs.Sets.{Has, IsOfState, IsSetOfStates}
 use Rattle.axiom_layers.specs.Roots.{IsTrueWhere}
 use Rattle.transitions.specs.Relations.{Names, HasMember, IsSet, Relates, Successor, AreOver}
 use Rattle.transitions.proofs.Using.{set_alike, steps_of_relates}
 use Rattle.certificates.specs.Inductive.{Begins, ClosedBy}
-use Rattle.cert_check.specs.Judging.{LeavesBy, FirstLeaves, MeetsGoal, MissesGoal}
+use Rattle.cert_check.specs.Judging.{LeavesBy, MeetsGoal, MissesGoal}
 use Rattle.bdd_table.proofs.Witness.{is_zero, holds_for_some}
 use Rattle.cert_check.proofs.Judged.{member_alike, closed_alike, leaves_alike, meets_alike, misses_alike, leaves, closed, meets, misses, members_set, members_are, has_is, begins_at}
 
@@ -122,11 +121,3 @@ past_operators task I n all before a s t state member step = elim (slice_get_cas
   | inl some ↦ (let lt = some.1 in before a (omega (arith, lt, all)) s t state member step)
   | inr past ↦ absurd (subst (λ (x : Option Operator). IsSomeAnd x (λ operator. All (Holds task s) operator.prevail × All (Allows task s) operator.effects)) past.1 step.0)
 ]
-
-pub not_true : (b : Bool) → not b ≡ true → b ≡ false
-not_true true e = absurd (true≢false (sym e))
-not_true false e = refl
-
-pub not_not : (b : Bool) → not b ≡ false → b ≡ true
-not_not true e = refl
-not_not false e = absurd (true≢false e)

@@ -1,9 +1,8 @@
 -- What is known of the members of a set and of the roots, as the nodes that nothing needs are thrown away.
-use Rattle.std.proofs.Common.{◌≡◌, ℕ, ◌+◌, ◌<◌, ◌⊎◌, inl, inr, List, [], ◌∷◌, ◌++◌, length, get_or, refl, sym, ◌∙◌, ap, subst, arith, length-append}
+use Rattle.std.proofs.Common.{◌≡◌, ℕ, ◌+◌, ◌<◌, ◌⊎◌, inl, inr, List, [], ◌∷◌, ◌++◌, length, get_or, sym, ◌∙◌, ap, subst, arith, length-append}
 use Rattle.std.proofs.Math.ListN.{get_or-append}
 use Rattle.std.proofs.Math.Seq.{get_or-append_seam}
 use Rattle.symk_task.specs.declared.parts.TaskParts.{TaskParts}
-use Rattle.symk_task.specs.Variables.{IsState}
 use Rattle.symk_task.specs.Fits.{Fits}
 use Rattle.bdd_table.specs.declared.node.Node.{Node}
 use Rattle.bdd_table.specs.Diagram.{Bits, means, Keeps}
@@ -18,13 +17,6 @@ use Rattle.cert_check.specs.Carried.{AreCarried}
 use Rattle.cert_check.specs.Judging.{LeavesBy, FirstLeaves}
 use Rattle.cert_check.proofs.Judged.{member_alike, closed_alike, leaves_alike}
 use Rattle.cert_check.proofs.Answering.{kept_set, closed_more}
-
--- what stays where it is, is where it was
-pub stays : (nodes : List Node) (id : ℕ) → id < length nodes → IsMoved nodes nodes id id
-stays nodes id known = record { known = known; level = refl; meaning = λ b. refl }
-
-pub all_stay : (nodes : List Node) (roots : List ℕ) (members : ℕ) → ((var : ℕ) → var < length roots → get_or roots var 0 < length nodes) → members < length nodes → AreCarried nodes roots members nodes roots members
-all_stay nodes roots members roots_known known = record { count = refl; each = λ var lt. stays nodes (get_or roots var 0) (roots_known var lt); set = stays nodes members known }
 
 -- where the roots, and the members behind them, were moved together
 pub carried_by : (old new : List Node) (derived : List ℕ) (members : ℕ) (roots places more : List ℕ) (place : ℕ) → roots ≡ derived ++ members ∷ [] → ((i : ℕ) → i < length roots → IsMoved old new (get_or roots i 0) (get_or places i 0))

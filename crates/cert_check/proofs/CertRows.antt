@@ -1,5 +1,5 @@
 -- The rows of a certificate are read exactly.
-use Rattle.std.proofs.Common.{◌≡◌, ℕ, ◌+◌, ◌^◌, ◌<◌, ◌≤◌, Bool, true, false, cond, eqb, nat_lt, ◌||◌, List, [], ◌∷◌, ◌++◌, length, Option, Some, None, refl, sym, ap, subst, ◌∙◌, arith, codes, decimal}
+use Rattle.std.proofs.Common.{◌≡◌, ℕ, ◌+◌, ◌^◌, ◌<◌, ◌≤◌, Bool, true, false, cond, eqb, nat_lt, ◌||◌, List, ◌++◌, Option, Some, None, refl, ap, subst, ◌∙◌, arith, codes, decimal}
 use Rattle.std.proofs.lemmas.Option.{cond_some}
 use Rattle.std.proofs.lemmas.Bool.{eqb-true, eq-eqb}
 use Rattle.std.proofs.lemmas.Bool.Decides.{nat_tests}
@@ -8,12 +8,12 @@ use Rattle.std.specs.Option.{option_and_then}
 use Rattle.std.specs.Str.{bytes_eq}
 use Rattle.line_grammar.proofs.Exact as grammar
 use Rattle.line_grammar.proofs.Joining.{Always}
-use Rattle.line_fields.specs.Numbers.{IsNumber, IsNumbered}
+use Rattle.line_fields.specs.Numbers.{IsNumbered}
 use Rattle.line_fields.specs.Fields.{number_after, is_numbered}
 use Rattle.line_fields.proofs.Alone.{alone_is, alone_again, numbered_is, numbered_again}
 use Rattle.line_fields.proofs.Decimals.{decimal_number}
 use Rattle.certificates.specs.declared.node.CertNode.{CertNode}
-use Rattle.certificates.specs.Texts.{Row, version, bits, count, node, root, «end», IsSpelled, bit_of, IsNodeAfter}
+use Rattle.certificates.specs.Texts.{Row, version, bits, count, node, root, «end», IsSpelled, IsNodeAfter}
 use Rattle.cert_check.specs.Reading.{exactly, bits_in, if_may_count, count_in, node_in, if_known, root_in}
 use Rattle.cert_check.proofs.NodeLines.{node_read, node_again}
 

@@ -1,5 +1,5 @@
 -- What is asked of a set of states, and what the answers say.
-use Rattle.std.proofs.Common.{◌≡◌, ◌≢◌, ◌↔◌, ℕ, ◌<◌, ◌≤◌, inl, inr, Bool, true, false, not, ◌&&◌, List, length, IsTrue, MatchBool, refl, sym, ◌∙◌, ap, subst, true≢false}
+use Rattle.std.proofs.Common.{◌≡◌, ◌≢◌, ◌↔◌, ℕ, ◌<◌, inl, inr, Bool, true, false, not, ◌&&◌, List, refl, sym, ◌∙◌, ap, subst, true≢false}
 use Rattle.std.specs.List.{All}
 use Rattle.std.proofs.lemmas.Bool.{and_parts, and_from}
 use Rattle.symk_task.specs.declared.parts.TaskParts.{TaskParts}
@@ -10,23 +10,21 @@ use Rattle.symk_task.specs.Plans.{IsInitial}
 use Rattle.symk_task.proofs.Running.{step_state}
 use Rattle.symk_task.proofs.Starting.{one_initial}
 use Rattle.bdd_table.specs.declared.node.Node.{Node}
-use Rattle.bdd_table.specs.Diagram.{Bits, means, IsReduced}
+use Rattle.bdd_table.specs.Diagram.{Bits, means}
 use Rattle.var_order.specs.Layout.{Layout, IsOrderOf, bits, level_at}
-use Rattle.var_order.specs.Codes.{IsCode, IsStateOf}
+use Rattle.var_order.specs.Codes.{IsCode}
 use Rattle.var_order.proofs.Coding.{coded}
 use Rattle.var_order.proofs.Laying.{state_of, of_state}
 use Rattle.bdd_sets.specs.Sets.{Has, IsOfState, IsSetOfStates}
-use Rattle.axiom_layers.specs.Roots.{IsTrueWhere}
 use Rattle.transitions.specs.Relations.{Names, HasMember, IsSet, Relates, Successor}
 use Rattle.transitions.proofs.SameBits.{same_bits}
 use Rattle.transitions.proofs.Using.{connects_related}
 use Rattle.transitions.proofs.ImageLaw.{true_or_false}
-use Rattle.certificates.specs.Inductive.{Begins, ClosedBy, IsInductive}
-use Rattle.cert_check.specs.declared.judging.CertPart.{CertPart}
+use Rattle.certificates.specs.Inductive.{Begins, ClosedBy}
 use Rattle.cert_check.specs.declared.judging.CertPart.TheVariants.{Initial, Step, Goal}
 use Rattle.cert_check.specs.declared.judging.CertVerdict.{CertVerdict}
 use Rattle.cert_check.specs.declared.judging.CertVerdict.TheVariants.{Yes, No}
-use Rattle.cert_check.specs.Judging.{LeavesBy, FirstLeaves, MeetsGoal, MissesGoal, FailsFirst, Judges}
+use Rattle.cert_check.specs.Judging.{LeavesBy, FirstLeaves, MeetsGoal, MissesGoal, Judges}
 
 -- members are those of the bits alone
 pub member_alike : (o : Layout) (F G : Bits → Bool) (s : List ℕ) → ((b : Bits) → G b ≡ F b) → HasMember o F s ↔ HasMember o G s

@@ -1,10 +1,10 @@
 -- The lines of nodes are read exactly.
-use Rattle.std.proofs.Common.{◌≡◌, ℕ, ◌+◌, ◌<◌, ◌≤◌, Bool, true, false, cond, nat_lt, ◌&&◌, List, [], ◌∷◌, ◌++◌, length, Option, Some, None, refl, sym, ap, subst, ◌∙◌, arith, codes, append_assoc}
-use Rattle.std.proofs.lemmas.Option.{cond_some, some_pair_parts}
+use Rattle.std.proofs.Common.{◌≡◌, ℕ, ◌+◌, ◌<◌, Bool, true, cond, nat_lt, ◌&&◌, List, ◌++◌, length, Option, Some, None, refl, sym, ap, subst, ◌∙◌, arith, codes, append_assoc}
+use Rattle.std.proofs.lemmas.Option.{cond_some}
 use Rattle.std.proofs.lemmas.Bool.{and_parts, and_from}
 use Rattle.std.proofs.lemmas.Bool.Decides.{nat_tests}
 use Rattle.std.specs.Option.{option_map, option_and_then}
-use Rattle.line_fields.specs.Numbers.{IsNumber, IsNumbered}
+use Rattle.line_fields.specs.Numbers.{IsNumber}
 use Rattle.line_fields.specs.Fields.{first_number, number_then, number_after}
 use Rattle.line_fields.proofs.Fronts.{first_is, first_again, number_follows, follows_number}
 use Rattle.line_fields.proofs.Alone.{alone_is, alone_again}

@@ -1,12 +1,9 @@
 -- The diagrams of the numbers of a certificate.
-use Rattle.std.proofs.Common.{◌≡◌, ℕ, zero, suc, ◌+◌, ◌-◌, ◌<◌, ◌≤◌, Bool, true, false, cond, nat_lt, List, [], ◌∷◌, ◌++◌, length, map, get_or, take, inl, inr, Option, Some, None, slice_get, refl, sym, ◌∙◌, ap, subst, arith, append_assoc}
-use Rattle.std.specs.List.{All, fold}
-use Rattle.std.specs.Option.{option_map_or}
-use Rattle.std.proofs.lemmas.Bool.Decides.{nat_tests}
+use Rattle.std.proofs.Common.{◌≡◌, ℕ, zero, suc, ◌+◌, ◌-◌, ◌<◌, ◌≤◌, Bool, true, false, cond, List, [], ◌∷◌, ◌++◌, length, map, get_or, take, refl, sym, ◌∙◌, ap, subst, arith, append_assoc}
+use Rattle.std.specs.List.{All}
 use Rattle.std.proofs.lemmas.List.{append-nil, map-append, get_or-map, length_push, take_more, take_all}
 use Rattle.std.proofs.lemmas.List.Sums.{fold-append}
 use Rattle.std.proofs.lemmas.List.Elements.{All-nil, All-cons, All-push, All-head, All-tail}
-use Rattle.std.proofs.lemmas.Option.{slice_get_cases}
 use Rattle.bdd_table.specs.declared.node.Node.{Node}
 use Rattle.bdd_table.specs.Diagram.{Bits, means, Keeps, IsReduced}
 use Rattle.bdd_table.proofs.Meaning.{means_false, means_true}
@@ -15,7 +12,7 @@ use Rattle.axiom_layers.proofs.RootValues.{keeps_on, keeps_itself}
 use Rattle.certificates.specs.declared.node.CertNode.{CertNode}
 use Rattle.certificates.specs.declared.node.Certificate.{Certificate}
 use Rattle.certificates.specs.Meaning.{node_says, with_node, says, holds}
-use Rattle.certificates.specs.Texts.{bit_of, IsNodeAfter, AreNodesAfter, IsInOrder}
+use Rattle.certificates.specs.Texts.{IsNodeAfter, AreNodesAfter, IsInOrder}
 use Rattle.cert_bits.specs.Places.{bits_at}
 
 -- Nodes in order.

@@ -4,12 +4,12 @@ use Rattle.std.specs.List.{range_with_len, fold}
 use Rattle.std.specs.Option.{option_map_or}
 use Rattle.std.proofs.lemmas.Bool.{cases_lt}
 use Rattle.std.proofs.lemmas.Bool.Decides.{nat_tests}
-use Rattle.std.proofs.lemmas.List.{append-nil, append_assoc, map-append, take_more, take_all, length-take-le, get_or-map}
+use Rattle.std.proofs.lemmas.List.{append-nil, append_assoc, map-append, take_more, take_all, length-take-le}
 use Rattle.std.proofs.lemmas.List.Sums.{fold-append}
-use Rattle.std.proofs.lemmas.List.FromFn.{length-map-range_with_len, get_or-map-range_with_len, take-map-range_with_len, length-range_with_len}
+use Rattle.std.proofs.lemmas.List.FromFn.{length-map-range_with_len, get_or-map-range_with_len, take-map-range_with_len}
 use Rattle.std.proofs.lemmas.Option.{slice_get_cases}
 use Rattle.bdd_table.specs.declared.node.Node.{Node}
-use Rattle.bdd_table.specs.Diagram.{Bits, bits_of, at, level_of, means, IsReduced}
+use Rattle.bdd_table.specs.Diagram.{bits_of, at, level_of, means, IsReduced}
 use Rattle.bdd_table.specs.Collected.{Reaches}
 use Rattle.bdd_table.specs.Collected.Reaches.{root as reach_root, lo as reach_lo, hi as reach_hi}
 use Rattle.bdd_table.proofs.Meaning.{split, means_false, means_true, means_chosen}

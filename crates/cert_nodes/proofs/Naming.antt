@@ -1,20 +1,17 @@
 -- The certificate names the states of the set.
-use Rattle.std.proofs.Common.{◌≡◌, ◌≢◌, ℕ, zero, suc, ◌+◌, ◌*◌, ◌/◌, ◌%◌, ◌<◌, ◌≤◌, ◌==◌, inl, inr, Bool, true, false, cond, List, [], ◌∷◌, length, get_or, Option, Some, None, IfSome, refl, sym, ◌∙◌, ap, subst, arith, eqb-true, eq-eqb}
-use Rattle.std.specs.List.{All}
+use Rattle.std.proofs.Common.{◌≡◌, ℕ, zero, suc, ◌/◌, ◌%◌, ◌<◌, ◌≤◌, ◌==◌, inl, inr, Bool, true, false, cond, List, [], ◌∷◌, length, get_or, Option, Some, None, IfSome, refl, sym, ◌∙◌, ap, subst, arith, eq-eqb}
 use Rattle.std.specs.Option.{option_map_or}
 use Rattle.std.proofs.lemmas.Bool.{cases_lt, ne_eqb}
 use Rattle.std.proofs.lemmas.List.{get_or-map}
 use Rattle.symk_task.specs.declared.bits.TheConstants.{STATE_BITS}
 use Rattle.symk_task.specs.declared.parts.TaskParts.{TaskParts}
 use Rattle.bdd_table.specs.declared.node.Node.{Node}
-use Rattle.bdd_table.specs.Diagram.{Bits, bits_of, at, level_of, means, IsReduced, put}
+use Rattle.bdd_table.specs.Diagram.{Bits, bits_of, level_of, means, IsReduced, put}
 use Rattle.bdd_table.specs.Collected.{Reaches, IsMoved}
 use Rattle.bdd_ops.specs.Renamed.{Ignores}
 use Rattle.var_order.specs.Layout.{Layout, IsOrderOf, bits, level_at}
 use Rattle.var_order.specs.Codes.{IsCode}
 use Rattle.bdd_sets.specs.Sets.{IsSetOfStates}
-use Rattle.certificates.specs.declared.node.CertNode.{CertNode}
-use Rattle.certificates.specs.declared.node.Certificate.{Certificate}
 use Rattle.certificates.specs.Meaning.{state_bits, holds}
 use Rattle.certificates.specs.Texts.{state_width, IsInOrder}
 use Rattle.certificates.specs.Tidy.{IsTidy}

@@ -1,5 +1,5 @@
 -- Each place is that of a bit.
-use Rattle.std.proofs.Common.{◌≡◌, ◌≢◌, ℕ, zero, suc, ◌+◌, ◌-◌, ◌<◌, ◌≤◌, List, [], ◌∷◌, length, map, get_or, take, Option, Some, None, refl, sym, ◌∙◌, ap, subst, arith}
+use Rattle.std.proofs.Common.{◌≡◌, ℕ, zero, suc, ◌+◌, ◌-◌, ◌<◌, List, [], ◌∷◌, length, get_or, take, Option, Some, None, refl, sym, ◌∙◌, ap, subst, arith}
 use Rattle.std.specs.List.{flat_map, range_with_len}
 use Rattle.std.specs.Option.{option_map_or}
 use Rattle.std.proofs.lemmas.List.FromFn.{length-range_with_len, get_or-range_with_len, length-map-range_with_len, get_or-map-range_with_len}
@@ -7,7 +7,7 @@ use Rattle.std.proofs.lemmas.List.Concat.{get_or-flat_map}
 use Rattle.std.proofs.lemmas.List.Folds.{length-flat_map-take}
 use Rattle.symk_task.specs.declared.parts.TaskParts.{TaskParts}
 use Rattle.var_order.specs.declared.block.Block.{Block}
-use Rattle.var_order.specs.Layout.{Layout, IsLayout, IsOrderOf, no_block, slot_of, block_at, block_of, owner_at, width_of, place_of, bits}
+use Rattle.var_order.specs.Layout.{Layout, IsOrderOf, no_block, block_at, block_of, owner_at, width_of, place_of, bits}
 use Rattle.cert_bits.specs.Places.{variable_places, places_of}
 use Rattle.cert_nodes.specs.Levels.{IsIndex}
 

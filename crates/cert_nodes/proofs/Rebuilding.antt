@@ -6,7 +6,7 @@ use Rattle.std.proofs.lemmas.List.Elements.{All-nil, All-cons, All-push}
 use Rattle.bdd_table.specs.declared.node.Node.{Node}
 use Rattle.bdd_table.specs.Diagram.{Bits, at, level_of, means, IsReduced, Keeps}
 use Rattle.bdd_table.specs.Collected.{MarkedFrom, IsClosed, is_marked, is_kept}
-use Rattle.bdd_table.proofs.Meaning.{split, means_false, means_true, means_chosen}
+use Rattle.bdd_table.proofs.Meaning.{means_false, means_true, means_chosen}
 use Rattle.cert_nodes.specs.Levels.{spread}
 
 -- each kept Id below n has its diagram in the new table
@@ -52,13 +52,6 @@ kept_marked marks id two = by_test (nat_lt id 2) refl
     by_test false e kept = kept
 
 module _ (old : List Node) (marks : List Bool) (indexes : List (Option ℕ)) (start now : List Node) (ids : List ℕ) (n : ℕ) (ro : IsReduced old) (closed : IsClosed old marks) (rebuilt : Rebuilt old marks indexes start now ids n) where
-  -- the children of the next Id have theirs
-  pub lo_there : 2 ≤ n → n < length old → (at old n).lo < length ids
-  lo_there two known = (let i = ro.inner n two known in let h = i.lo_before in let c = rebuilt.count in omega (arith, h, c))
-
-  pub hi_there : 2 ≤ n → n < length old → (at old n).hi < length ids
-  hi_there two known = (let i = ro.inner n two known in let h = i.hi_before in let c = rebuilt.count in omega (arith, h, c))
-
   chosen_means : (t : Bool) (b : Bits) → 2 ≤ n → n < length old → is_kept marks n ≡ true
       → cond t (means now (get_or ids (at old n).hi 0) b) (means now (get_or ids (at old n).lo 0) b) ≡ means old (cond t (at old n).hi (at old n).lo) (spread indexes b)
   chosen_means true b two known kept = (let i = ro.inner n two known in rebuilt.meaning (at old n).hi b i.hi_before (closed.hi_kept n two known kept))

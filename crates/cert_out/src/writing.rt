@@ -15,6 +15,7 @@ use crate::text::cert_text;
 use bdd_space::BddSpace;
 use cert_nodes::cert_of;
 use certificates::Certificate;
+use space_api::Space;
 use std::alloc::Global;
 use symk_task::{Memory, Task};
 

@@ -2,8 +2,8 @@
 
 ghost use Rattle.var_order.specs.Layout.{IsOrderOf};
 
+use crate::brute_force::{first_fault, verdict_by_states};
 use crate::drafts::{Draft, drawn, tree};
-use crate::looking::{first_fault, looked_at};
 use crate::reached::reached;
 use crate::spelling::text_of;
 use crate::states::{all_bits, ranges, states};
@@ -148,7 +148,7 @@ fn answer_to(
 {
     match first_fault(draft, all_bits(ranges)) {
         Some(line) => Ok(Err(CertFault::Offence { line })),
-        None => Ok(Ok(looked_at(alloc, task, order, ranges, states, draft)?)),
+        None => Ok(Ok(verdict_by_states(alloc, task, order, ranges, states, draft)?)),
     }
 }
 

@@ -6,7 +6,7 @@ ghost use Rattle.space_api.specs.View.{View, Valid, Has};
 ghost use Rattle.space_api.specs.Frames.{Stays};
 ghost use Rattle.run_graph.specs.Layering.{InLayer};
 ghost use Rattle.cost_layers.specs.Layers.{whole_at, Held, Stands};
-ghost use Rattle.cost_search.specs.Meeting.{IsLeastAt, IsLayerMeeting};
+ghost use Rattle.cost_search.specs.Meeting.{IsFirstFrom, IsLayerMeeting};
 
 use cost_layers::Layers;
 use space_api::{Space, SpaceFault, meets};
@@ -43,18 +43,21 @@ fn layer_meets<S: Space>(
     }
 }
 
-/// The least cost whose layer has a state of the set. None exactly where no layer has one.
-pub(crate) fn least_meeting<S: Space>(
+/// The least cost from this one on whose layer has a state of the set. None exactly where no such layer has one.
+///
+/// Public, so that who knows that no cheaper layer has one need not prove it again.
+pub fn first_meeting<S: Space>(
     space: &mut S,
     layers: &Layers<S::Set>,
+    low: u64,
     set: S::Set,
 ) -> Result<Option<u64>, SpaceFault>
     requires held { Held (S.view space.old) layers.now }
     requires set { Valid (S.view space.old) set }
     ensures stays { Stays (S.view space.old) (S.view space.new) }
-    ensures ok { IfOk result (IsLeastAt (S.view space.old) layers.now set) }
+    ensures ok { IfOk result (IsFirstFrom (S.view space.old) layers.now set low) }
 {
-    let mut next = layers.next_cost(0);
+    let mut next = layers.next_cost(low);
     'costs: while let Some(cost) = next {
         if layer_meets(space, layers, cost, set)? {
             return Ok(Some(cost));

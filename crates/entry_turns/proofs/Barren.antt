@@ -39,15 +39,15 @@ module _ {Set : Type 0} (v : View Set) (front back : Layers Set) (op : ℕ) (num
       ((λ p. hits_none y (into y (member_in v front) (v.has e.set) e.cost op) (e.cost - y.cost op) (begins y (op ∷ e.operators.items) e.after) 0 y.initial p off), (λ x. falsum (sym (off x.1) ∙ x.2)))
   no_child f b listed (After e) ok ready none =
       let y = v.system in
-      let at = ready.stands.0.0 in
-      let run : Runs y y.initial e.operators.items at = ready.stands.0.1 in
+      let at = e.state in
+      let run : Runs y y.initial e.operators.items at = ok in
       let off : onto y (member_in v back) e.cost e.operators.items op ≡ false = elim (either (onto y (member_in v back) e.cost e.operators.items op)) [
         | inl h ↦ absurd (
             let p = both _ _ h in
             let h2 : at_some (y.step op at) (member_in v back (e.cost - y.cost op)) ≡ true = rw (reach_run y y.initial e.operators.items at run) at p.1 in
             let t = led y op at (member_in v back (e.cost - y.cost op)) (y.step op at) number refl h2 in
             let l = in_layer v (whole_at back (e.cost - y.cost op)) t.0 t.1 in
-            none l.0 at t.0 (le_of _ _ p.0) l.1 (t.2, (ok.2 at).1 run, l.2))
+            none l.0 at t.0 (le_of _ _ p.0) l.1 (t.2, refl, l.2))
         | inr h ↦ h
       ] in
       ((λ p. ap (λ (z : Bool). ind (z && begins y (e.operators.items ++ op ∷ []) (e.cost - y.cost op) p)) off), (λ x. falsum (sym off ∙ x.2)))

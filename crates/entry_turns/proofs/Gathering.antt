@@ -9,14 +9,13 @@ use Rattle.space_api.proofs.Keeping.{kept_trans}
 use Rattle.cost_layers.specs.Layers.{Held}
 use Rattle.cost_layers.specs.declared.layers.Layers.{Layers}
 use Rattle.entry_laws.specs.Entries.{Plain}
-use Rattle.entry_laws.specs.Growing.{Added, Sofar}
-use Rattle.entry_laws.proofs.Adding.{sofar_none, sofar_more, gathered}
+use Rattle.entry_laws.specs.Growing.{Added, Sofar, MissesNone}
+use Rattle.entry_laws.proofs.Adding.{sofar_more, gathered}
 use Rattle.entry_turns.specs.Entries.{plain, plains, EntryOk, member_in, Ready}
-use Rattle.entry_turns.specs.Ways.{AreLeading}
 use Rattle.entry_turns.specs.Grown.{AddsChild, Gathers}
 use Rattle.entry_turns.specs.declared.entries.Entry.{Entry}
 use Rattle.entry_turns.proofs.Sets.{all_split, all_kept}
-use Rattle.entry_turns.proofs.Leading.{misses_none}
+use Rattle.entry_turns.proofs.Leading.{numbers, numbers_more}
 use Rattle.entry_turns.proofs.Kept.{member_kept, plain_kept, plains_kept, ready_kept}
 
 -- all so far
@@ -25,8 +24,8 @@ SofarFrom u v front back e done level falling = (f b listed : ℕ) → Ready u.s
 
 module _ {Set : Type 0} (u v v1 w : View Set) (front back : Layers Set) (e : Entry Set) (hf : Held u front) (hb : Held u back) (ok : EntryOk u e) (j : Kept u v) (k : Kept v v1) where
   -- one operator more
-  pub sofar_on : (ops : List ℕ) (i op : ℕ) (level falling level2 falling2 : List (Entry Set)) → i < length ops → op ≡ get_or ops i 0 → AllByRecursion (EntryOk v) (level ++ falling) → SofarFrom u v front back e (take i ops) level falling → AddsChild v1 w front back e op level falling level2 falling2 → SofarFrom u w front back e (take (i + 1) ops) level2 falling2
-  sofar_on ops i op level falling level2 falling2 lt is all sofar added f b listed ready =
+  pub sofar_push : (done : List ℕ) (op : ℕ) (level falling level2 falling2 : List (Entry Set)) → AllByRecursion (EntryOk v) (level ++ falling) → SofarFrom u v front back e done level falling → AddsChild v1 w front back e op level falling level2 falling2 → SofarFrom u w front back e (done ++ op ∷ []) level2 falling2
+  sofar_push done op level falling level2 falling2 all sofar added f b listed ready =
       let m = kept_trans j k in
       let parts = all_split (EntryOk v) level falling all in
       let ok1 = all_kept v v1 level k parts.0 in
@@ -38,12 +37,22 @@ module _ {Set : Type 0} (u v v1 w : View Set) (front back : Layers Set) (e : Ent
       let a4 = subst (λ (x : Plain). Added u.system (member_in u front) (member_in u back) x op (plains v1 level) (plains v1 falling) (plains w level2) (plains w falling2)) (plain_kept u v1 m e ok) a3 in
       let a5 = subst (λ (xs : List Plain). Added u.system (member_in u front) (member_in u back) (plain u e) op xs (plains v1 falling) (plains w level2) (plains w falling2)) (plains_kept v v1 k level parts.0) a4 in
       let a6 = subst (λ (xs : List Plain). Added u.system (member_in u front) (member_in u back) (plain u e) op (plains v level) xs (plains w level2) (plains w falling2)) (plains_kept v v1 k falling parts.1) a5 in
+      sofar_more u.system (member_in u front) (member_in u back) (plain u e) done op (plains v level) (plains v falling) (plains w level2) (plains w falling2) (sofar f b listed ready) a6
+
+  pub sofar_on : (ops : List ℕ) (i op : ℕ) (level falling level2 falling2 : List (Entry Set)) → i < length ops → op ≡ get_or ops i 0 → AllByRecursion (EntryOk v) (level ++ falling) → SofarFrom u v front back e (take i ops) level falling → AddsChild v1 w front back e op level falling level2 falling2 → SofarFrom u w front back e (take (i + 1) ops) level2 falling2
+  sofar_on ops i op level falling level2 falling2 lt is all sofar added =
       let more : take (i + 1) ops ≡ take i ops ++ (op ∷ []) = take_more ops i 0 lt ∙ ap (λ (z : ℕ). take i ops ++ (z ∷ [])) (sym is) in
-      rw more (sofar_more u.system (member_in u front) (member_in u back) (plain u e) (take i ops) op (plains v level) (plains v falling) (plains w level2) (plains w falling2) (sofar f b listed ready) a6)
+      rw more (sofar_push (take i ops) op level falling level2 falling2 all sofar added)
 
-pub sofar_first : {Set : Type 0} (u v : View Set) (front back : Layers Set) (e : Entry Set) (level falling : List (Entry Set)) → level ≡ [] → falling ≡ [] → SofarFrom u v front back e [] level falling
-sofar_first u v front back e level falling p q f b listed ready = rw (p, q) (sofar_none u.system (member_in u front) (member_in u back) (plain u e))
+-- the next operator, in a view that stays
+pub sofar_next : {Set : Type 0} (v : View Set) (front back : Layers Set) (e : Entry Set) (n : ℕ) (level falling level2 falling2 : List (Entry Set)) → AllByRecursion (EntryOk v) (level ++ falling) → SofarFrom v v front back e (numbers n) level falling → AddsChild v v front back e n level falling level2 falling2 → SofarFrom v v front back e (numbers (n + 1)) level2 falling2
+sofar_next v front back e n level falling level2 falling2 all sofar added f b listed ready =
+    let parts = all_split (EntryOk v) level falling all in
+    rw (numbers_more n) (sofar_more v.system (member_in v front) (member_in v back) (plain v e) (numbers n) n (plains v level) (plains v falling) (plains v level2) (plains v falling2) (sofar f b listed ready) (added f b listed parts.0 parts.1 ready))
 
-pub sofar_end : {Set : Type 0} (u v : View Set) (front back : Layers Set) (e : Entry Set) (ops : List ℕ) (i : ℕ) (level falling : List (Entry Set)) → length ops ≤ i → EntryOk u e → AreLeading u e ops → SofarFrom u v front back e (take i ops) level falling → Gathers u v front back e level falling
-sofar_end u v front back e ops i level falling le ok lead sofar f b listed ready =
-    gathered u.system (member_in u front) (member_in u back) (plain u e) ops (plains v level) (plains v falling) (misses_none u front back f b listed e ops ok lead ready) (subst (λ (xs : List ℕ). Sofar u.system (member_in u front) (member_in u back) (plain u e) xs (plains v level) (plains v falling)) (take_all i ops le) (sofar f b listed ready))
+pub sofar_end : {Set : Type 0} (u v : View Set) (front back : Layers Set) (e : Entry Set) (ops : List ℕ) (level falling : List (Entry Set)) → ((f b listed : ℕ) → Ready u.system u front back f b listed (plain u e) → MissesNone u.system (member_in u front) (member_in u back) (plain u e) ops) → SofarFrom u v front back e ops level falling → Gathers u v front back e level falling
+sofar_end u v front back e ops level falling misses sofar f b listed ready =
+    gathered u.system (member_in u front) (member_in u back) (plain u e) ops (plains v level) (plains v falling) (misses f b listed ready) (sofar f b listed ready)
+
+pub sofar_all : {Set : Type 0} (u v : View Set) (front back : Layers Set) (e : Entry Set) (ops : List ℕ) (i : ℕ) (level falling : List (Entry Set)) → length ops ≤ i → SofarFrom u v front back e (take i ops) level falling → SofarFrom u v front back e ops level falling
+sofar_all u v front back e ops i level falling le sofar = subst (λ (xs : List ℕ). SofarFrom u v front back e xs level falling) (take_all i ops le) sofar

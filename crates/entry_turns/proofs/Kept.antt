@@ -8,7 +8,7 @@ use Rattle.cost_layers.specs.Layers.{rings_at, whole_at, Held, Stands as StandsI
 use Rattle.cost_layers.specs.declared.layers.Layers.{Layers}
 use Rattle.cost_layers.proofs.Holding.{ring_same, ring_valid, whole_valid}
 use Rattle.entry_laws.specs.Entries.{Plain, Head, Tables}
-use Rattle.entry_turns.specs.Entries.{set_in, SetIn, plain, plains, EntryOk, in_some, member_in, RightSides, Ready}
+use Rattle.entry_turns.specs.Entries.{HasSet, SetIn, plain, plains, EntryOk, in_some, member_in, RightSides, Ready}
 use Rattle.entry_turns.specs.declared.entries.Entry.{Entry}
 use Rattle.entry_turns.specs.declared.entries.Entry.TheVariants.{Before, After}
 
@@ -53,11 +53,11 @@ pub plains_append : {Set : Type 0} (v : View Set) (es fs : List (Entry Set)) →
 plains_append v [] fs = refl
 plains_append v (e ∷ es) fs = ap (λ (q : List Plain). plain v e ∷ q) (plains_append v es fs)
 
-pub plain_same : {Set : Type 0} (v w : View Set) (e : Entry Set) → ((s : State) → w.has (set_in e) s ≡ v.has (set_in e) s) → plain w e ≡ plain v e
-plain_same v w (Before e) f = ap (λ (h : State → Bool). Head h e.cost e.ring e.operators.items e.after) (λ i t. f t i)
+pub plain_same : {Set : Type 0} (v w : View Set) (e : Entry Set) → ((a : Set) → HasSet e a → (s : State) → w.has a s ≡ v.has a s) → plain w e ≡ plain v e
+plain_same v w (Before e) f = ap (λ (h : State → Bool). Head h e.cost e.ring e.operators.items e.after) (λ i t. f e.set refl t i)
 plain_same v w (After e) f = refl
 
 -- entries whose sets have the same states
 pub plains_same : {Set : Type 0} (v w : View Set) (es : List (Entry Set)) → ((a : Set) → SetIn es a → (s : State) → w.has a s ≡ v.has a s) → plains w es ≡ plains v es
 plains_same v w [] f = refl
-plains_same v w (e ∷ es) f = ap (λ (x : Plain). x ∷ plains w es) (plain_same v w e (f (set_in e) (inl refl))) ∙ ap (λ (xs : List Plain). plain v e ∷ xs) (plains_same v w es (λ a h. f a (inr h)))
+plains_same v w (e ∷ es) f = ap (λ (x : Plain). x ∷ plains w es) (plain_same v w e (λ a h. f a (inl h))) ∙ ap (λ (xs : List Plain). plain v e ∷ xs) (plains_same v w es (λ a h. f a (inr h)))

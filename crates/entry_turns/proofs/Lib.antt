@@ -8,7 +8,6 @@ pub mod Adding
 pub mod Gathering
 pub mod Expanding
 pub mod Reaching
-pub mod Beginning
 pub mod Following
 pub mod Turning
 pub mod RightLayers

@@ -1,7 +1,7 @@
 -- The child by an operator.
-use Rattle.std.proofs.Common.{◌≡◌, ℕ, ◌+◌, ◌-◌, ◌<◌, ◌≤◌, ◌↔◌, Bool, true, false, ◌&&◌, leb, List, [], ◌∷◌, ◌++◌, Option, Some, refl, sym, ◌∙◌, ap, subst, arith}
+use Rattle.std.proofs.Common.{◌≡◌, ℕ, ◌+◌, ◌-◌, ◌<◌, ◌≤◌, Bool, true, false, ◌&&◌, leb, List, [], ◌∷◌, ◌++◌, Option, Some, refl, sym, ◌∙◌, ap, subst, arith}
 use Rattle.task_system.specs.System.{State, System, Leads, Runs, cost_of}
-use Rattle.space_api.specs.View.{View, Valid, Has}
+use Rattle.space_api.specs.View.{View, Has}
 use Rattle.space_api.specs.Frames.{Kept}
 use Rattle.run_graph.specs.Reached.{ReachedAt, ToGoalAt, Useful}
 use Rattle.cost_layers.specs.Layers.{whole_at, Held, Stands as StandsIn}
@@ -10,13 +10,12 @@ use Rattle.entry_laws.specs.Counts.{at_some}
 use Rattle.entry_laws.specs.Entries.{FwdIn, BwdIn, into, onto, zeros, IsChild}
 use Rattle.entry_laws.proofs.Cutting.{falsum, leb_yes}
 use Rattle.entry_laws.proofs.Ends.{ends_of_fwd, bwd_more}
-use Rattle.entry_laws.proofs.Paths.{both, led, joined, parted, run_one, reach_run}
-use Rattle.entry_turns.specs.Entries.{set_in, cost_in, plain, EntryOk, AreOperators, in_some, member_in, Ready}
-use Rattle.entry_turns.specs.Ways.{IsChildSet, side_for}
-use Rattle.entry_turns.specs.Grown.{GrownBefore, GrownAfter, IsGrown}
+use Rattle.entry_laws.proofs.Paths.{both, led, joined, run_one, reach_run}
+use Rattle.entry_turns.specs.Entries.{plain, EntryOk, LeadOn, in_some, member_in, Ready}
+use Rattle.entry_turns.specs.Ways.{Joins, IsChildSet}
+use Rattle.entry_turns.specs.Grown.{GrownBefore, GrownAfter}
 use Rattle.entry_turns.specs.declared.entries.Prefix.{Prefix}
 use Rattle.entry_turns.specs.declared.entries.Suffix.{Suffix}
-use Rattle.entry_turns.specs.declared.entries.Entry.{Entry}
 use Rattle.entry_turns.specs.declared.entries.Entry.TheVariants.{Before, After}
 use Rattle.entry_turns.proofs.Kept.{stands_kept}
 
@@ -24,10 +23,6 @@ pub same_test : (a b : Bool) → (a ≡ true → b ≡ true) → (b ≡ true →
 same_test true b f g = sym (f refl)
 same_test false true f g = absurd (falsum (g refl))
 same_test false false f g = refl
-
-operators_push : (y : System) (ops : List ℕ) (op : ℕ) → AreOperators y ops → op < y.operators → AreOperators y (ops ++ op ∷ [])
-operators_push y [] op a lt = (lt, tt)
-operators_push y (x ∷ ops) op a lt = (a.0, operators_push y ops op a.1 lt)
 
 in_whole : {Set : Type 0} (v : View Set) (o : Option Set) (a : Set) (s : State) → o ≡ Some a → in_some v o s ≡ v.has a s
 in_whole v o a s e = ap (λ (x : Option _). in_some v x s) e
@@ -37,9 +32,15 @@ module _ {Set : Type 0} (v v1 w : View Set) (front back : Layers Set) (op : ℕ)
   y = v.system
 
   -- a prefix
-  module _ (e c : Prefix Set) (ok : EntryOk v (Before e)) (le : y.cost op ≤ e.cost) (at : whole_at front (e.cost - y.cost op) ≡ Some within) (held : Held v front) (found : IsChildSet v v1 (Before e) op within a) (grown : GrownBefore v1 front e op (y.cost op) a c) where
+  module _ (e c : Prefix Set) (ok : EntryOk v (Before e)) (le : y.cost op ≤ e.cost) (at : whole_at front (e.cost - y.cost op) ≡ Some within) (held : Held v front) (found : IsChildSet v v1 e op within a) (grown : GrownBefore v1 front e op (y.cost op) a c) where
+    leads_on : LeadOn w a (op ∷ e.operators.items)
+    leads_on s h =
+        let m = (found.means s).0 (sym (k2.same a found.new.valid s) ∙ h) in
+        let r = ok.1 m.0 m.1.2 in
+        (r.0, subst (λ (z : System). Runs z s (op ∷ e.operators.items) r.0) (sym (k2.system ∙ k1.system)) (m.0, m.1.0, r.1))
+
     pub before_ok : EntryOk w (Before c)
-    before_ok = rw (grown.set_is, grown.operators_are) (k2.valid a found.new.valid, subst (λ (z : System). AreOperators z (op ∷ e.operators.items)) (sym (k2.system ∙ k1.system)) (number, ok.1))
+    before_ok = rw (grown.set_is, grown.operators_are) (k2.valid a found.new.valid, leads_on)
 
     abbrev wanted : State → Bool
     wanted = into y (member_in v front) (v.has e.set) e.cost op
@@ -101,95 +102,52 @@ module _ {Set : Type 0} (v v1 w : View Set) (front back : Layers Set) (op : ℕ)
             number,
           )
 
-  -- a suffix
-  module _ (e c : Suffix Set) (ok : EntryOk v (After e)) (le : y.cost op ≤ e.cost) (at : whole_at back (e.cost - y.cost op) ≡ Some within) (held : Held v back) (found : IsChildSet v v1 (After e) op within a) (grown : GrownAfter v1 back e op (y.cost op) a c) where
-    run_of : (t : State) → Has v1 a t → Runs y y.initial (e.operators.items ++ op ∷ []) t
-    run_of t h = let i = (found.means t).0 h in joined y e.operators.items (op ∷ []) y.initial i.0 t ((ok.2 i.0).0 i.1) (t, i.2, refl)
+-- a suffix, in one view
+module _ {Set : Type 0} (v : View Set) (front back : Layers Set) (op : ℕ) (within : Set) (to : State) (number : op < v.system.operators) (e c : Suffix) (ok : EntryOk v (After e)) (le : v.system.cost op ≤ e.cost) (at : whole_at back (e.cost - v.system.cost op) ≡ Some within) (found : Joins v (After e) op within e.state to) (grown : GrownAfter v back e op (v.system.cost op) to c) where
+  abbrev z : System
+  z = v.system
 
-    has_of : (t : State) → Runs y y.initial (e.operators.items ++ op ∷ []) t → Has v1 a t
-    has_of t r =
-        let m = parted y e.operators.items (op ∷ []) y.initial t r in
-        let lead : Leads y op m.0 t = subst (λ (x : State). Leads y op m.0 x) m.2.2 m.2.1 in
-        (found.means t).1 (m.0, (ok.2 m.0).1 m.1, lead)
+  longer : Runs z z.initial (e.operators.items ++ op ∷ []) to
+  longer = joined z e.operators.items (op ∷ []) z.initial e.state to ok (to, found.0, refl)
 
-    pub after_ok : EntryOk w (After c)
-    after_ok = rw (grown.set_is, grown.operators_are) (subst (λ (z : System). Valid w a × AreOperators z (e.operators.items ++ op ∷ []) × ((t : State) → Has w a t ↔ Runs z z.initial (e.operators.items ++ op ∷ []) t)) (sym (k2.system ∙ k1.system)) (
-      k2.valid a found.new.valid,
-      operators_push y e.operators.items op ok.1 number,
-      (λ t. ((λ h. run_of t (sym (k2.same a found.new.valid t) ∙ h)), (λ r. k2.same a found.new.valid t ∙ has_of t r))),
-    ))
+  pub after_ok : EntryOk v (After c)
+  after_ok = rw (grown.state_is, grown.operators_are) longer
 
-    module _ (f b listed : ℕ) (ready : Ready y v front back f b listed (plain v (After e))) where
-      near : e.cost - y.cost op < b
-      near = omega (arith, ready.stands.2)
+  module _ (f b listed : ℕ) (ready : Ready z v front back f b listed (plain v (After e))) where
+    near : e.cost - z.cost op < b
+    near = omega (arith, ready.stands.2)
 
-      -- the one state that the operators reach, and the one to which op leads
-      abbrev from : State
-      from = found.some.0
+    in_back : member_in v back (e.cost - z.cost op) to ≡ true
+    in_back = in_whole v (whole_at back (e.cost - z.cost op)) within to at ∙ found.2
 
-      abbrev to : State
-      to = found.some.1
+    on : onto z (member_in v back) e.cost e.operators.items op ≡ true
+    on = rw (leb_yes (z.cost op) e.cost le, reach_run z z.initial e.operators.items e.state ok, found.0.step) in_back
 
-      leads : Leads y op from to
-      leads = found.some.2.0
+    goal : ToGoalAt z (e.cost - z.cost op) to
+    goal = ready.sides.tables.back_sound (e.cost - z.cost op) to near in_back
 
-      run : Runs y y.initial e.operators.items from
-      run = (ok.2 from).0 found.some.2.1
+    useful : Useful z to
+    useful = record { before = (cost_of z (e.operators.items ++ op ∷ []), (e.operators.items ++ op ∷ [], longer, refl)); after = (e.cost - z.cost op, goal) }
 
-      longer : Runs y y.initial (e.operators.items ++ op ∷ []) to
-      longer = joined y e.operators.items (op ∷ []) y.initial from to run (to, leads, refl)
+    one : (t : State) → Runs z z.initial (e.operators.items ++ op ∷ []) t → t ≡ to
+    one t r = run_one z z.initial (e.operators.items ++ op ∷ []) t to r longer
 
-      in_back : member_in v back (e.cost - y.cost op) to ≡ true
-      in_back = in_whole v (whole_at back (e.cost - y.cost op)) within to at ∙ found.some.2.2
+    ring_at_end : (n : ℕ) → BwdIn z (e.cost - z.cost op) n to → (c.ring ≤ n) × StandsIn v back (e.cost - z.cost op) c.ring to
+    ring_at_end n g =
+        let there = ready.sides.back_rings.there (e.cost - z.cost op) n to near useful g in
+        let l = grown.least there.0 there.2 in
+        (omega (arith, l.0, there.1), l.1)
 
-      on : onto y (member_in v back) e.cost e.operators.items op ≡ true
-      on = rw (leb_yes (y.cost op) e.cost le, reach_run y y.initial e.operators.items from run, leads.step) in_back
-
-      goal : ToGoalAt y (e.cost - y.cost op) to
-      goal = ready.sides.tables.back_sound (e.cost - y.cost op) to near in_back
-
-      useful : Useful y to
-      useful = record { before = (cost_of y (e.operators.items ++ op ∷ []), (e.operators.items ++ op ∷ [], longer, refl)); after = (e.cost - y.cost op, goal) }
-
-      one : (t : State) → Runs y y.initial (e.operators.items ++ op ∷ []) t → t ≡ to
-      one t r = run_one y y.initial (e.operators.items ++ op ∷ []) t to r longer
-
-      ring_at_end : (n : ℕ) → BwdIn y (e.cost - y.cost op) n to → (c.ring ≤ n) × ((t : State) × StandsIn v1 back (e.cost - y.cost op) c.ring t × Has v1 a t)
-      ring_at_end n g =
-          let there = ready.sides.back_rings.there (e.cost - y.cost op) n to near useful g in
-          let l = grown.least there.0 to ((stands_kept v v1 k1 back (e.cost - y.cost op) there.0 to held).1 there.2) (has_of to longer) in
-          (omega (arith, l.0, there.1), l.1)
-
-      pub after_child : IsChild y (member_in v front) (member_in v back) (plain v (After e)) op (plain w (After c))
-      after_child =
-          let r0 = (ring_at_end (zeros y goal.0) (goal.0, goal.1, goal.2, goal.3, goal.4, refl)).1 in
-          let there : StandsIn v1 back (e.cost - y.cost op) c.ring to = subst (λ (x : State). StandsIn v1 back (e.cost - y.cost op) c.ring x) (one r0.0 (run_of r0.0 r0.2)) r0.1 in
-          let in_ring = ready.sides.back_rings.sound (e.cost - y.cost op) c.ring to near useful ((stands_kept v v1 k1 back (e.cost - y.cost op) c.ring to held).0 there) in (
-            on,
-            grown.cost_is,
-            grown.operators_are,
-            (to, subst (λ (x : List ℕ). Runs y y.initial x to) (sym grown.operators_are) longer, subst (λ (x : ℕ). BwdIn y x c.ring to) (sym grown.cost_is) in_ring),
-            (λ s n r g.
-                let is : s ≡ to = one s (subst (λ (x : List ℕ). Runs y y.initial x s) grown.operators_are r) in
-                (ring_at_end n (subst (λ (x : State). BwdIn y (e.cost - y.cost op) n x) is (subst (λ (x : ℕ). BwdIn y x n s) grown.cost_is g))).0),
-            number,
-          )
-
-  -- either
-  pub child_ok : (e c : Entry Set) → EntryOk v e → y.cost op ≤ cost_in e → whole_at (side_for front back e) (cost_in e - y.cost op) ≡ Some within → Held v front → Held v back → IsChildSet v v1 e op within a → IsGrown v1 front back e op (y.cost op) a c → EntryOk w c
-  child_ok (Before e) (Before c) ok le at hf hb found grown = before_ok e c ok le at hf found grown
-  child_ok (Before e) (After c) ok le at hf hb found grown = absurd grown
-  child_ok (After e) (Before c) ok le at hf hb found grown = absurd grown
-  child_ok (After e) (After c) ok le at hf hb found grown = after_ok e c ok le at hb found grown
-
-  pub child_is : (f b listed : ℕ) (e c : Entry Set) → EntryOk v e → y.cost op ≤ cost_in e → whole_at (side_for front back e) (cost_in e - y.cost op) ≡ Some within → Held v front → Held v back → IsChildSet v v1 e op within a → IsGrown v1 front back e op (y.cost op) a c → Ready y v front back f b listed (plain v e) → IsChild y (member_in v front) (member_in v back) (plain v e) op (plain w c)
-  child_is f b listed (Before e) (Before c) ok le at hf hb found grown ready = before_child e c ok le at hf found grown f b listed ready
-  child_is f b listed (Before e) (After c) ok le at hf hb found grown ready = absurd grown
-  child_is f b listed (After e) (Before c) ok le at hf hb found grown ready = absurd grown
-  child_is f b listed (After e) (After c) ok le at hf hb found grown ready = after_child e c ok le at hb found grown f b listed ready
-
-pub grown_set : {Set : Type 0} (v : View Set) (front back : Layers Set) (e c : Entry Set) (op w : ℕ) (a : Set) → IsGrown v front back e op w a c → set_in c ≡ a
-grown_set v front back (Before e) (Before c) op w a g = g.set_is
-grown_set v front back (Before e) (After c) op w a g = absurd g
-grown_set v front back (After e) (Before c) op w a g = absurd g
-grown_set v front back (After e) (After c) op w a g = g.set_is
+    pub after_child : IsChild z (member_in v front) (member_in v back) (plain v (After e)) op (plain v (After c))
+    after_child =
+        let there = (ring_at_end (zeros z goal.0) (goal.0, goal.1, goal.2, goal.3, goal.4, refl)).1 in
+        let in_ring = ready.sides.back_rings.sound (e.cost - z.cost op) c.ring to near useful there in (
+          on,
+          grown.cost_is,
+          grown.operators_are,
+          (to, subst (λ (x : List ℕ). Runs z z.initial x to) (sym grown.operators_are) longer, subst (λ (x : ℕ). BwdIn z x c.ring to) (sym grown.cost_is) in_ring),
+          (λ s n r g.
+              let is : s ≡ to = one s (subst (λ (x : List ℕ). Runs z z.initial x s) grown.operators_are r) in
+              (ring_at_end n (subst (λ (x : State). BwdIn z (e.cost - z.cost op) n x) is (subst (λ (x : ℕ). BwdIn z x n s) grown.cost_is g))).0),
+          number,
+        )

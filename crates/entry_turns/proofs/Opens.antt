@@ -1,11 +1,11 @@
 -- The first entry of a cut.
-use Rattle.std.proofs.Common.{◌≡◌, ℕ, ◌+◌, ◌<◌, ◌≤◌, ◌↔◌, Bool, true, List, [], ◌∷◌, Option, Some, refl, sym, ◌∙◌, ap, subst, arith, eq-eqb}
+use Rattle.std.proofs.Common.{◌≡◌, ℕ, ◌+◌, ◌<◌, ◌≤◌, Bool, true, List, [], ◌∷◌, Option, Some, refl, sym, ◌∙◌, ap, subst, arith, eq-eqb}
 use Rattle.task_system.specs.System.{State, System, Runs, IsPlan, cost_of}
-use Rattle.space_api.specs.View.{View, Valid, Has, Preimage}
+use Rattle.space_api.specs.View.{View, Preimage}
 use Rattle.space_api.specs.Frames.{Kept, Stays, Gives}
-use Rattle.space_api.proofs.Keeping.{kept_trans}
+use Rattle.space_api.proofs.Keeping.{kept_refl, kept_trans}
 use Rattle.run_graph.specs.Reached.{ReachedAt, ToGoalAt, Useful}
-use Rattle.cost_layers.specs.Layers.{whole_at, Held, Stands as StandsIn}
+use Rattle.cost_layers.specs.Layers.{whole_at, Held}
 use Rattle.cost_layers.specs.declared.layers.Layers.{Layers}
 use Rattle.plan_cuts.specs.declared.Cut.{Cut}
 use Rattle.plan_cuts.specs.declared.Cut.TheVariants.{Whole, Cross}
@@ -16,34 +16,27 @@ use Rattle.entry_laws.proofs.Cutting.{cut_one, cut_inside}
 use Rattle.entry_laws.proofs.Ends.{ends_of_fwd, bwd_more}
 use Rattle.entry_laws.proofs.Paths.{both, led}
 use Rattle.entry_laws.proofs.Drawing.{meeting, cross_hits, cross_there, cross_stands}
-use Rattle.entry_turns.specs.Entries.{plain, EntryOk, AreOperators, in_some, member_in, RightSides}
-use Rattle.entry_turns.specs.Ways.{IsNew}
+use Rattle.entry_turns.specs.Entries.{plain, EntryOk, in_some, member_in, RightSides}
+use Rattle.entry_turns.specs.Ways.{IsNew, IsFirst}
 use Rattle.entry_turns.specs.declared.entries.Prefix.{Prefix}
 use Rattle.entry_turns.specs.declared.entries.Suffix.{Suffix}
 use Rattle.entry_turns.specs.declared.entries.Entry.TheVariants.{Before, After}
 use Rattle.entry_turns.proofs.Kept.{stands_kept}
-use Rattle.entry_turns.proofs.Sets.{new_stays}
+use Rattle.entry_turns.proofs.Sets.{new_of, new_stays, new_before, new_after}
 use Rattle.entry_turns.proofs.OneChild.{same_test}
-use Rattle.entry_turns.proofs.Reaching.{new_of, first_state}
 use Rattle.plan_cuts.specs.Cuts.{IsCutAt}
-use Rattle.entry_turns.specs.Opened.{OpensWhole, OpensCross, Opened}
+use Rattle.entry_turns.specs.Opened.{OpensCross, Opened}
 
 in_whole : {Set : Type 0} (v : View Set) (o : Option Set) (a : Set) (s : State) → o ≡ Some a → in_some v o s ≡ v.has a s
 in_whole v o a s e = ap (λ (x : Option _). in_some v x s) e
 
 -- not cut
-module _ {Set : Type 0} (v v1 w : View Set) (front back : Layers Set) (cost : ℕ) (set : Set) (e : Suffix Set) (held : Held v back) (k1 : Kept v v1) (g : Gives v v1 (λ s. s ≡ v.system.initial) set) (s1 : Stays v1 w) (o : OpensWhole v1 back cost set e) where
+module _ {Set : Type 0} (v : View Set) (front back : Layers Set) (cost : ℕ) (e : Suffix) (state : e.state ≡ v.system.initial) (cost_is : e.cost ≡ cost) (none : e.operators.items ≡ []) (least : IsFirst v back cost e.state e.ring) where
   abbrev y : System
   y = v.system
 
-  new_set : IsNew v w set
-  new_set = new_stays v v1 w set (new_of v v1 set g) s1
-
-  means : (t : State) → Has w set t ↔ Runs y y.initial [] t
-  means t = let f = first_state y v v1 set refl g t in ((λ h. f.0 (sym (s1.kept.same set g.valid t) ∙ h)), (λ r. s1.kept.same set g.valid t ∙ f.1 r))
-
-  fine : EntryOk w (After e)
-  fine = rw (o.set_is, o.operators_are) (subst (λ (z : System). Valid w set × AreOperators z [] × ((t : State) → Has w set t ↔ Runs z z.initial [] t)) (sym (s1.kept.system ∙ k1.system)) (new_set.valid, tt, means))
+  fine : EntryOk v (After e)
+  fine = rw none (sym state)
 
   module _ (f b : ℕ) (sides : RightSides y v front back f b) (c : IsCutAt y b cost Whole) where
     low : cost < b
@@ -59,23 +52,22 @@ module _ {Set : Type 0} (v v1 w : View Set) (front back : Layers Set) (cost : �
     in_ring =
         let at : BwdIn y cost (zeros y bwd.0) y.initial = (bwd.0, bwd.1, bwd.2, bwd.3, bwd.4, refl) in
         let there = sides.back_rings.there cost (zeros y bwd.0) y.initial low serves at in
-        let l = (o.least there.0 y.initial ((stands_kept v v1 k1 back cost there.0 y.initial held).1 there.2) ((g.means y.initial).1 refl)).1 in
-        let same : l.0 ≡ y.initial = (g.means l.0).0 l.2 in
-        sides.back_rings.sound cost e.ring y.initial low serves (subst (λ (x : State). StandsIn v back cost e.ring x) same ((stands_kept v v1 k1 back cost e.ring l.0 held).0 l.1))
+        let first : IsFirst v back cost y.initial e.ring = subst (λ (x : State). IsFirst v back cost x e.ring) state least in
+        sides.back_rings.sound cost e.ring y.initial low serves (first there.0 there.2).1
 
-    pub whole_stands : Stands y f b cost (plain w (After e))
-    whole_stands = rw (o.cost_is, o.operators_are) ((y.initial, refl, in_ring), omega arith, low)
+    pub whole_stands : Stands y f b cost (plain v (After e))
+    whole_stands = rw (cost_is, none) ((y.initial, refl, in_ring), omega arith, low)
 
-    pub whole_hits : (p : List ℕ) → IsPlan y p → cost_of y p ≡ cost → entry_hits y (plain w (After e)) p ≡ ind (same_cut (cut_of y b p) Whole)
+    pub whole_hits : (p : List ℕ) → IsPlan y p → cost_of y p ≡ cost → entry_hits y (plain v (After e)) p ≡ ind (same_cut (cut_of y b p) Whole)
     whole_hits p plan is =
         let cut : cut_of y b p ≡ Whole = cut_one y b p Whole (omega (arith, is, low)) in
         let here : entry_hits y (Tail cost e.ring []) p ≡ 1 = rw (eq-eqb (cost_of y p) cost is) refl in
-        rw (o.cost_is, o.operators_are) (here ∙ sym (ap (λ (z : Cut). ind (same_cut z Whole)) cut))
+        rw (cost_is, none) (here ∙ sym (ap (λ (z : Cut). ind (same_cut z Whole)) cut))
 
-  pub whole_opened : Opened v w front back cost Whole (After e)
+  pub whole_opened : Opened v v front back cost Whole (After e)
   whole_opened = record {
-    kept = kept_trans k1 s1.kept;
-    new = subst (λ (x : Set). IsNew v w x) (sym o.set_is) new_set;
+    kept = kept_refl v;
+    new = new_after v e;
     fine = fine;
     stands = λ f b sides lt c. whole_stands f b sides c;
     hits = λ f b sides lt c. whole_hits f b sides c;
@@ -90,7 +82,12 @@ module _ {Set : Type 0} (v v1 w : View Set) (front back : Layers Set) (cost x op
   new_cross = new_stays v v1 w set (new_of v v1 set g) s1
 
   cross_fine : EntryOk w (Before e)
-  cross_fine = rw (o.set_is, o.operators_are) (new_cross.valid, subst (λ (q : System). AreOperators q (op ∷ [])) (sym (s1.kept.system ∙ k1.system)) (number, tt))
+  cross_fine = rw (o.set_is, o.operators_are) (
+    new_cross.valid,
+    λ s h.
+        let m = (g.means s).0 (sym (s1.kept.same set g.valid s) ∙ h) in
+        (m.1.0, subst (λ (q : System). Runs q s (op ∷ []) m.1.0) (sym (s1.kept.system ∙ k1.system)) (m.1.0, m.1.2, refl)),
+  )
 
   abbrev meets : State → Bool
   meets = meeting z (member_in v front) (member_in v back) x op r
@@ -147,7 +144,7 @@ module _ {Set : Type 0} (v v1 w : View Set) (front back : Layers Set) (cost x op
   pub cross_opened : Opened v w front back cost (Cross x op r) (Before e)
   cross_opened = record {
     kept = kept_trans k1 s1.kept;
-    new = subst (λ (q : Set). IsNew v w q) (sym o.set_is) new_cross;
+    new = new_before v w e (subst (λ (q : Set). IsNew v w q) (sym o.set_is) new_cross);
     fine = cross_fine;
     stands = λ f b sides lt c. cross_stand f b sides lt c;
     hits = λ f b sides lt c p plan is. cross_hit f b sides lt c p plan;

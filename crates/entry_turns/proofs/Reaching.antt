@@ -1,70 +1,79 @@
--- The one state that operators reach, set by set.
-use Rattle.std.proofs.Common.{◌≡◌, ◌≢◌, ℕ, zero, suc, ◌+◌, ◌<◌, ◌≤◌, ◌↔◌, inl, inr, Bool, true, false, IsTrue, IsFalse, List, [], ◌∷◌, ◌++◌, take, get_or, length, refl, sym, ◌∙◌, ap, subst, arith}
-use Rattle.std.proofs.lemmas.List.{take_more, take_all}
-use Rattle.task_system.specs.System.{State, System, Leads, Runs}
-use Rattle.space_api.specs.View.{View, Valid, Has, Image}
-use Rattle.space_api.specs.Frames.{Kept, Forgot, Gives}
-use Rattle.space_api.proofs.Trading.{valid_clash}
-use Rattle.entry_laws.proofs.Paths.{joined, parted}
-use Rattle.entry_turns.specs.Entries.{AreOperators}
-use Rattle.entry_turns.specs.Ways.{IsNew}
+-- States that operators reach, in the task and in its system.
+use Rattle.std.proofs.Common.{◌≡◌, ℕ, zero, suc, ◌+◌, ◌<◌, ◌↔◌, Bool, IsTrue, List, [], ◌∷◌, ◌++◌, take, get_or, length, Some, None, Result, Ok, Err, IfOk, refl, sym, ◌∙◌, ap, subst, arith}
+use Rattle.std.specs.List.{All}
+use Rattle.std.proofs.lemmas.List.{take_more}
+use Rattle.symk_task.specs.declared.parts.TaskParts.{TaskParts}
+use Rattle.symk_task.specs.Fits.{Fits}
+use Rattle.symk_task.specs.Variables.{IsState}
+use Rattle.symk_task.specs.Steps.{Holds, Applies, After, Step}
+use Rattle.symk_task.specs.Plans.{IsInitial}
+use Rattle.symk_task.proofs.Starting.{start_law, one_initial}
+use Rattle.task_system.specs.System.{State, System, Leads, Runs, Listed}
+use Rattle.task_system.specs.Computed.{system_of}
+use Rattle.task_system.proofs.RunsLaw.{leads_law, start_listed, leads_listed}
+use Rattle.task_system.proofs.StatesLaw.{states_law}
+use Rattle.task_system.proofs.StepLaw.{goal_law}
+use Rattle.space_api.specs.View.{View}
+use Rattle.entry_laws.proofs.Paths.{joined, parted, run_one}
+use Rattle.entry_turns.specs.Ways.{IsReached, GoesTo}
 
-pub operator_at : (y : System) (ops : List ℕ) (i : ℕ) → i < length ops → AreOperators y ops → get_or ops i 0 < y.operators
-operator_at y [] i lt a = absurd (omega (arith, lt))
-operator_at y (op ∷ ops) zero lt a = a.0
-operator_at y (op ∷ ops) (suc i) lt a = operator_at y ops i (omega (arith, lt)) a.1
+runs_listed : (task : TaskParts) → Fits task → (ops : List ℕ) (s t : State) → Listed (system_of task).states s → Runs (system_of task) s ops t → Listed (system_of task).states t
+runs_listed task fits [] s t from run = subst (λ (x : State). Listed (system_of task).states x) run from
+runs_listed task fits (op ∷ ops) s t from run = runs_listed task fits ops run.0 t (leads_listed task s op run.0 fits from run.1) run.2
 
-pub not_valid : (b : Bool) → (b ≡ true → ⊥) → b ≡ false
-not_valid true f = absurd (f refl)
-not_valid false f = refl
+module _ {Set : Type 0} (v : View Set) (task : TaskParts) (fits : Fits task) (is : v.system ≡ system_of v.task) (same : task ≡ v.task) where
+  system_is : v.system ≡ system_of task
+  system_is = is ∙ ap system_of (sym same)
 
-module _ {Set : Type 0} (u v v1 w : View Set) (set next : Set) (k : Kept u v) (n : IsNew u v set) (k1 : Kept v v1) (n1 : IsNew v v1 next) (f : Forgot v1 w set) where
-  apart : (a : Set) → Valid u a → a ≢ set
-  apart a h e = valid_clash h (subst (λ (x : Set). IsFalse (u.valid x)) (sym e) n.fresh)
+  pub start_is : (s : State) → IsInitial task s → s ≡ v.system.initial
+  start_is s h = one_initial task s (system_of task).initial h (start_law task fits) ∙ sym (ap (λ (y : System). y.initial) system_is)
 
-  next_apart : next ≢ set
-  next_apart e = valid_clash (subst (λ (x : Set). IsTrue (v.valid x)) (sym e) n.valid) n1.fresh
+  pub reached_state : (s : State) → IsReached v s → IsState task s
+  reached_state s h =
+      let run = subst (λ (y : System). Runs y y.initial h.0 s) system_is h.1 in
+      (states_law task s).1 (runs_listed task fits h.0 (system_of task).initial s (start_listed task fits) run)
 
-  pub swap_kept : Kept u w
-  swap_kept = record {
-    system = f.system ∙ k1.system ∙ k.system;
-    valid = λ a h. f.valid a (k1.valid a (k.valid a h)) (apart a h);
-    same = λ a h s. f.same a (f.valid a (k1.valid a (k.valid a h)) (apart a h)) s ∙ k1.same a (k.valid a h) s ∙ k.same a h s;
-  }
+  pub op_in : (op : ℕ) → op < v.system.operators → op < length task.operators
+  op_in op lt = subst (λ (y : System). op < y.operators) system_is lt
 
-  pub swap_new : IsNew u w next
-  swap_new = record {
-    fresh = not_valid (u.valid next) (λ h. valid_clash (k.valid next h) n1.fresh);
-    valid = f.valid next n1.valid next_apart;
-    only = λ b h. elim (n1.only b (f.only b h)) [
-      | inl o ↦ elim (n.only b o) [ inl p ↦ inl p | inr e ↦ absurd (valid_clash (subst (λ (x : Set). IsTrue (w.valid x)) e h) f.gone) ]
-      | inr e ↦ inr e
-    ];
-  }
+  pub leads_task : (op : ℕ) (s t : State) → IsState task s → Leads v.system op s t ↔ Step task s op t
+  leads_task op s t state = subst (λ (y : System). Leads y op s t ↔ Step task s op t) (sym system_is) (leads_law task s op t fits state)
 
-  pub swap_same : (s : State) → w.has next s ≡ v1.has next s
-  swap_same s = f.same next (f.valid next n1.valid next_apart) s
+  pub goal_is : (s : State) (b : Bool) → (IsTrue b ↔ All (Holds task s) task.goal) → IsTrue b ↔ IsTrue (v.system.goal s)
+  goal_is s b says =
+      let law = goal_law task s fits in
+      subst (λ (y : System). IsTrue b ↔ IsTrue (y.goal s)) (sym system_is) ((λ h. law.1 (says.0 h)), (λ h. says.1 (law.0 h)))
 
-pub new_of : {Set : Type 0} {P : State → Type 0} (v w : View Set) (a : Set) → Gives v w P a → IsNew v w a
-new_of v w a g = record { fresh = g.fresh; valid = g.valid; only = g.only }
+  pub starts_at : {E : Type 0} (r : Result State E) → IfOk r (IsInitial task) → IfOk r (λ s. s ≡ v.system.initial)
+  starts_at (Ok s) h = start_is s h
+  starts_at (Err e) h = tt
 
-pub reach_step : {Set : Type 0} (y : System) (v v1 w : View Set) (a r : Set) (ops : List ℕ) (i : ℕ) → v.system ≡ y → i < length ops → ((t : State) → Has v a t ↔ Runs y y.initial (take i ops) t) → Gives v v1 (Image v (get_or ops i 0) a) r → ((t : State) → w.has r t ≡ v1.has r t) → (t : State) → Has w r t ↔ Runs y y.initial (take (i + 1) ops) t
-reach_step y v v1 w a r ops i same lt means g moved t =
-    let op = get_or ops i 0 in
-    let more : take (i + 1) ops ≡ take i ops ++ (op ∷ []) = take_more ops i 0 lt in
-    rw more (
-      (λ h. let m = (g.means t).0 (sym (moved t) ∙ h) in joined y (take i ops) (op ∷ []) y.initial m.0 t ((means m.0).0 m.1) (t, subst (λ (z : System). Leads z op m.0 t) same m.2, refl)),
-      (λ h. let m = parted y (take i ops) (op ∷ []) y.initial t h in
-          let last = m.2 in
-          let lead : Leads y op m.0 t = subst (λ (x : State). Leads y op m.0 x) last.2 last.1 in
-          moved t ∙ (g.means t).1 (m.0, (means m.0).1 m.1, subst (λ (z : System). Leads z op m.0 t) (sym same) lead)),
-    )
+  pub start_state : {E : Type 0} (r : Result State E) → IfOk r (IsInitial task) → IfOk r (IsState v.task)
+  start_state (Ok s) h = subst (λ (x : TaskParts). IsState x s) same h.state
+  start_state (Err e) h = tt
 
-pub reach_end : {Set : Type 0} (y : System) (v : View Set) (a : Set) (ops : List ℕ) (i : ℕ) → length ops ≤ i → ((t : State) → Has v a t ↔ Runs y y.initial (take i ops) t) → (t : State) → Has v a t ↔ Runs y y.initial ops t
-reach_end y v a ops i full means t = subst (λ (q : List ℕ). Has v a t ↔ Runs y y.initial q t) (take_all i ops full) (means t)
+  pub goes_none : (op : ℕ) (s : State) → IsReached v s → ¬ Applies task s op → GoesTo v op s None
+  goes_none op s h off t lead = off ((leads_task op s t (reached_state s h)).0 lead).0
 
-pub first_state : {Set : Type 0} (y : System) (v w : View Set) (a : Set) → v.system ≡ y → Gives v w (λ s. s ≡ v.system.initial) a → (t : State) → Has w a t ↔ Runs y y.initial [] t
-first_state y v w a same g t = (
-  (λ h. sym ((g.means t).0 h ∙ ap (λ (z : System). z.initial) same)),
-  (λ h. (g.means t).1 (sym h ∙ sym (ap (λ (z : System). z.initial) same))),
-)
+  pub goes_some : (op : ℕ) (s t : State) → IsReached v s → Applies task s op → After task s op t → IsState task t → GoesTo v op s (Some t)
+  goes_some op s t h applies after state = (subst (λ (x : TaskParts). IsState x t) same state, (leads_task op s t (reached_state s h)).1 (applies, after))
+
+-- one operator more of those that lead on
+module _ (y : System) (ops : List ℕ) (i : ℕ) (lt : i < length ops) (s end : State) (all : Runs y y.initial ops end) (run : Runs y y.initial (take i ops) s) where
+  more : take (i + 1) ops ≡ take i ops ++ (get_or ops i 0 ∷ [])
+  more = take_more ops i 0 lt
+
+  splits : (xs : List ℕ) (n : ℕ) → n < length xs → (rest : List ℕ) × (xs ≡ take n xs ++ (get_or xs n 0 ∷ rest))
+  splits [] n h = absurd (omega (arith, h))
+  splits (x ∷ xs) zero h = (xs, refl)
+  splits (x ∷ xs) (suc n) h = let r = splits xs n (omega (arith, h)) in (r.0, ap (λ (z : List ℕ). x ∷ z) r.1)
+
+  pub leads_next : (t : State) × Leads y (get_or ops i 0) s t
+  leads_next =
+      let r = splits ops i lt in
+      let p = parted y (take i ops) (get_or ops i 0 ∷ r.0) y.initial end (subst (λ (z : List ℕ). Runs y y.initial z end) r.1 all) in
+      let at : p.0 ≡ s = run_one y y.initial (take i ops) p.0 s p.1 run in
+      (p.2.0, subst (λ (x : State). Leads y (get_or ops i 0) x p.2.0) at p.2.1)
+
+  pub runs_next : (t : State) → Leads y (get_or ops i 0) s t → Runs y y.initial (take (i + 1) ops) t
+  runs_next t lead = rw more (joined y (take i ops) (get_or ops i 0 ∷ []) y.initial s t run (t, lead, refl))

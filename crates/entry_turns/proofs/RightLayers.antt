@@ -19,9 +19,6 @@ use Rattle.entry_turns.specs.Entries.{in_some, member_in, RightSides}
 falsum : false ≡ true → ⊥
 falsum e = cc
 
-none_some : {A : Type 0} (x : A) → None ≡ Some x → ⊥
-none_some x e = cc
-
 -- whole and rings have the same states
 whole_rings : {Set : Type 0} (v : View Set) (rs : List Set) (o : Option Set) (s : State) → MatchOption o (rs ≡ []) (IsLayer v rs) → (in_some v o s ≡ true) ↔ ((i : ℕ) × RingAt v rs i s)
 whole_rings v rs None s e = (

@@ -1,5 +1,5 @@
 -- Layers in a view in which their sets stay.
-use Rattle.std.proofs.Common.{◌≡◌, ℕ, ◌≤◌, ◌⊎◌, ◌↔◌, inl, inr, Bool, true, false, List, [], length, Option, Some, None, MatchOption, refl, sym, subst, arith}
+use Rattle.std.proofs.Common.{◌≡◌, ℕ, ◌≤◌, ◌⊎◌, ◌↔◌, inl, inr, Bool, List, [], length, Option, Some, None, MatchOption, refl, sym, subst, arith}
 use Rattle.task_system.specs.System.{State, System}
 use Rattle.space_api.specs.View.{View, Valid}
 use Rattle.space_api.specs.Owned.{Trades}
@@ -66,9 +66,3 @@ module _ {Set : Type 0} (u v : View Set) (old new : List (Entry Set)) (t : Trade
       let ok : Valid u a = kept_valid u (rings_at l) (whole_at l) h a k in
       let out : ¬ SetIn old a = λ i. apart a i k in
       (t.others a ok out, t.same a ok out)
-
-  clash : (b : Bool) → b ≡ true → b ≡ false → ⊥
-  clash b p q = cc
-
-  pub apart_on : AreApart new l
-  apart_on a i k = clash (u.valid a) (kept_valid u (rings_at l) (whole_at l) h a k) (t.fresh a i (λ o. apart a o k))

@@ -1,14 +1,14 @@
 -- One turn.
-use Rattle.std.proofs.Common.{◌≡◌, ◌≢◌, ℕ, zero, suc, ◌+◌, ◌<◌, inl, inr, Bool, true, false, IsTrue, IsFalse, List, [], ◌∷◌, ◌++◌, length, length-append, get_or, remove, Option, Some, None, Result, Ok, Err, IfOk, OnErr, MatchOption, refl, sym, ◌∙◌, ap, subst, arith}
+use Rattle.std.proofs.Common.{◌≡◌, ℕ, zero, suc, ◌+◌, ◌<◌, inl, inr, Bool, true, false, IsTrue, IsFalse, List, [], ◌∷◌, ◌++◌, length, length-append, get_or, remove, Option, Some, None, Result, Ok, Err, IfOk, OnErr, MatchOption, refl, sym, ◌∙◌, ap, subst, arith}
 use Rattle.std.specs.List.{AllByRecursion}
 use Rattle.space_api.specs.View.{View, Valid}
-use Rattle.space_api.specs.Frames.{Stays, Forgot}
+use Rattle.space_api.specs.Frames.{Stays}
 use Rattle.space_api.specs.Owned.{Trades}
 use Rattle.space_api.proofs.Trading.{trades_stays}
 use Rattle.cost_layers.specs.declared.layers.Layers.{Layers}
 use Rattle.entry_laws.specs.Entries.{Plain, Stands}
-use Rattle.entry_turns.specs.Entries.{set_in, operators_in, plain, plains, EntryOk, SetIn, AreDistinct, Makes, member_in}
-use Rattle.entry_turns.specs.Turned.{GoesOrGives, given, Follows, IsQueue, Turns, Replaces}
+use Rattle.entry_turns.specs.Entries.{operators_in, plain, plains, EntryOk, HasSet, SetIn, AreDistinct, Makes, member_in}
+use Rattle.entry_turns.specs.Turned.{GoesOrGives, given, Follows, IsQueue, Turns, GivesBack, Replaces}
 use Rattle.entry_turns.specs.declared.entries.Entry.{Entry}
 use Rattle.entry_turns.proofs.Kept.{plains_append, plains_same}
 use Rattle.entry_turns.proofs.Sets.{all_kept, in_valid, in_append, put_trades, put_distinct, put_ok, distinct_split}
@@ -72,14 +72,14 @@ module _ {Set : Type 0} (u v w : View Set) (old new es : List (Entry Set)) (done
   others_same : plains w others ≡ plains u others
   others_same = plains_same u w others (λ a h s.
       let ok : Valid u a = in_valid u (others ++ e ∷ []) a each ((in_append others (e ∷ []) a).1 (inl h)) in
-      let other : a ≢ set_in e = λ x. (distinct_split others (e ∷ []) distinct).2 a h (inl x) in
-      r.4.same a (r.4.valid a (m.kept.valid a ok) other) s ∙ m.kept.same a ok s)
+      let other : ¬ HasSet e a = λ has. (distinct_split others (e ∷ []) distinct).2 a h (inl has) in
+      r.4.same a (m.kept.valid a ok) other s ∙ m.kept.same a ok s)
 
   made_same : plains w es ≡ plains v es
   made_same = plains_same v w es (λ a h s.
       let ok : Valid v a = in_valid v es a m.each h in
-      let other : a ≢ set_in e = λ x. clash (u.valid (set_in e)) (in_valid u (others ++ e ∷ []) (set_in e) each ((in_append others (e ∷ []) (set_in e)).1 (inr (inl refl)))) (subst (λ (z : Set). u.valid z ≡ false) x (m.fresh a h)) in
-      r.4.same a (r.4.valid a ok other) s)
+      let other : ¬ HasSet e a = λ has. clash (u.valid a) (in_valid u (others ++ e ∷ []) a each ((in_append others (e ∷ []) a).1 (inr (inl has)))) (m.fresh a h) in
+      r.4.same a ok other s)
 
   -- the turn, where what follows was made of the last entry
   pub replaced_turns : (front back : Layers Set) (x : Entry Set) → x ≡ e → Follows u v front back x es done → Turns u w front back old new o
@@ -117,13 +117,21 @@ module _ {Set : Type 0} {X : Type 0} {E : Type 0} (items : X → List ℕ) (u v 
   turn_stays (Ok o) back = tt
   turn_stays (Err x) back = back u m
 
+-- the set of the entry that is taken is valid
+pub taken_valid : {Set : Type 0} (u v : View Set) (old es : List (Entry Set)) (entry : Entry Set) (i : ℕ) → 0 < length old → i + 1 ≡ length old → entry ≡ get_or (old ++ es) i entry → IsQueue u old → Makes u v es → (a : Set) → HasSet entry a → Valid v a
+taken_valid u v old es entry i some at is q m a has =
+    let s = last_split old some in
+    let same : entry ≡ s.1 = is ∙ ap (λ (xs : List _). get_or (xs ++ es) i entry) s.2 ∙ middle_at s.0 s.1 entry es i (at ∙ ap length s.2) in
+    let last : SetIn (s.0 ++ s.1 ∷ []) a = (in_append s.0 (s.1 ∷ []) a).1 (inr (inl (subst (λ (x : Entry _). HasSet x a) same has))) in
+    m.kept.valid a (in_valid u old a q.each (subst (λ (xs : List _). SetIn xs a) (sym s.2) last))
+
 -- the entry is taken out of the middle
-pub taken_out : {Set : Type 0} (v w : View Set) (old es now : List (Entry Set)) (entry : Entry Set) (i : ℕ) (done : Bool) → 0 < length old → i + 1 ≡ length old → entry ≡ get_or (old ++ es) i entry → now ≡ remove (old ++ es) i → Forgot v w (set_in entry) → Replaces v w old now es done (given done entry)
+pub taken_out : {Set : Type 0} (v w : View Set) (old es now : List (Entry Set)) (entry : Entry Set) (i : ℕ) (done : Bool) → 0 < length old → i + 1 ≡ length old → entry ≡ get_or (old ++ es) i entry → now ≡ remove (old ++ es) i → GivesBack v w entry → Replaces v w old now es done (given done entry)
 taken_out v w old es now entry i done some at is out f =
     let s = last_split old some in
     let here : i + 1 ≡ length (s.0 ++ s.1 ∷ []) = at ∙ ap length s.2 in
     let same : entry ≡ s.1 = is ∙ ap (λ (xs : List _). get_or (xs ++ es) i entry) s.2 ∙ middle_at s.0 s.1 entry es i here in
-    (s.0, s.1, s.2, out ∙ ap (λ (xs : List _). remove (xs ++ es) i) s.2 ∙ middle_out s.0 s.1 es i here, subst (λ (x : Entry _). Forgot v w (set_in x)) same f, ap (λ (x : Entry _). given done x) same)
+    (s.0, s.1, s.2, out ∙ ap (λ (xs : List _). remove (xs ++ es) i) s.2 ∙ middle_out s.0 s.1 es i here, subst (λ (x : Entry _). GivesBack v w x) same f, ap (λ (x : Entry _). given done x) same)
 
 -- a plan is handed out where the entry is done
 pub told : {Set : Type 0} {X : Type 0} (items : X → List ℕ) (v w : View Set) (old now es : List (Entry Set)) (done : Bool) (entry : Entry Set) (ops : List ℕ) (r : Option X) → ops ≡ operators_in entry → MatchOption r (IsFalse done) (λ p. IsTrue done × (items p ≡ ops)) → Replaces v w old now es done (given done entry) → MatchOption r (Replaces v w old now es done None) (λ p. Replaces v w old now es done (Some (items p)))

@@ -1,5 +1,5 @@
--- Entries over sets of a space, as plain ones; which sets they have.
-use Rattle.std.specs.Prelude.{◌≡◌, ℕ, ◌<◌, ◌≤◌, ◌⊎◌, ◌↔◌, IsFalse, Bool, false, List, [], ◌∷◌, Option, Some, None}
+-- Entries over sets of a space and over states, as plain ones; which sets they have.
+use Rattle.std.specs.Prelude.{◌≡◌, ℕ, ◌<◌, ◌≤◌, ◌⊎◌, IsFalse, Bool, false, List, [], ◌∷◌, Option, Some, None}
 use Rattle.std.specs.List.{AllByRecursion}
 use Rattle.task_system.specs.System.{State, System, Runs}
 use Rattle.space_api.specs.View.{View, Valid, Has}
@@ -10,10 +10,6 @@ use Rattle.cost_layers.specs.declared.layers.Layers.{Layers}
 use Rattle.entry_laws.specs.Entries.{Plain, Head, Tail, FwdIn, BwdIn, Tables, Stands}
 use Rattle.entry_turns.specs.declared.entries.Entry.{Entry}
 use Rattle.entry_turns.specs.declared.entries.Entry.TheVariants.{Before, After}
-
-abbrev pub set_in : {Set : Type 0} → Entry Set → Set
-set_in (Before e) = e.set
-set_in (After e) = e.set
 
 abbrev pub cost_in : {Set : Type 0} → Entry Set → ℕ
 cost_in (Before e) = e.cost
@@ -27,7 +23,7 @@ abbrev pub operators_in : {Set : Type 0} → Entry Set → List ℕ
 operators_in (Before e) = e.operators.items
 operators_in (After e) = e.operators.items
 
--- the entry as its set's states
+-- the entry as a plain one: of a prefix its set's states
 abbrev pub plain : {Set : Type 0} → View Set → Entry Set → Plain
 plain v (Before e) = Head (v.has e.set) e.cost e.ring e.operators.items e.after
 plain v (After e) = Tail e.cost e.ring e.operators.items
@@ -36,26 +32,36 @@ abbrev pub plains : {Set : Type 0} → View Set → List (Entry Set) → List Pl
 plains v [] = []
 plains v (e ∷ es) = plain v e ∷ plains v es
 
--- each is the number of an operator
-abbrev pub AreOperators : System → List ℕ → Type 0
-AreOperators y ops = AllByRecursion (λ op. op < y.operators) ops
+-- the operators lead on from each state of the set
+abbrev pub LeadOn : {Set : Type 0} → View Set → Set → List ℕ → Type 0
+LeadOn v a ops = (s : State) → Has v a s → (t : State) × Runs v.system s ops t
 
--- the set is valid, and that of a suffix has the one state that the operators reach
+-- the set of a prefix is valid, and its operators lead on from there; those of a suffix reach its state
 abbrev pub EntryOk : {Set : Type 0} → View Set → Entry Set → Type 0
-EntryOk v (Before e) = Valid v e.set × AreOperators v.system e.operators.items
-EntryOk v (After e) = Valid v e.set × AreOperators v.system e.operators.items × ((t : State) → Has v e.set t ↔ Runs v.system v.system.initial e.operators.items t)
+EntryOk v (Before e) = Valid v e.set × LeadOn v e.set e.operators.items
+EntryOk v (After e) = Runs v.system v.system.initial e.operators.items e.state
 
--- a is the set of an entry
+-- a is the set of the entry: a prefix has one, and a suffix none
+abbrev pub HasSet : {Set : Type 0} → Entry Set → Set → Type 0
+HasSet (Before e) a = a ≡ e.set
+HasSet (After e) a = ⊥
+
+-- a is the set of an entry of the list
 abbrev pub SetIn : {Set : Type 0} → List (Entry Set) → Set → Type 0
 SetIn [] a = ⊥
-SetIn (e ∷ es) a = (a ≡ set_in e) ⊎ SetIn es a
+SetIn (e ∷ es) a = HasSet e a ⊎ SetIn es a
 
 -- no two entries have one set
 abbrev pub AreDistinct : {Set : Type 0} → List (Entry Set) → Type 0
 AreDistinct [] = Unit {0}
-AreDistinct (e ∷ es) = ¬ SetIn es (set_in e) × AreDistinct es
+AreDistinct {Set} (e ∷ es) = ((a : Set) → HasSet e a → ¬ SetIn es a) × AreDistinct es
 
--- the entries were made, each with a new set of its own, and no other set became valid
+-- the set of the entry, where it has one, alone became valid
+pub record IsNewEntry {Set : Type 0} (v w : View Set) (e : Entry Set) : Type 0 where
+  pub fresh : (a : Set) → HasSet e a → IsFalse (v.valid a)
+  pub only : (a : Set) → Valid w a → Valid v a ⊎ HasSet e a
+
+-- the entries were made, each set is new and that of one entry, and no other set became valid
 pub record Makes {Set : Type 0} (u v : View Set) (es : List (Entry Set)) : Type 0 where
   pub kept : Kept u v
   pub each : AllByRecursion (EntryOk v) es

@@ -1,11 +1,12 @@
 -- A child of an entry, and where it is put.
 use Rattle.std.specs.Prelude.{◌≡◌, ℕ, ◌-◌, ◌^◌, ◌<◌, ◌≤◌, ◌⊎◌, List, [], ◌∷◌, ◌++◌}
 use Rattle.std.specs.List.{AllByRecursion}
+use Rattle.task_system.specs.System.{State}
 use Rattle.space_api.specs.View.{View}
 use Rattle.cost_layers.specs.declared.layers.Layers.{Layers}
 use Rattle.entry_laws.specs.Growing.{Added, Gathered}
 use Rattle.entry_turns.specs.Entries.{cost_in, ring_in, plain, plains, EntryOk, Makes, member_in, Ready}
-use Rattle.entry_turns.specs.Ways.{IsLeast}
+use Rattle.entry_turns.specs.Ways.{IsLeast, IsFirst}
 use Rattle.entry_turns.specs.declared.entries.Prefix.{Prefix}
 use Rattle.entry_turns.specs.declared.entries.Suffix.{Suffix}
 use Rattle.entry_turns.specs.declared.entries.Entry.{Entry}
@@ -20,28 +21,26 @@ pub record GrownBefore {Set : Type 0} (v : View Set) (front : Layers Set) (e : P
   pub least : IsLeast v front (e.cost - w) set c.ring
   pub fits : c.ring < 2 ^ 64
 
--- the suffix c grows out of e
-pub record GrownAfter {Set : Type 0} (v : View Set) (back : Layers Set) (e : Suffix Set) (op w : ℕ) (set : Set) (c : Suffix Set) : Type 0 where
-  pub set_is : c.set ≡ set
+-- the suffix c grows out of e by an operator of cost w, to this state
+pub record GrownAfter {Set : Type 0} (v : View Set) (back : Layers Set) (e : Suffix) (op w : ℕ) (state : State) (c : Suffix) : Type 0 where
+  pub state_is : c.state ≡ state
   pub cost_is : c.cost ≡ e.cost - w
   pub operators_are : c.operators.items ≡ e.operators.items ++ op ∷ []
-  pub least : IsLeast v back (e.cost - w) set c.ring
+  pub least : IsFirst v back (e.cost - w) state c.ring
   pub fits : c.ring < 2 ^ 64
 
-abbrev pub IsGrown : {Set : Type 0} → View Set → Layers Set → Layers Set → Entry Set → ℕ → ℕ → Set → Entry Set → Type 0
-IsGrown v front back (Before e) op w set (Before c) = GrownBefore v front e op w set c
-IsGrown v front back (Before e) op w set (After c) = ⊥
-IsGrown v front back (After e) op w set (Before c) = ⊥
-IsGrown v front back (After e) op w set (After c) = GrownAfter v back e op w set c
+-- c was put after the others, with the falling ones where its cost or ring is less than these
+abbrev pub IsPut : {Set : Type 0} → ℕ → ℕ → Entry Set → List (Entry Set) → List (Entry Set) → List (Entry Set) → List (Entry Set) → Type 0
+IsPut cost ring c level falling level2 falling2 =
+    (((cost_in c < cost) ⊎ (ring_in c < ring)) × (level2 ≡ level) × (falling2 ≡ falling ++ c ∷ []))
+    ⊎ ((cost ≤ cost_in c) × (ring ≤ ring_in c) × (level2 ≡ level ++ c ∷ []) × (falling2 ≡ falling))
 
--- c was put after the others, with the falling ones where its cost or ring is less than that of e
-abbrev pub IsPut : {Set : Type 0} → Entry Set → Entry Set → List (Entry Set) → List (Entry Set) → List (Entry Set) → List (Entry Set) → Type 0
-IsPut e c level falling level2 falling2 =
-    (((cost_in c < cost_in e) ⊎ (ring_in c < ring_in e)) × (level2 ≡ level) × (falling2 ≡ falling ++ c ∷ []))
-    ⊎ ((cost_in e ≤ cost_in c) × (ring_in e ≤ ring_in c) × (level2 ≡ level ++ c ∷ []) × (falling2 ≡ falling))
+-- the child that grows out of e was put
+abbrev pub PutsBefore : {Set : Type 0} → View Set → Layers Set → Prefix Set → ℕ → ℕ → Set → List (Entry Set) → List (Entry Set) → List (Entry Set) → List (Entry Set) → Type 0
+PutsBefore {Set} v front e op w set level falling level2 falling2 = (c : Prefix Set) × GrownBefore v front e op w set c × IsPut e.cost e.ring (Before c) level falling level2 falling2
 
-abbrev pub GrowsInto : {Set : Type 0} → View Set → Layers Set → Layers Set → Entry Set → ℕ → ℕ → Set → List (Entry Set) → List (Entry Set) → List (Entry Set) → List (Entry Set) → Type 0
-GrowsInto {Set} v front back e op w set level falling level2 falling2 = (c : Entry Set) × IsGrown v front back e op w set c × IsPut e c level falling level2 falling2
+abbrev pub PutsAfter : {Set : Type 0} → View Set → Layers Set → Suffix → ℕ → ℕ → State → List (Entry Set) → List (Entry Set) → List (Entry Set) → List (Entry Set) → Type 0
+PutsAfter v back e op w state level falling level2 falling2 = (c : Suffix) × GrownAfter v back e op w state c × IsPut e.cost e.ring (After c) level falling level2 falling2
 
 -- what was made so far and what is more was made since
 abbrev pub MakesOn : {Set : Type 0} → View Set → View Set → List (Entry Set) → List (Entry Set) → Type 0

@@ -11,23 +11,15 @@ use Rattle.plan_cuts.specs.Cuts.{IsCutAt}
 use Rattle.entry_laws.specs.Cuts.{cut_of, same_cut}
 use Rattle.entry_laws.specs.Counts.{ind}
 use Rattle.entry_laws.specs.Entries.{Stands, entry_hits}
-use Rattle.entry_turns.specs.Entries.{set_in, plain, EntryOk, RightSides}
-use Rattle.entry_turns.specs.Ways.{IsNew, IsLeast}
+use Rattle.entry_turns.specs.Entries.{plain, EntryOk, IsNewEntry, RightSides}
+use Rattle.entry_turns.specs.Ways.{IsLeast}
 use Rattle.entry_turns.specs.declared.entries.Prefix.{Prefix}
-use Rattle.entry_turns.specs.declared.entries.Suffix.{Suffix}
 use Rattle.entry_turns.specs.declared.entries.Entry.{Entry}
 
 -- the crossing operator is one, and both layers are there
 abbrev pub IsDrawable : {Set : Type 0} → View Set → Layers Set → Layers Set → Cut → Type 0
 IsDrawable v front back Whole = Unit {0}
 IsDrawable {Set} v front back (Cross x op y) = (op < v.system.operators) × ((a : Set) × (whole_at front x ≡ Some a)) × ((c : Set) × (whole_at back y ≡ Some c))
-
--- a suffix that begins in the initial state
-pub record OpensWhole {Set : Type 0} (v : View Set) (back : Layers Set) (cost : ℕ) (set : Set) (e : Suffix Set) : Type 0 where
-  pub set_is : e.set ≡ set
-  pub cost_is : e.cost ≡ cost
-  pub operators_are : e.operators.items ≡ []
-  pub least : IsLeast v back cost set e.ring
 
 -- a prefix that ends with the crossing operator
 pub record OpensCross {Set : Type 0} (v : View Set) (front : Layers Set) (x op y : ℕ) (set : Set) (e : Prefix Set) : Type 0 where
@@ -40,7 +32,7 @@ pub record OpensCross {Set : Type 0} (v : View Set) (front : Layers Set) (x op y
 -- the entry is a new one, and where the layers are right it stands on them and plans extend it exactly where the cut is theirs
 pub record Opened {Set : Type 0} (v w : View Set) (front back : Layers Set) (cost : ℕ) (cut : Cut) (e : Entry Set) : Type 0 where
   pub kept : Kept v w
-  pub new : IsNew v w (set_in e)
+  pub new : IsNewEntry v w e
   pub fine : EntryOk w e
   pub stands : (f b : ℕ) → RightSides v.system v front back f b → cost < f + b → IsCutAt v.system b cost cut → Stands v.system f b cost (plain w e)
   pub hits : (f b : ℕ) → RightSides v.system v front back f b → cost < f + b → IsCutAt v.system b cost cut → (p : List ℕ) → IsPlan v.system p → cost_of v.system p ≡ cost → entry_hits v.system (plain w e) p ≡ ind (same_cut (cut_of v.system b p) cut)

@@ -7,15 +7,15 @@ ghost use Rattle.cost_layers.specs.Layers.{Held};
 ghost use Rattle.entry_turns.specs.Entries.{EntryOk, Makes};
 ghost use Rattle.entry_turns.specs.Grown.{Gathers, Expands};
 
-use crate::children::{Children, give_back_children, try_operator};
+use crate::after::gather_after;
+use crate::before::gather_before;
+use crate::children::{Children, give_back_children};
 use crate::entries::Entry;
-use crate::ways::{leading, way_after, way_for};
 use cost_layers::Layers;
 use space_api::{Space, SpaceFault};
 use std::alloc::Global;
 
-/// Adds the children by all operators: only what may lead on by the values of the entry's set is tried. After a refusal the
-/// children so far are there.
+/// Adds the children by all operators. After a refusal the children so far are there.
 fn gather<S: Space>(
     alloc: Global,
     space: &mut S,
@@ -34,13 +34,10 @@ fn gather<S: Space>(
     ensures ok { OnOk result (Gathers (S.view space.old) (S.view space.new) front.now back.now entry.now
         children.new.level.items children.new.falling.items) }
 {
-    let ops = leading(alloc, space, entry)?;
-    let mut way = way_for(front, back, entry, 0);
-    'operators: for op in &ops {
-        way = way_after(front, back, entry, way, space.cost_of(*op));
-        try_operator(alloc, space, front, back, entry, way, *op, children)?;
+    match entry {
+        Entry::Before(prefix) => gather_before(alloc, space, front, back, prefix, children),
+        Entry::After(suffix) => gather_after(alloc, space, front, back, suffix, children),
     }
-    Ok(())
 }
 
 /// All children in one list, the falling ones last; or all are given back.

@@ -1,23 +1,27 @@
 //! Entries of a queue over sets of states, and the turns by which plans grow from the middle outwards.
 //!
-//! `open_cut` gives the first entry of a cut, and `walk` takes entries from the queue, last in first out, until one is a plan.
-//! A prefix grows backwards out of a set, then a suffix forwards from one state. Every operator that leads on into a right
-//! layer makes a child, so no entry is a dead end; a child of less cost or a lower ring is taken first, so a plan comes within
-//! two turns more than it has operators. Want of memory leaves what the queue owes, and no set is lost.
+//! `open_cut` gives the first entry of a cut, and `walk` takes entries from the queue, last in first out, until one
+//! is a plan. A prefix grows backwards out of a set, then a suffix forwards from one state. The suffix keeps that
+//! state's values and no set: its operators are tried on the values, and a layer is asked whether it has the state to
+//! which one leads. Every operator that leads on into a right layer makes a child, so no entry is a dead end; a child
+//! of less cost or a lower ring is taken first, so a plan comes within two turns more than it has operators. Want of
+//! memory leaves what the queue owes, and no set is lost.
 //!
 //! It stands on the layers of `cost_layers` and the laws of `entry_laws`.
 #![tactic(auto)]
 
+mod after;
+mod before;
 mod children;
 mod entries;
 mod expand;
 mod opening;
+mod states;
 mod turns;
 mod walking;
 mod ways;
 
-pub use entries::{Entry, Prefix, Suffix, set_of};
+pub use entries::{Entry, Prefix, Suffix, give_back};
 pub use opening::open_cut;
 pub use turns::turn;
 pub use walking::walk;
-pub use ways::least_ring;

@@ -4,57 +4,35 @@ ghost use Rattle.std.specs.Prelude.{◌≡◌, ℕ, ◌<◌, Some, IfOk, OnErr};
 ghost use Rattle.space_api.specs.View.{View, Valid};
 ghost use Rattle.space_api.specs.Frames.{Stays};
 ghost use Rattle.cost_layers.specs.Layers.{Held, whole_at};
-ghost use Rattle.entry_turns.specs.Opened.{IsDrawable, OpensWhole, OpensCross, Opened};
+ghost use Rattle.entry_turns.specs.Opened.{IsDrawable, OpensCross, Opened};
 
 use crate::entries::{Entry, Prefix, Suffix};
-use crate::ways::least_ring;
+use crate::states::start;
+use crate::ways::{first_ring, least_ring};
 use cost_layers::Layers;
 use plan_cuts::Cut;
 use space_api::{Space, SpaceFault};
 use std::alloc::{AllocError, Global};
 
-/// The suffix of this cost from this set on.
-fn whole_from<S: Space>(
-    alloc: Global,
-    space: &mut S,
-    back: &Layers<S::Set>,
-    cost: u64,
-    set: S::Set,
-) -> Result<Suffix<S::Set>, SpaceFault>
-    requires back { Held (S.view space.old) back.now }
-    requires set { Valid (S.view space.old) set }
-    ensures stays { Stays (S.view space.old) (S.view space.new) }
-    ensures ok { IfOk result (OpensWhole (S.view space.old) back.now cost set) }
-{
-    let ring = least_ring(space, back, cost, set)?;
-    Ok(Suffix {
-        set,
-        cost,
-        ring,
-        operators: Vec::new(alloc),
-    })
-}
-
-/// The entry of plans that are not cut.
+/// The entry of plans that are not cut: the suffix of this cost from the initial state on.
 fn open_whole<S: Space>(
     alloc: Global,
-    space: &mut S,
+    space: &S,
     front: &Layers<S::Set>,
     back: &Layers<S::Set>,
     cost: u64,
 ) -> Result<Entry<S::Set>, SpaceFault>
-    requires back { Held (S.view space.old) back.now }
-    ensures ok { IfOk result (Opened (S.view space.old) (S.view space.new) front.now back.now cost Cut.Whole) }
-    ensures err { OnErr result (Stays (S.view space.old) (S.view space.new)) }
+    requires back { Held (S.view space.now) back.now }
+    ensures { IfOk result (Opened (S.view space.now) (S.view space.now) front.now back.now cost Cut.Whole) }
 {
-    let set = space.init()?;
-    match whole_from(alloc, space, back, cost, set) {
-        Ok(suffix) => Ok(Entry::After(suffix)),
-        Err(fault) => {
-            space.forget(set);
-            Err(fault)
-        }
-    }
+    let state = start(alloc, space)?;
+    let ring = first_ring(space, back, cost, &state);
+    Ok(Entry::After(Suffix {
+        state,
+        cost,
+        ring,
+        operators: Vec::new(alloc),
+    }))
 }
 
 /// The prefix of cost `x` from this set on, which ends with the crossing operator.

@@ -13,199 +13,125 @@ ghost use Rattle.std.specs.Prelude.{◌≡◌, ◌<◌, ◌≤◌, ◌↔◌, �
 ghost use Rattle.std.specs.List.{AllByRecursion};
 ghost use Rattle.task_system.specs.System.{State, Runs};
 ghost use Rattle.space_api.specs.View.{View, Valid, Has};
-ghost use Rattle.space_api.specs.Frames.{Kept, Stays, Gives};
+ghost use Rattle.space_api.specs.Frames.{Stays};
 ghost use Rattle.space_api.specs.Owned.{Trades};
 ghost use Rattle.cost_layers.specs.Layers.{Held};
-ghost use Rattle.entry_turns.specs.Entries.{EntryOk, Makes, AreOperators, SetIn, AreDistinct};
+ghost use Rattle.entry_turns.specs.Entries.{EntryOk, Makes, SetIn, AreDistinct};
 ghost use Rattle.entry_turns.specs.Grown.{Expands};
-ghost use Rattle.entry_turns.specs.Turned.{IsDone, Starts, Begins, Begun, BeginsToo, Follows, IsQueue, Turns, Replaces};
+ghost use Rattle.entry_turns.specs.Turned.{IsDone, Starts, Begun, BeginsToo, begun_entries, Follows, IsQueue, Turns, Replaces};
 
-use crate::entries::{Prefix, Suffix, give_back_entries, into_operators, set_of};
+use crate::entries::{Prefix, Suffix, give_back, give_back_entries, into_operators};
 use crate::expand::expand;
-use crate::ways::least_ring;
+use crate::states::{is_goal, reached, values_of};
+use crate::ways::first_ring;
 use cost_layers::Layers;
 use space_api::{Space, SpaceFault};
 use std::alloc::{AllocError, Global};
 
 /// Nothing is left to place, and the state is a goal.
-fn is_done<S: Space>(space: &mut S, entry: &Entry<S::Set>) -> Result<bool, SpaceFault>
-    requires { EntryOk (S.view space.old) entry.now }
-    ensures stays { Stays (S.view space.old) (S.view space.new) }
-    ensures ok { IfOk result (λ b. IsTrue b ↔ IsDone (S.view space.old) entry.now) }
+fn ends<S: Space>(alloc: Global, space: &S, suffix: &Suffix) -> Result<bool, SpaceFault>
+    requires { EntryOk (S.view space.now) (Entry.After suffix.now) }
+    ensures { IfOk result (λ b. IsTrue b ↔ IsDone (S.view space.now) (Entry.After suffix.now)) }
+{
+    if suffix.cost != 0 {
+        return Ok(false);
+    }
+    let values = values_of(alloc, space, &suffix.state)?;
+    Ok(is_goal(space, &suffix.state, &values))
+}
+
+/// Whether the operators of the entry are a plan.
+fn is_done<S: Space>(alloc: Global, space: &S, entry: &Entry<S::Set>) -> Result<bool, SpaceFault>
+    requires { EntryOk (S.view space.now) entry.now }
+    ensures { IfOk result (λ b. IsTrue b ↔ IsDone (S.view space.now) entry.now) }
 {
     match entry {
         Entry::Before(_) => Ok(false),
-        Entry::After(suffix) => {
-            if suffix.cost != 0 {
-                return Ok(false);
-            }
-            let goals = space.goal_in(suffix.set)?;
-            let empty = space.is_empty(goals);
-            space.forget(goals);
-            Ok(!empty)
-        }
+        Entry::After(suffix) => ends(alloc, space, suffix),
     }
 }
 
-/// The one state that the operators reach.
-fn reached<S: Space>(space: &mut S, operators: &[u32]) -> Result<S::Set, SpaceFault>
-    requires { AreOperators (S.view space.old).system operators.now }
-    ensures kept { Kept (S.view space.old) (S.view space.new) }
-    ensures ok { IfOk result (Gives (S.view space.old) (S.view space.new) (Runs (S.view space.old).system
-        (S.view space.old).system.initial operators.now)) }
-    ensures err { OnErr result (Stays (S.view space.old) (S.view space.new)) }
+/// Nothing is left before the prefix, and it may begin in the initial state.
+fn starts<S: Space>(space: &S, prefix: &Prefix<S::Set>) -> bool
+    requires { EntryOk (S.view space.now) (Entry.Before prefix.now) }
+    ensures { IsTrue result ↔ Starts (S.view space.now) prefix.now }
 {
-    let mut set = space.init()?;
-    'operators: for op in operators {
-        match space.image_op(*op, set) {
-            Ok(next) => {
-                space.forget(set);
-                set = next;
-            }
-            Err(fault) => {
-                space.forget(set);
-                return Err(fault);
-            }
-        }
-    }
-    Ok(set)
+    prefix.cost == 0 && space.has_init(prefix.set)
 }
 
-/// The suffix that begins where the prefix is whole, at this state.
-fn begin_at<S: Space>(
+/// The suffix that begins where the prefix is whole.
+fn begin<S: Space>(
     alloc: Global,
-    space: &mut S,
+    space: &S,
     back: &Layers<S::Set>,
     prefix: &Prefix<S::Set>,
-    set: S::Set,
-) -> Result<Suffix<S::Set>, SpaceFault>
-    requires back { Held (S.view space.old) back.now }
-    requires set { Valid (S.view space.old) set }
-    ensures stays { Stays (S.view space.old) (S.view space.new) }
-    ensures ok { IfOk result (Begins (S.view space.old) back.now prefix.now set) }
+) -> Result<Suffix, SpaceFault>
+    requires back { Held (S.view space.now) back.now }
+    requires prefix { EntryOk (S.view space.now) (Entry.Before prefix.now) }
+    requires starts { Starts (S.view space.now) prefix.now }
+    ensures { IfOk result (Begun (S.view space.now) back.now prefix.now) }
 {
-    let ring = least_ring(space, back, prefix.after, set)?;
+    let state = reached(alloc, space, &prefix.operators)?;
+    let ring = first_ring(space, back, prefix.after, &state);
     let operators = Vec::from_slice(alloc, &prefix.operators)?;
     Ok(Suffix {
-        set,
+        state,
         cost: prefix.after,
         ring,
         operators,
     })
 }
 
-/// Adds the suffix that begins where the prefix is whole. Want of memory leaves the entries and all sets as they were.
-fn add_begun<S: Space>(
+/// The suffix that begins, where the entry is a prefix that is whole.
+fn begin_if_whole<S: Space>(
     alloc: Global,
-    space: &mut S,
-    back: &Layers<S::Set>,
-    prefix: &Prefix<S::Set>,
-    set: S::Set,
-    entries: &mut Vec<Entry<S::Set>>,
-) -> Result<(), SpaceFault>
-    requires back { Held (S.view space.old) back.now }
-    requires set { Valid (S.view space.old) set }
-    ensures stays { Stays (S.view space.old) (S.view space.new) }
-    ensures ok { OnOk result ((c : Suffix S.Set) × Begins (S.view space.old) back.now prefix.now set c
-        × (entries.new.items ≡ entries.old.items ++ Entry.After c ∷ [])) }
-    ensures err { OnErr result (entries.new.items ≡ entries.old.items) }
-{
-    let suffix = begin_at(alloc, space, back, prefix, set)?;
-    entries.push(Entry::After(suffix))?;
-    Ok(())
-}
-
-/// Adds the suffix that begins where the prefix is whole, with a new set. A refusal leaves all as it was.
-fn begin<S: Space>(
-    alloc: Global,
-    space: &mut S,
-    back: &Layers<S::Set>,
-    prefix: &Prefix<S::Set>,
-    entries: &mut Vec<Entry<S::Set>>,
-) -> Result<(), SpaceFault>
-    requires back { Held (S.view space.old) back.now }
-    requires prefix { EntryOk (S.view space.old) (Entry.Before prefix.now) }
-    ensures kept { Kept (S.view space.old) (S.view space.new) }
-    ensures ok { OnOk result ((c : Suffix S.Set) × Begun (S.view space.old) (S.view space.new) back.now
-        prefix.now c × (entries.new.items ≡ entries.old.items ++ Entry.After c ∷ [])) }
-    ensures stays { OnErr result (Stays (S.view space.old) (S.view space.new)) }
-    ensures err { OnErr result (entries.new.items ≡ entries.old.items) }
-{
-    let set = reached(space, &prefix.operators)?;
-    match add_begun(alloc, space, back, prefix, set, entries) {
-        Ok(()) => Ok(()),
-        Err(fault) => {
-            space.forget(set);
-            Err(fault)
-        }
-    }
-}
-
-/// The prefix is whole, and begins in the initial state.
-fn starts<S: Space>(space: &S, prefix: &Prefix<S::Set>) -> bool
-    requires { Valid (S.view space.now) prefix.now.set }
-    ensures { IsTrue result ↔ Starts (S.view space.now) prefix.now }
-{
-    prefix.cost == 0 && space.has_init(prefix.set)
-}
-
-/// The entries with the suffix that begins, or all are given back.
-fn begun<S: Space>(
-    alloc: Global,
-    space: &mut S,
-    back: &Layers<S::Set>,
-    prefix: &Prefix<S::Set>,
-    entries: Vec<Entry<S::Set>>,
-) -> Result<Vec<Entry<S::Set>>, SpaceFault>
-    requires back { Held (S.view space.old) back.now }
-    requires prefix { EntryOk (S.view space.old) (Entry.Before prefix.now) }
-    requires made { (u : View S.Set) × Makes u (S.view space.old) entries.items }
-    ensures kept { IfOk result (λ es. Kept (S.view space.old) (S.view space.new)) }
-    ensures ok { IfOk result (λ es. (c : Suffix S.Set) × Begun (S.view space.old) (S.view space.new) back.now
-        prefix.now c × (es.items ≡ entries.items ++ Entry.After c ∷ [])) }
-    ensures back { OnErr result ((u : View S.Set) → Makes u (S.view space.old) entries.items
-        → Stays u (S.view space.new)) }
-{
-    let mut entries = entries;
-    match begin(alloc, space, back, prefix, &mut entries) {
-        Ok(()) => Ok(entries),
-        Err(fault) => {
-            give_back_entries(space, &entries);
-            Err(fault)
-        }
-    }
-}
-
-/// The entries, and last the suffix that begins where a prefix is whole; or all are given back.
-fn with_begun<S: Space>(
-    alloc: Global,
-    space: &mut S,
+    space: &S,
     back: &Layers<S::Set>,
     entry: &Entry<S::Set>,
-    entries: Vec<Entry<S::Set>>,
-) -> Result<Vec<Entry<S::Set>>, SpaceFault>
-    requires back { Held (S.view space.old) back.now }
-    requires entry { EntryOk (S.view space.old) entry.now }
-    requires made { (u : View S.Set) × Makes u (S.view space.old) entries.items }
-    ensures ok { IfOk result (λ es. BeginsToo (S.view space.old) (S.view space.new) back.now entry.now
-        entries.items es.items) }
-    ensures back { OnErr result ((u : View S.Set) → Makes u (S.view space.old) entries.items
-        → Stays u (S.view space.new)) }
+) -> Result<Option<Suffix>, SpaceFault>
+    requires back { Held (S.view space.now) back.now }
+    requires entry { EntryOk (S.view space.now) entry.now }
+    ensures { IfOk result (BeginsToo (S.view space.now) back.now entry.now) }
 {
     match entry {
-        Entry::After(_) => Ok(entries),
+        Entry::After(_) => Ok(None),
         Entry::Before(prefix) => {
             if starts(space, prefix) {
-                begun(alloc, space, back, prefix, entries)
+                Ok(Some(begin(alloc, space, back, prefix)?))
             } else {
-                Ok(entries)
+                Ok(None)
             }
         }
     }
 }
 
-/// What follows an entry: its children, the falling ones last, and last of all the suffix that begins. A refusal gives back
-/// what was made.
+/// The entries, and last the suffix that begins; or all are given back.
+fn with_begun<S: Space>(
+    space: &mut S,
+    entries: Vec<Entry<S::Set>>,
+    begun: Option<Suffix>,
+) -> Result<Vec<Entry<S::Set>>, SpaceFault>
+    requires made { (u : View S.Set) × Makes u (S.view space.old) entries.items }
+    ensures ok { IfOk result (λ es. es.items ≡ entries.items ++ begun_entries begun) }
+    ensures stays { IfOk result (λ es. S.view space.new ≡ S.view space.old) }
+    ensures back { OnErr result ((u : View S.Set) → Makes u (S.view space.old) entries.items
+        → Stays u (S.view space.new)) }
+{
+    let mut entries = entries;
+    match begun {
+        None => Ok(entries),
+        Some(suffix) => match entries.push(Entry::After(suffix)) {
+            Ok(()) => Ok(entries),
+            Err(_) => {
+                give_back_entries(space, &entries);
+                Err(AllocError)
+            }
+        },
+    }
+}
+
+/// What follows an entry: its children, the falling ones last, and last of all the suffix that begins. A refusal
+/// gives back what was made.
 fn follow<S: Space>(
     alloc: Global,
     space: &mut S,
@@ -220,9 +146,10 @@ fn follow<S: Space>(
         entry.now next.entries.items next.done) }
     ensures err { OnErr result (Stays (S.view space.old) (S.view space.new)) }
 {
-    let done = is_done(space, entry)?;
+    let done = is_done(alloc, space, entry)?;
+    let begun = begin_if_whole(alloc, space, back, entry)?;
     let made = expand(alloc, space, front, back, entry)?;
-    let entries = with_begun(alloc, space, back, entry, made)?;
+    let entries = with_begun(space, made, begun)?;
     Ok(Next { entries, done })
 }
 
@@ -233,8 +160,8 @@ fn plan_of(done: bool, operators: Vec<u32>) -> Option<Vec<u32>>
     if done { Some(operators) } else { None }
 }
 
-/// Puts what follows in the place of the last entry, and gives its set back. Want of memory leaves the queue as it was, and
-/// gives back what was made.
+/// Puts what follows in the place of the last entry, and gives its set back. Want of memory leaves the queue as it
+/// was, and gives back what was made.
 fn replace_last<S: Space>(
     space: &mut S,
     queue: &mut Vec<Entry<S::Set>>,
@@ -254,7 +181,7 @@ fn replace_last<S: Space>(
     match queue.append(&mut entries) {
         Ok(()) => {
             let entry = queue.remove(last);
-            space.forget(set_of(&entry));
+            give_back(space, &entry);
             let operators = into_operators(entry);
             Ok(plan_of(done, operators))
         }

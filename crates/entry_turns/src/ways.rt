@@ -1,17 +1,15 @@
-//! Where operators of one cost lead on from an entry, and the set of a child.
+//! Where operators of one cost lead on from an entry, and the numbers of rings.
 
-ghost use Rattle.std.specs.Prelude.{◌≡◌, ◌≤◌, ◌-◌, ◌<◌, ◌^◌, ◌↔◌, ℕ, Some, IsTrue, IfOk, OnErr, MatchOption};
-ghost use Rattle.task_system.specs.System.{State, Leads};
+ghost use Rattle.std.specs.Prelude.{◌≡◌, ◌≤◌, ◌-◌, ◌<◌, ◌^◌, ◌↔◌, ℕ, Some, IsTrue, IfOk};
+ghost use Rattle.symk_task.specs.Variables.{IsState};
 ghost use Rattle.space_api.specs.View.{View, Valid, Has};
-ghost use Rattle.space_api.specs.Frames.{Kept, NoMore, Stays};
-ghost use Rattle.cost_layers.specs.Layers.{Held, whole_at};
-ghost use Rattle.entry_turns.specs.Entries.{set_in, cost_in};
-ghost use Rattle.entry_turns.specs.Ways.{AreLeading, IsLeast, IsWay, WayIs, Found};
+ghost use Rattle.space_api.specs.Frames.{Stays};
+ghost use Rattle.cost_layers.specs.Layers.{Held, whole_at, Stands as StandsIn};
+ghost use Rattle.entry_turns.specs.Ways.{IsLeast, IsFirst, IsLayerTo, IsWay};
 
-use crate::entries::{Entry, Prefix, Suffix, cost_of};
 use cost_layers::Layers;
-use space_api::{Space, SpaceFault, meets};
-use std::alloc::Global;
+use space_api::{Space, SpaceFault};
+use symk_task::State;
 
 /// Whether operators of a cost may lead on: the layer into which they do, or None where none does.
 #[derive(Clone, Copy)]
@@ -20,23 +18,8 @@ pub(crate) struct Way<T: Copy> {
     pub(crate) layer: Option<T>,
 }
 
-/// The operators that may lead on from the entry, rising: each that does, and perhaps others.
-pub(crate) fn leading<S: Space>(
-    alloc: Global,
-    space: &S,
-    entry: &Entry<S::Set>,
-) -> Result<Vec<u32>, SpaceFault>
-    requires { Valid (S.view space.now) (set_in entry.now) }
-    ensures { IfOk result (λ ops. AreLeading (S.view space.now) entry.now ops.items) }
-{
-    match entry {
-        Entry::Before(prefix) => space.operators_into(alloc, prefix.set),
-        Entry::After(suffix) => space.operators_from(alloc, suffix.set),
-    }
-}
-
 /// The number of the first ring of this cost that has a state of the set, 0 where none has.
-pub fn least_ring<S: Space>(
+pub(crate) fn least_ring<S: Space>(
     space: &mut S,
     layers: &Layers<S::Set>,
     cost: u64,
@@ -57,121 +40,71 @@ pub fn least_ring<S: Space>(
     }
 }
 
-/// The layer of this cost on the side to which the entry grows.
-fn layer_for<T: Copy>(front: &Layers<T>, back: &Layers<T>, entry: &Entry<T>, w: u64) -> Option<T>
-    ensures { WayIs front.now back.now entry.now w result }
+/// Whether the ring of this number has the state.
+fn in_ring<S: Space>(space: &S, layers: &Layers<S::Set>, cost: u64, i: u64, state: &State) -> bool
+    requires held { Held (S.view space.now) layers.now }
+    requires state { IsState (S.view space.now).task state.now }
+    ensures { IsTrue result ↔ StandsIn (S.view space.now) layers.now cost i state.now }
 {
-    let cost = cost_of(entry);
-    if w > cost {
-        return None;
-    }
-    match entry {
-        Entry::Before(_) => front.layer(cost - w),
-        Entry::After(_) => back.layer(cost - w),
+    match layers.ring(cost, i) {
+        Some(ring) => space.has(ring, state),
+        None => false,
     }
 }
 
+/// The number of the first ring of this cost that has the state, 0 where none has. It takes no memory.
+pub(crate) fn first_ring<S: Space>(
+    space: &S,
+    layers: &Layers<S::Set>,
+    cost: u64,
+    state: &State,
+) -> u64
+    requires held { Held (S.view space.now) layers.now }
+    requires state { IsState (S.view space.now).task state.now }
+    ensures { IsFirst (S.view space.now) layers.now cost state.now result }
+{
+    let rings = layers.rings(cost);
+    if rings < 2 {
+        return 0;
+    }
+    for i in 0..rings {
+        if in_ring(space, layers, cost, i, state) {
+            return i;
+        }
+    }
+    0
+}
+
+/// The layer of what is left of the cost after `w`.
+fn layer_to<T: Copy>(layers: &Layers<T>, cost: u64, w: u64) -> Option<T>
+    ensures { IsLayerTo layers.now cost w result }
+{
+    if w > cost {
+        return None;
+    }
+    layers.layer(cost - w)
+}
+
 /// The layer of operators of cost `w`. Trying an operator is the test whether it leads on.
-pub(crate) fn way_for<T: Copy>(
-    front: &Layers<T>,
-    back: &Layers<T>,
-    entry: &Entry<T>,
-    w: u64,
-) -> Way<T>
+pub(crate) fn way_for<T: Copy>(layers: &Layers<T>, cost: u64, w: u64) -> Way<T>
     ensures cost { result.cost ≡ w }
-    ensures way { (v : View T) → IsWay v front.now back.now entry.now result }
+    ensures way { IsWay layers.now cost result }
 {
     Way {
         cost: w,
-        layer: layer_for(front, back, entry, w),
+        layer: layer_to(layers, cost, w),
     }
 }
 
 /// The same, where the way of another cost or of this one is at hand.
-pub(crate) fn way_after<T: Copy>(
-    front: &Layers<T>,
-    back: &Layers<T>,
-    entry: &Entry<T>,
-    last: Way<T>,
-    w: u64,
-) -> Way<T>
-    requires { (v : View T) → IsWay v front.now back.now entry.now last }
+pub(crate) fn way_after<T: Copy>(layers: &Layers<T>, cost: u64, last: Way<T>, w: u64) -> Way<T>
+    requires { IsWay layers.now cost last }
     ensures cost { result.cost ≡ w }
-    ensures way { (v : View T) → IsWay v front.now back.now entry.now result }
+    ensures way { IsWay layers.now cost result }
 {
     if last.cost == w {
         last
     } else {
-        way_for(front, back, entry, w)
-    }
-}
-
-/// The states of the layer from which the operator leads into the set. None where there is none.
-fn set_before<S: Space>(
-    space: &mut S,
-    prefix: &Prefix<S::Set>,
-    op: u32,
-    within: S::Set,
-) -> Result<Option<S::Set>, SpaceFault>
-    requires set { Valid (S.view space.old) prefix.now.set }
-    requires within { Valid (S.view space.old) within }
-    requires op { op < (S.view space.old).system.operators }
-    ensures kept { Kept (S.view space.old) (S.view space.new) }
-    ensures ok { IfOk result (Found (S.view space.old) (S.view space.new) (Entry.Before prefix.now) op within) }
-    ensures err { OnErr result (Stays (S.view space.old) (S.view space.new)) }
-{
-    let found = space.pre_op(op, prefix.set, within)?;
-    if space.is_empty(found) {
-        space.forget(found);
-        return Ok(None);
-    }
-    Ok(Some(found))
-}
-
-/// The state to which the operator leads. None where it doesn't lead into the layer.
-fn set_after<S: Space>(
-    space: &mut S,
-    suffix: &Suffix<S::Set>,
-    op: u32,
-    within: S::Set,
-) -> Result<Option<S::Set>, SpaceFault>
-    requires set { Valid (S.view space.old) suffix.now.set }
-    requires within { Valid (S.view space.old) within }
-    requires op { op < (S.view space.old).system.operators }
-    ensures kept { Kept (S.view space.old) (S.view space.new) }
-    ensures ok { IfOk result (Found (S.view space.old) (S.view space.new) (Entry.After suffix.now) op within) }
-    ensures err { OnErr result (Stays (S.view space.old) (S.view space.new)) }
-{
-    let image = space.image_op(op, suffix.set)?;
-    match meets(space, image, within) {
-        Ok(true) => Ok(Some(image)),
-        Ok(false) => {
-            space.forget(image);
-            Ok(None)
-        }
-        Err(fault) => {
-            space.forget(image);
-            Err(fault)
-        }
-    }
-}
-
-/// The set of the child by this operator. None where there is no child.
-pub(crate) fn child_set<S: Space>(
-    space: &mut S,
-    entry: &Entry<S::Set>,
-    op: u32,
-    within: S::Set,
-) -> Result<Option<S::Set>, SpaceFault>
-    requires set { Valid (S.view space.old) (set_in entry.now) }
-    requires within { Valid (S.view space.old) within }
-    requires op { op < (S.view space.old).system.operators }
-    ensures kept { Kept (S.view space.old) (S.view space.new) }
-    ensures ok { IfOk result (Found (S.view space.old) (S.view space.new) entry.now op within) }
-    ensures err { OnErr result (Stays (S.view space.old) (S.view space.new)) }
-{
-    match entry {
-        Entry::Before(prefix) => set_before(space, prefix, op, within),
-        Entry::After(suffix) => set_after(space, suffix, op, within),
+        way_for(layers, cost, w)
     }
 }

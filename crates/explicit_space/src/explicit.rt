@@ -119,7 +119,7 @@ impl<'a> ExplicitSpace<'a> {
         fact_states(self.alloc, self.task, fact, self.members(a))
     }
 
-    fn united(&self, a: usize, b: usize) -> Result<BTreeSet<State>, Memory>
+    fn union_of(&self, a: usize, b: usize) -> Result<BTreeSet<State>, Memory>
         requires a { Valid (seen self.now) a }
         requires b { Valid (seen self.now) b }
         ensures states { IfOk result (AreStates self.now.task) }
@@ -128,7 +128,7 @@ impl<'a> ExplicitSpace<'a> {
         union(self.alloc, self.members(a), self.members(b))
     }
 
-    fn common(&self, a: usize, b: usize) -> Result<BTreeSet<State>, Memory>
+    fn intersection_of(&self, a: usize, b: usize) -> Result<BTreeSet<State>, Memory>
         requires a { Valid (seen self.now) a }
         requires b { Valid (seen self.now) b }
         ensures states { IfOk result (AreStates self.now.task) }
@@ -137,7 +137,7 @@ impl<'a> ExplicitSpace<'a> {
         intersection(self.alloc, self.members(a), self.members(b))
     }
 
-    fn left(&self, a: usize, b: usize) -> Result<BTreeSet<State>, Memory>
+    fn difference_of(&self, a: usize, b: usize) -> Result<BTreeSet<State>, Memory>
         requires a { Valid (seen self.now) a }
         requires b { Valid (seen self.now) b }
         ensures states { IfOk result (AreStates self.now.task) }
@@ -146,7 +146,7 @@ impl<'a> ExplicitSpace<'a> {
         difference(self.alloc, self.members(a), self.members(b))
     }
 
-    fn reached(&self, op: u32, a: usize) -> Result<BTreeSet<State>, Memory>
+    fn image_of(&self, op: u32, a: usize) -> Result<BTreeSet<State>, Memory>
         requires a { Valid (seen self.now) a }
         requires op { op < (seen self.now).system.operators }
         ensures states { IfOk result (AreStates self.now.task) }
@@ -155,7 +155,7 @@ impl<'a> ExplicitSpace<'a> {
         image(self.alloc, self.task, &self.rules, op, self.members(a))
     }
 
-    fn reached_at(&self, cost: u64, a: usize) -> Result<BTreeSet<State>, Memory>
+    fn cost_image_of(&self, cost: u64, a: usize) -> Result<BTreeSet<State>, Memory>
         requires { Valid (seen self.now) a }
         ensures states { IfOk result (AreStates self.now.task) }
         ensures ok { IfOk result (λ set. HasThose set (CostImage (seen self.now) cost a)) }
@@ -163,7 +163,7 @@ impl<'a> ExplicitSpace<'a> {
         cost_image(self.alloc, self.task, &self.rules, cost, self.members(a))
     }
 
-    fn leading(&self, op: u32, a: usize, within: usize) -> Result<BTreeSet<State>, Memory>
+    fn preimage_of(&self, op: u32, a: usize, within: usize) -> Result<BTreeSet<State>, Memory>
         requires a { Valid (seen self.now) a }
         requires within { Valid (seen self.now) within }
         requires op { op < (seen self.now).system.operators }
@@ -180,7 +180,12 @@ impl<'a> ExplicitSpace<'a> {
         )
     }
 
-    fn leading_at(&self, cost: u64, a: usize, within: usize) -> Result<BTreeSet<State>, Memory>
+    fn cost_preimage_of(
+        &self,
+        cost: u64,
+        a: usize,
+        within: usize,
+    ) -> Result<BTreeSet<State>, Memory>
         requires a { Valid (seen self.now) a }
         requires within { Valid (seen self.now) within }
         ensures states { IfOk result (AreStates self.now.task) }
@@ -233,37 +238,37 @@ impl<'a> Space for ExplicitSpace<'a> {
     }
 
     fn unite(&mut self, a: usize, b: usize) -> Result<usize, SpaceFault> {
-        let members = self.united(a, b)?;
+        let members = self.union_of(a, b)?;
         self.add(members)
     }
 
     fn meet(&mut self, a: usize, b: usize) -> Result<usize, SpaceFault> {
-        let members = self.common(a, b)?;
+        let members = self.intersection_of(a, b)?;
         self.add(members)
     }
 
     fn minus(&mut self, a: usize, b: usize) -> Result<usize, SpaceFault> {
-        let members = self.left(a, b)?;
+        let members = self.difference_of(a, b)?;
         self.add(members)
     }
 
     fn image_cost(&mut self, w: u64, a: usize) -> Result<usize, SpaceFault> {
-        let members = self.reached_at(w, a)?;
+        let members = self.cost_image_of(w, a)?;
         self.add(members)
     }
 
     fn image_op(&mut self, op: u32, a: usize) -> Result<usize, SpaceFault> {
-        let members = self.reached(op, a)?;
+        let members = self.image_of(op, a)?;
         self.add(members)
     }
 
     fn pre_cost(&mut self, w: u64, a: usize, within: usize) -> Result<usize, SpaceFault> {
-        let members = self.leading_at(w, a, within)?;
+        let members = self.cost_preimage_of(w, a, within)?;
         self.add(members)
     }
 
     fn pre_op(&mut self, op: u32, a: usize, within: usize) -> Result<usize, SpaceFault> {
-        let members = self.leading(op, a, within)?;
+        let members = self.preimage_of(op, a, within)?;
         self.add(members)
     }
 
@@ -281,6 +286,11 @@ impl<'a> Space for ExplicitSpace<'a> {
         0
     }
 
+    /// Work isn't counted: the answer is 0.
+    fn work(&self) -> u64 {
+        0
+    }
+
     /// There is nothing to throw away: the answer is Ok and nothing changes.
     fn tidy(&mut self) -> Result<(), SpaceFault> {
         Ok(())
@@ -292,6 +302,10 @@ impl<'a> Space for ExplicitSpace<'a> {
 
     fn same(&self, a: usize, b: usize) -> bool {
         is_subset(self.members(a), self.members(b)) && is_subset(self.members(b), self.members(a))
+    }
+
+    fn has(&self, a: usize, state: &State) -> bool {
+        self.members(a).contains(state)
     }
 
     fn has_init(&self, a: usize) -> bool {
@@ -324,5 +338,13 @@ impl<'a> Space for ExplicitSpace<'a> {
     fn operators_from(&self, alloc: Global, a: usize) -> Result<Vec<u32>, SpaceFault> {
         let _ = a;
         all_operators(alloc, self.task.operators())
+    }
+
+    fn task(&self) -> &Task {
+        self.task
+    }
+
+    fn rules(&self) -> &Rules {
+        &self.rules
     }
 }

@@ -12,7 +12,8 @@ ghost use Rattle.explicit_space.specs.Spent.{Spends};
 
 use space_api::{Space, SpaceFault};
 use std::alloc::{AllocError, Global};
-use symk_task::Fact;
+use symk_task::{Fact, State, Task};
+use task_run::Rules;
 
 /// A space over another, for callers who want to see what stands after a refusal.
 ///
@@ -199,6 +200,10 @@ impl<S: Space> Space for FuseSpace<S> {
         self.inner.last()
     }
 
+    fn work(&self) -> u64 {
+        self.inner.work()
+    }
+
     fn tidy(&mut self) -> Result<(), SpaceFault>
         ensures stays { Stays (S.view self.old.inner) (S.view self.new.inner) }
         ensures ok { OnOk result (Tidied (S.needs self.old.inner) (S.needs self.new.inner)
@@ -217,6 +222,10 @@ impl<S: Space> Space for FuseSpace<S> {
 
     fn same(&self, a: S::Set, b: S::Set) -> bool {
         self.inner.same(a, b)
+    }
+
+    fn has(&self, a: S::Set, state: &State) -> bool {
+        self.inner.has(a, state)
     }
 
     fn has_init(&self, a: S::Set) -> bool {
@@ -245,5 +254,13 @@ impl<S: Space> Space for FuseSpace<S> {
 
     fn operators_from(&self, alloc: Global, a: S::Set) -> Result<Vec<u32>, SpaceFault> {
         self.inner.operators_from(alloc, a)
+    }
+
+    fn task(&self) -> &Task {
+        self.inner.task()
+    }
+
+    fn rules(&self) -> &Rules {
+        self.inner.rules()
     }
 }

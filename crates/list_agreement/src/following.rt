@@ -112,11 +112,12 @@ pub fn give_alike(some: &[Plan], others: &[Plan]) -> bool {
     true
 }
 
-/// Whether a list of a mode, for which `count` plans were asked, ends as it must beside the list of all plans, of which `known`
-/// are of the mode and count as different ones.
+/// Whether a list of a mode, for which `count` plans were asked, ends as it must beside the list of all plans,
+/// of which `known` are of the mode and count as different ones.
 ///
-/// Where all plans in range are listed, exactly those are, as many as were asked for; else no fewer. The plans that cost too
-/// much may all visit a state twice, so a list of loopless plans may be exhausted where the list of all plans is not.
+/// Where all plans in range are listed, exactly those are, as many as were asked for; else no fewer. The plans
+/// that cost too much may all visit a state twice, so a list of loopless plans may be exhausted where the list
+/// of all plans is not.
 fn ends_well(all: Ending, known: usize, mode: Mode, count: usize, list: &Listing) -> bool {
     let listed = list.plans.len();
     let sure = known.min(count);
@@ -135,8 +136,8 @@ fn ends_well(all: Ending, known: usize, mode: Mode, count: usize, list: &Listing
 
 /// Whether the list of the mode, for which `count` plans were asked, follows from the list of all plans and its firsts.
 ///
-/// The firsts of the mode cost as much, one by one, as the cheapest of the mode: each cheaper than the last of all plans is
-/// among these. So the costs of both lists begin alike.
+/// The firsts of the mode cost as much, one by one, as the cheapest of the mode: each cheaper than the last of
+/// all plans is among these. So the costs of both lists begin alike.
 pub fn follows(
     alloc: Global,
     mode: Mode,

@@ -1,9 +1,10 @@
 //! Lists of every engine, of tasks that seeds draw, beside one another.
 //!
-//! Of each task a long list of all plans is taken from one engine. The lists of every engine over either space, by each choice of
-//! the side that goes on, are good, cost the same and end alike over both spaces, and agree with what follows from the long
-//! list: a list of loopless plans with its loopless members, and a list of classes of rearrangements with the first of each
-//! class. It stands on `plan_listing` for the lists and on `task_draws` for the tasks.
+//! Of each task a long list of all plans is taken from one engine. The lists of every engine over either space,
+//! by each choice of the side that goes on, are good, cost the same and end alike over both spaces, and agree
+//! with what follows from the long list: a list of loopless plans with its loopless members, and a list of
+//! classes of rearrangements with the first of each class. It stands on `plan_listing` for the lists and on
+//! `task_draws` for the tasks.
 #![tactic(auto)]
 
 #[cfg(test)]

@@ -1,5 +1,5 @@
 -- One call, by how it ends.
-use Rattle.std.proofs.Common.{◌≡◌, ◌≢◌, ℕ, ◌⊎◌, inl, inr, Bool, true, false, List, Option, Some, None, Result, Ok, Err, refl, sym, ap, subst}
+use Rattle.std.proofs.Common.{◌≡◌, ℕ, ◌⊎◌, inl, inr, Bool, true, false, List, Option, Some, None, Result, Ok, Err, refl, sym, ap, subst}
 use Rattle.std.specs.Bool.{Decides}
 use Rattle.task_system.specs.System.{System, IsPlanOf, are_equal}
 use Rattle.symk_task.specs.declared.parts.Mode.{Mode}
@@ -9,7 +9,7 @@ use Rattle.space_api.specs.Frames.{Stays as SetsStay}
 use Rattle.lazy_plans.specs.Law.{Gave, Stays, Stops, Turned, Ended, Last, last_of}
 use Rattle.lazy_plans.specs.declared.stop.Stop.{Stop}
 use Rattle.lazy_plans.specs.declared.stop.Stop.TheVariants.{Memory}
-use Rattle.lazy_plans.proofs.Given.{turned_from, ended_by, again_none, again_stop}
+use Rattle.lazy_plans.proofs.Given.{turned_from, ended_by}
 use Rattle.lazy_plans.proofs.Told.{equal_is, equal_self}
 use Rattle.cost_search.specs.Directed.{Backward}
 use Rattle.cost_search.proofs.Directing.{directed_kept}
@@ -155,21 +155,3 @@ module _ {Set : Type 0} (v w : View Set) (h : Backward Set) (nodes grown : List 
 -- each valid set is one of the search back, or that of a prefix on the way to an entry of the queue
 pub keeps_all : {Set : Type 0} (v : View Set) (b : Backward Set) (nodes : List (Node Set)) (es : List Entry) → IsReady v b nodes es → (a : Set) → Valid v a → IsBeneath b a ⊎ IsOnWay nodes es a
 keeps_all v b nodes es z a h = elim (z.keeps a h) [ inl o ↦ inl o | inr t ↦ inr (on_way nodes es a z.tree.linked z.counted t) ]
-
--- a call of an engine that has ended
-pub repeated : {Set : Type 0} (v : View Set) (b : Backward Set) (nodes : List (Node Set)) (most : Option ℕ) (es : List Entry) (held : Option (List ℕ)) (ended : Last) (r : Result (Option (List ℕ)) Stop) → IsSound v b nodes most es held ended → ended ≢ None → ended ≡ last_of r → Answered v v most (Owes v.system (prefixes nodes es) held) (Owes v.system (prefixes nodes es) held) (IsSound v b nodes most es held ended) ended r
-repeated v b nodes most es held ended (Ok (Some p)) e some is = absurd (some is)
-repeated v b nodes most es held ended (Ok None) e some is = record {
-  engine = e;
-  system = refl;
-  law = again_none v.system Loopless most (Owes v.system (prefixes nodes es) held) (subst (λ (l : Last). Ended v.system most (Owes v.system (prefixes nodes es) held) l) is e.said);
-  last = is;
-  room = e.room is;
-}
-repeated v b nodes most es held ended (Err stop) e some is = record {
-  engine = e;
-  system = refl;
-  law = again_stop v.system Loopless most (Owes v.system (prefixes nodes es) held) stop (subst (λ (l : Last). Ended v.system most (Owes v.system (prefixes nodes es) held) l) is e.said);
-  last = is;
-  room = tt;
-}

@@ -17,10 +17,10 @@ use Rattle.run_graph.proofs.RightLayers.{complete}
 use Rattle.cost_layers.specs.Layers.{known_of, beyond_of, Stands}
 use Rattle.layer_steps.specs.Opening.{IsOpen}
 use Rattle.cost_search.specs.Search.{layers_of, within_of, seen_of}
-use Rattle.cost_search.specs.Meeting.{IsLeastAt, NoneMeetsBelow}
+use Rattle.cost_search.specs.Meeting.{NoneMeetsFrom, IsFirstFrom, IsLeastAt}
 use Rattle.cost_search.specs.Directed.{Backward, IsBackward, search_of}
 use Rattle.prefix_tree.specs.Tree.{One}
-use Rattle.loopless.specs.Left.{IsWide, IsReached, CostsAtLeast, NoneMeetsFrom, IsFirstFrom, LeadsNowhere}
+use Rattle.loopless.specs.Left.{IsWide, IsReached, CostsAtLeast, LeadsNowhere}
 
 walk_costs : (y : System) (p : List ℕ) → walk_cost (seen_from Back y) p ≡ cost_of y p
 walk_costs y [] = refl
@@ -66,9 +66,9 @@ module _ {Set : Type 0} (v : View Set) (b : Backward Set) (z : IsBackward v b) (
       (p.0, omega (arith, p.1, cost), p.2)
 
   -- no layer below n has the state
-  at_least : (set : Set) (s : State) (n : ℕ) → One v set s → IsReached v.system s → NoneMeetsBelow v (layers_of (search_of b)) set n → n ≤ known_of (layers_of (search_of b)) → CostsAtLeast v.system s n
+  at_least : (set : Set) (s : State) (n : ℕ) → One v set s → IsReached v.system s → NoneMeetsFrom v (layers_of (search_of b)) set 0 n → n ≤ known_of (layers_of (search_of b)) → CostsAtLeast v.system s n
   at_least set s n one r none low q t run goal = elim (less_or (cost_of v.system q) n) [
-    | inl less ↦ let l = layered s r q t run goal (omega (arith, less, low)) in absurd (none l.0 (omega (arith, l.1, less)) (s, l.2, (one.means s).1 refl))
+    | inl less ↦ let l = layered s r q t run goal (omega (arith, less, low)) in absurd (none l.0 (omega arith) (omega (arith, l.1, less)) (s, l.2, (one.means s).1 refl))
     | inr le ↦ le
   ]
 
@@ -82,8 +82,8 @@ module _ {Set : Type 0} (v : View Set) (b : Backward Set) (z : IsBackward v b) (
   known_small = settled.range
 
   -- a layer that costs less than what is left has not the state
-  from_low : (set : Set) (s : State) (low n : ℕ) → One v set s → CostsAtLeast v.system s low → NoneMeetsFrom v (layers_of (search_of b)) set low n → NoneMeetsBelow v (layers_of (search_of b)) set n
-  from_low set s low n one least none d lt m = elim (less_or d low) [
+  from_low : (set : Set) (s : State) (low n : ℕ) → One v set s → CostsAtLeast v.system s low → NoneMeetsFrom v (layers_of (search_of b)) set low n → NoneMeetsFrom v (layers_of (search_of b)) set 0 n
+  from_low set s low n one least none d up lt m = elim (less_or d low) [
     | inr ge ↦ none d ge lt m
     | inl less ↦
         let is : m.0 ≡ s = (one.means m.0).0 m.2 in
@@ -97,8 +97,8 @@ module _ {Set : Type 0} (v : View Set) (b : Backward Set) (z : IsBackward v b) (
   first_least set s low None one least h = from_low set s low (2 ^ 64) one least h
   first_least set s low (Some c) one least h = (h.0, from_low set s low c one least h.1)
 
-  fewer : (set : Set) (n m : ℕ) → n ≤ m → NoneMeetsBelow v (layers_of (search_of b)) set m → NoneMeetsBelow v (layers_of (search_of b)) set n
-  fewer set n m le none d lt = none d (omega (arith, lt, le))
+  fewer : (set : Set) (n m : ℕ) → n ≤ m → NoneMeetsFrom v (layers_of (search_of b)) set 0 m → NoneMeetsFrom v (layers_of (search_of b)) set 0 n
+  fewer set n m le none d up lt = none d up (omega (arith, lt, le))
 
   pub at_least_known : (set : Set) (s : State) → One v set s → IsReached v.system s → IsLeastAt v (layers_of (search_of b)) set None → CostsAtLeast v.system s (known_of (layers_of (search_of b)))
   at_least_known set s one r none = at_least set s (known_of (layers_of (search_of b))) one r (fewer set (known_of (layers_of (search_of b))) (2 ^ 64) known_small none) (omega arith)
@@ -108,4 +108,4 @@ module _ {Set : Type 0} (v : View Set) (b : Backward Set) (z : IsBackward v b) (
       let inside : ReachedInside Back v.system (Has v (within_of (search_of b))) s = (q, t, run_inside v.system (Has v (within_of (search_of b))) wide q s t r run goal, goal) in
       let in_some = (z.search.union s).0 (all s inside) in
       let under = settled.under in_some.0 in_some.1.0 s in_some.1.1 in
-      none in_some.0 (omega (arith, under, known_small)) (s, in_some.1, (one.means s).1 refl)
+      none in_some.0 (omega arith) (omega (arith, under, known_small)) (s, in_some.1, (one.means s).1 refl)

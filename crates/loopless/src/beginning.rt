@@ -15,8 +15,9 @@ use std::cmp::Reverse;
 use symk_task::Memory;
 
 impl<S: Space + Drop> LooplessPlans<S> {
-    /// All loopless plans of the space's system that cost at most `most`, where it is given. No plan is taken yet: each one
-    /// pends. The search back is kept to `within`, and to the states that are reached where these are soon found.
+    /// All loopless plans of the space's system that cost at most `most`, where it is given. No plan is taken
+    /// yet: each one pends. The search back is kept to `within`, and to the states that are reached where these
+    /// are soon found.
     ///
     /// The caller knows that `within` has each useful state and alone is valid.
     fn begin(
@@ -69,7 +70,8 @@ impl<S: Space + Drop> LooplessPlans<S> {
 
     /// All loopless plans of the space's system. No plan is taken yet: each one pends.
     ///
-    /// The search back is kept to `within`, which the caller knows to have each useful state and to be the one valid set.
+    /// The search back is kept to `within`, which the caller knows to have each useful state and to be the one
+    /// valid set.
     pub fn new_within(alloc: Global, space: S, within: S::Set) -> Result<LooplessPlans<S>, Memory>
         requires within { Valid (S.view space) within }
         requires alone { HasAlone (S.view space) within }

@@ -37,8 +37,8 @@ use std::alloc::Global;
 use std::sync::ledger::Ledger;
 
 impl<S: Space> LooplessPlans<S> {
-    /// Asks for the next plan, and tidies the space before it is handed out. Where that is refused the plan is held, and the
-    /// engine stops.
+    /// Asks for the next plan, and tidies the space before it is handed out. Where that is refused the plan is
+    /// held, and the engine stops.
     fn ask<L: Ledger>(&mut self, alloc: Global, steps: &mut Steps<L>) -> Result<Option<Plan>, Stop>
         requires engine { IsEngine S.view self.old }
         requires goes_on { ended_of self.old ≡ None }
@@ -91,8 +91,9 @@ impl<S: Space> LazyPlans for LooplessPlans<S> {
 
     ghost last = { λ x. ended_of x };
 
-    /// The next plan. One turn is one step. After each call, also one that is refused, every valid set is one of the search back,
-    /// the one that it is kept to, or that of a prefix on the way to one in the queue. After a plan or None the space is tidy.
+    /// The next plan. One turn is one step. After each call, also one that is refused, every valid set is one
+    /// of the search back, the one that it is kept to, or that of a prefix on the way to one in the queue.
+    /// After a plan or None the space is tidy.
     fn next_plan<L: Ledger>(
         &mut self,
         alloc: Global,

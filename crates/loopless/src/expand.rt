@@ -34,8 +34,8 @@ fn entry_of(cost: u128, left: u128, node: usize, settled: bool, at_goal: bool) -
     }
 }
 
-/// Adds the child by this operator to the tree and to the children, where a loopless plan may go on so. Want of memory leaves both
-/// as they were.
+/// Adds the child by this operator to the tree and to the children, where a loopless plan may go on so. Want of
+/// memory leaves both as they were.
 fn add_child<S: Space>(
     space: &mut S,
     backward: &Backward<S::Set>,
@@ -74,8 +74,8 @@ fn add_child<S: Space>(
     }
 }
 
-/// Adds the children by all operators to the tree and to the children, and makes room for them in the queue. No operator is tried
-/// that doesn't apply. Want of memory leaves what came so far.
+/// Adds the children by all operators to the tree and to the children, and makes room for them in the queue. No
+/// operator is tried that doesn't apply. Want of memory leaves what came so far.
 fn add_all<S: Space>(
     alloc: Global,
     space: &mut S,
@@ -106,7 +106,8 @@ fn add_all<S: Space>(
     queue.make_room(children.len())
 }
 
-/// The children of an entry, which stand in the tree then, and for which the queue has room. Want of memory gives their sets back.
+/// The children of an entry, which stand in the tree then, and for which the queue has room. Want of memory
+/// gives their sets back.
 pub(crate) fn expand<S: Space>(
     alloc: Global,
     space: &mut S,

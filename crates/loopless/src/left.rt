@@ -1,19 +1,16 @@
 //! What is left from a state to the goal.
 
-ghost use Rattle.std.specs.Prelude.{◌↔◌, ◌-◌, ◌≤◌, IsTrue, IfOk};
+ghost use Rattle.std.specs.Prelude.{◌-◌, ◌≤◌, IfOk};
 ghost use Rattle.task_system.specs.System.{State};
 ghost use Rattle.space_api.specs.View.{View, Valid};
 ghost use Rattle.space_api.specs.Frames.{Stays};
-ghost use Rattle.cost_layers.specs.Layers.{Held};
-ghost use Rattle.cost_search.specs.Meeting.{IsLayerMeeting};
 ghost use Rattle.cost_search.specs.Directed.{IsBackward};
 ghost use Rattle.prefix_tree.specs.Tree.{One};
-ghost use Rattle.loopless.specs.Left.{IsWide, IsReached, CostsAtLeast, IsFirstFrom, IsLeft};
+ghost use Rattle.loopless.specs.Left.{IsWide, IsReached, CostsAtLeast, IsLeft};
 
 use backward_search::Backward;
-use cost_layers::Layers;
-use cost_search::cost_after;
-use space_api::{Space, SpaceFault, meets};
+use cost_search::first_meeting;
+use space_api::{Space, SpaceFault};
 
 /// What is left at least.
 #[derive(Clone, Copy, Debug, PartialEq, Eq)]
@@ -30,47 +27,8 @@ pub(crate) fn left_after(bound: u128, cost: u128) -> u64
     bound.saturating_sub(cost).min(u64::MAX as u128) as u64
 }
 
-/// Whether the layer of this cost has a state of the set.
-fn layer_meets<S: Space>(
-    space: &mut S,
-    layers: &Layers<S::Set>,
-    cost: u64,
-    set: S::Set,
-) -> Result<bool, SpaceFault>
-    requires held { Held (S.view space.old) layers.now }
-    requires set { Valid (S.view space.old) set }
-    ensures stays { Stays (S.view space.old) (S.view space.new) }
-    ensures ok { IfOk result (λ r. IsTrue r ↔ IsLayerMeeting (S.view space.old) layers.now set cost) }
-{
-    match layers.layer(cost) {
-        Some(whole) => Ok(meets(space, whole, set)?),
-        None => Ok(false),
-    }
-}
-
-/// The least cost from this one on whose layer has a state of the set. None exactly where no such layer has one.
-fn first_meeting<S: Space>(
-    space: &mut S,
-    layers: &Layers<S::Set>,
-    low: u64,
-    set: S::Set,
-) -> Result<Option<u64>, SpaceFault>
-    requires held { Held (S.view space.old) layers.now }
-    requires set { Valid (S.view space.old) set }
-    ensures stays { Stays (S.view space.old) (S.view space.new) }
-    ensures ok { IfOk result (IsFirstFrom (S.view space.old) layers.now set low) }
-{
-    let mut next = layers.next_cost(low);
-    'costs: while let Some(cost) = next {
-        if layer_meets(space, layers, cost, set)? {
-            return Ok(Some(cost));
-        }
-        next = cost_after(layers, cost);
-    }
-    Ok(None)
-}
-
-/// What is left at least from the one state of the set, as far as the search back knows; None where no list leads to the goal.
+/// What is left at least from the one state of the set, as far as the search back knows; None where no list
+/// leads to the goal.
 ///
 /// The caller knows that no less than `low` is left, so no cheaper layer is looked into.
 pub(crate) fn left_from<S: Space>(

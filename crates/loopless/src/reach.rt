@@ -16,7 +16,8 @@ use backward_search::Backward;
 use prefix_tree::{Node, node_at, passes};
 use space_api::{Space, SpaceFault};
 
-/// The set of the one state to which the operator leads from the one state of the set; None where it doesn't apply there.
+/// The set of the one state to which the operator leads from the one state of the set; None where it doesn't
+/// apply there.
 fn step<S: Space>(space: &mut S, set: S::Set, op: u32) -> Result<Option<S::Set>, SpaceFault>
     requires set { Valid (S.view space.old) set }
     requires op { op < (S.view space.old).system.operators }
@@ -85,8 +86,8 @@ fn look<S: Space>(
     }
 }
 
-/// Where the operator leads from the end of the prefix; None where no loopless plan goes on so. The set of what is found alone
-/// is new. The caller knows that no less than `low` is left there.
+/// Where the operator leads from the end of the prefix; None where no loopless plan goes on so. The set of what
+/// is found alone is new. The caller knows that no less than `low` is left there.
 pub(crate) fn reach<S: Space>(
     space: &mut S,
     backward: &Backward<S::Set>,

@@ -75,7 +75,8 @@ fn improved(entry: Entry, left: Left) -> Entry
     }
 }
 
-/// The entry with a better bound, after the search back went on where that was needed; None where no plan goes on from it.
+/// The entry with a better bound, after the search back went on where that was needed; None where no plan goes
+/// on from it.
 pub(crate) fn refresh<S: Space>(
     alloc: Global,
     space: &mut S,

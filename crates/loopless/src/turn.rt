@@ -29,8 +29,8 @@ fn one_or_none(alloc: Global, entry: Option<Entry>) -> Result<Vec<Entry>, AllocE
     }
 }
 
-/// Learns more of the first entry's bound, which puts it where it then belongs, or takes it out where no plan goes on from it; its
-/// prefix is given up then. Want of memory leaves the entries.
+/// Learns more of the first entry's bound, which puts it where it then belongs, or takes it out where no plan
+/// goes on from it; its prefix is given up then. Want of memory leaves the entries.
 pub fn learn<S: Space>(
     alloc: Global,
     space: &mut S,
@@ -79,8 +79,8 @@ fn plan_of<T: Copy>(
     Ok(None)
 }
 
-/// Takes the first entry out and puts its children in, and gives the plan that it is, if it is one. Where it has no child its prefix
-/// is given up. Want of memory leaves the entries.
+/// Takes the first entry out and puts its children in, and gives the plan that it is, if it is one. Where it
+/// has no child its prefix is given up. Want of memory leaves the entries.
 pub fn open<S: Space>(
     alloc: Global,
     space: &mut S,

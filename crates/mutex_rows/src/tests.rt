@@ -76,8 +76,8 @@ fn begins_with_base(task: &Task) -> bool
     }
 }
 
-/// Whether the states where the first variable has the value 1 are the initial one and a goal state, and where it has the value
-/// 0 are all others.
+/// Whether the states where the first variable has the value 1 are the initial one and a goal state, and where
+/// it has the value 0 are all others.
 fn splits_by_a_fact<S: Space + Drop>(space: S) -> Result<bool, SpaceFault>
     requires { IsBase (S.view space).task 0 }
 {

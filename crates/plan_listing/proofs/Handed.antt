@@ -1,8 +1,8 @@
 -- A set of all states that is handed over to an engine.
 use Rattle.std.proofs.Common.{◌≡◌, IsFalse, Some, inl, inr}
-use Rattle.task_system.specs.System.{State, Listed}
+use Rattle.task_system.specs.System.{Listed}
 use Rattle.run_graph.proofs.Listed.{all_useful}
-use Rattle.space_api.specs.View.{View, Valid}
+use Rattle.space_api.specs.View.{View}
 use Rattle.space_api.specs.Frames.{Gives}
 use Rattle.space_api.specs.Listing.{ListsReached}
 use Rattle.reconstruct.specs.Engine.{IsReadyFor}

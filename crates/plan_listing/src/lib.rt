@@ -1,9 +1,10 @@
 //! Lists of plans by any engine over either space, for tests of them.
 //!
-//! `listed` makes the engine that is asked for over a space of the task and takes its first plans, each with a count of turns of
-//! its own; where the list ends, it asks twice more. `costs_of` tells what plans cost, where `plan_out` calls their list good,
-//! and `lists` compares both with what they should be; `stops_well` refuses one call of the space after the other. It stands on
-//! the engines (`reconstruct`, `loopless`, `selectors`), on both spaces, and on `plan_out` for the check.
+//! `listed` makes the engine that is asked for over a space of the task and takes its first plans, each with a
+//! count of turns of its own; where the list ends, it asks twice more. `costs_of` tells what plans cost, where
+//! `plan_out` calls their list good, and `lists` compares both with what they should be; `stops_well` refuses
+//! one call of the space after the other. It stands on the engines (`reconstruct`, `loopless`, `selectors`), on
+//! both spaces, and on `plan_out` for the check.
 #![tactic(auto)]
 
 mod choice;

@@ -19,7 +19,8 @@ pub enum Ending {
 pub struct Listing {
     pub plans: Vec<Plan>,
     pub ending: Ending,
-    /// Whether two more calls answered the same; true where as many as were asked for are listed, and no more was asked.
+    /// Whether two more calls answered the same; true where as many as were asked for are listed, and no more
+    /// was asked.
     pub lasts: bool,
 }
 

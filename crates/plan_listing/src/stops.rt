@@ -17,8 +17,9 @@ fn after(engine: Engine, count: u32, calls: u64) -> Request {
     }
 }
 
-/// Whether the engine, where the space is refused memory after 0, 1, 2 and more calls, isn't made, or gives the first ones of
-/// these plans and then stops, for good; and whether the first list without a stop has all of them and ends so.
+/// Whether the engine, where the space is refused memory after 0, 1, 2 and more calls, isn't made, or gives the
+/// first ones of these plans and then stops, for good; and whether the first list without a stop has all of
+/// them and ends so.
 pub fn stops_well(
     alloc: Global,
     task: &Task,

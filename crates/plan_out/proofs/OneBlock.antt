@@ -26,9 +26,6 @@ exact_steps n =
     grammar.exact_many shape_of IsSpelled step_at kept step_rows (λ _ _. Unit {0}) (λ _. Unit {0})
     (λ u _. grammar.exact_row shape_of IsSpelled tt step_in step joining.Always step_is) (λ _ _ _ _. tt) n tt tt
 
-abbrev Ending : Type 0
-Ending = List (List ℕ) × (ℕ × Bool)
-
 abbrev ending_rows : List (List ℕ) × (ℕ × Bool) → List Row
 ending_rows x = flat_map step_rows x.0 ++ cost_rows x.1
 
@@ -36,9 +33,6 @@ exact_ending : (n : ℕ) → Exact (both_at (steps_at n) (λ _. row_at tt cost_i
 exact_ending n =
     joining.exact_both shape_of IsSpelled (steps_at n) (λ _. row_at tt cost_in) (flat_map step_rows) (StepsFit n) (λ _. cost_rows) (λ _ _. Unit {0})
     (exact_steps n) (λ _ _. grammar.exact_row shape_of IsSpelled tt cost_in (λ x. cost x.0 x.1) joining.Always cost_is)
-
-abbrev Parts : Type 0
-Parts = List ℕ × (List (List ℕ) × (ℕ × Bool))
 
 abbrev PartsFit : List ℕ × (List (List ℕ) × (ℕ × Bool)) → Type 0
 PartsFit x = All IsSmall x.0 × (StepsFit (length x.0) x.1.0 × Unit {0})

@@ -11,8 +11,8 @@ use Rattle.task_run.specs.Verdicts.{AreOperators, Stops, Misses}
 use Rattle.plan_out.specs.declared.blocks.ReadBlock.{ReadBlock}
 use Rattle.plan_out.specs.declared.check.Why.{Why}
 use Rattle.plan_out.specs.declared.check.Why.TheVariants.{NoSuchOperator, WrongName, StopsAt, MissesGoal, WrongCost, Repeats, Cheaper, Loops}
-use Rattle.plan_out.specs.Fails.{AreNamed, IsCostLine, IsCheaper, IsFirstSame, IsFirstReason, Says, rank}
-use Rattle.plan_out.specs.Checks.{IsSpelling, Passes, WalksBack}
+use Rattle.plan_out.specs.Fails.{AreNamed, IsCostLine, IsCheaper, IsFirstSame, Says, rank}
+use Rattle.plan_out.specs.Checks.{Passes, WalksBack}
 use Rattle.plan_out.proofs.OneRun.{plan_no_stop, plan_no_miss, no_loop}
 
 -- none of the first reasons is true of the block
@@ -86,17 +86,6 @@ clear_back task mode blocks b fits clear back = next task mode blocks b 7 8 refl
     here : (other : Why) → rank other ≡ 7 → ¬ Says task mode blocks b other
     here (Loops step) e says = no_loop task mode b.ops fits back step says
     here other e says = omega (arith, e)
-
--- the spelling of a block is the first of the reasons
-pub spelled : (task : TaskParts) (mode : Mode) (blocks : List ReadBlock) (b : ReadBlock) (why : Why) → IsSpelling task b why → IsFirstReason task mode blocks b why
-spelled task mode blocks b (NoSuchOperator step) h = (h, λ other lt says. omega (arith, lt))
-spelled task mode blocks b (WrongName step) h = ((h.1, h.2), clear_operators task mode blocks b h.0)
-spelled task mode blocks b (StopsAt step) h = absurd h
-spelled task mode blocks b MissesGoal h = absurd h
-spelled task mode blocks b (WrongCost cost) h = absurd h
-spelled task mode blocks b (Repeats earlier) h = absurd h
-spelled task mode blocks b Cheaper h = absurd h
-spelled task mode blocks b (Loops step) h = absurd h
 
 -- nothing is said of the spelling, and the operators make a plan
 pub clear_plan : (task : TaskParts) (mode : Mode) (blocks : List ReadBlock) (b : ReadBlock) → Fits task → AreOperators task b.ops × AreNamed task b → IsPlan task b.ops → IsClear task mode blocks b 4

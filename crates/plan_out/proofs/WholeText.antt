@@ -1,8 +1,8 @@
 -- A whole plan text is read exactly.
 use Rattle.std.proofs.Common.{◌≡◌, ◌≢◌, ℕ, suc, ◌+◌, ◌-◌, ◌^◌, ◌<◌, ◌≤◌, ◌⊎◌, inl, inr, Bool, true, false, ◌||◌, List, [], ◌∷◌, ◌++◌, length, get_or, take, Result, Ok, Err, MatchResult, IfOk, IfErr, refl, sym, ap, subst, ◌∙◌, arith, codes, append_assoc, length-append, zero-add}
 use Rattle.std.proofs.Math.Seq.{take-append_seam, take-append-add}
-use Rattle.std.proofs.lemmas.List.{append-nil, nil_from_length}
-use Rattle.std.proofs.lemmas.List.Elements.{All-nil, All-head, All-tail, All-push}
+use Rattle.std.proofs.lemmas.List.{append-nil}
+use Rattle.std.proofs.lemmas.List.Elements.{All-head, All-tail, All-push}
 use Rattle.std.proofs.lemmas.Slice.Eq.{bytes_eq-Decides}
 use Rattle.std.specs.Str.{bytes_eq}
 use Rattle.std.specs.List.{All}
@@ -168,9 +168,6 @@ pub record Begun (lines : Lines) (list : List ReadBlock) (rest : Lines) : Type 0
   pub spelled : Spells IsSpelled (rows_from 1 list) front
   pub each : All IsBlock list
 
-pub begun : (lines : Lines) → Begun lines [] lines
-begun lines = record { front = []; whole = refl; spelled = tt; each = All-nil IsBlock }
-
 -- in a text that begins so, what is left goes on after these blocks
 known : (list : List ReadBlock) (front rest : Lines) (blocks : List ReadBlock) → All IsBlock list → Spells IsSpelled (rows_from 1 list) front → IsPlansOf (front ++ rest) blocks → Known (length list) list rest blocks
 known list front rest blocks each h text = all_known 0 (length list) list front rest blocks (sym (zero-add (length list))) each h (whole_from (front ++ rest) blocks text)
@@ -205,10 +202,6 @@ block_shorter i rest b after small e =
     spelled_some : (front : Lines) → Spells IsSpelled (block_rows i b) front → 1 ≤ length front
     spelled_some [] h = absurd h
     spelled_some (l ∷ front) h = omega arith
-
-pub all_read : (lines : Lines) (list : List ReadBlock) (rest : Lines) → length rest ≡ 0 → Begun lines list rest → IsPlansOf lines list
-all_read lines list rest empty so_far =
-    record { main = so_far.front; ending = []; whole = so_far.whole ∙ ap (λ (z : Lines). so_far.front ++ z) (nil_from_length rest empty); spelled = so_far.spelled; ends = tt; each = so_far.each }
 
 -- the front with its end line is a whole text
 with_end : (list : List ReadBlock) (front : Lines) (line : List ℕ) → All IsBlock list → Spells IsSpelled (rows_from 1 list) front → IsEndLine (length list) line → IsPlansOf (front ++ line ∷ []) list

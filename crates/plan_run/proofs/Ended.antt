@@ -15,7 +15,7 @@ use Rattle.run_status.specs.Sent.{TookPiece, TookFront}
 use Rattle.run_status.specs.Ends.{Ends, Puts}
 use Rattle.plan_run.specs.Earlier.{Misses}
 use Rattle.plan_run.specs.Lists.{Aim, aim_after, OrPart, IsEndOf, all_end, asked, end_status, gap_text}
-use Rattle.plan_run.specs.declared.asking.Wanted.{Wanted}
+use Rattle.plan_run.specs.declared.options.Wanted.{Wanted}
 use Rattle.plan_run.specs.declared.earlier.Earlier.{Earlier}
 use Rattle.run_status.specs.declared.status.Status.{Status}
 use Rattle.run_status.specs.declared.status.Status.TheVariants as status

@@ -15,9 +15,9 @@ use Rattle.lazy_plans.specs.declared.stop.Stop.TheVariants.{CostRange}
 use Rattle.plan_out.specs.declared.end.End.{End}
 use Rattle.plan_out.specs.declared.end.End.TheVariants as end
 use Rattle.plan_out.specs.Texts.{end_line}
-use Rattle.plan_run.specs.declared.asking.Wanted.{Wanted}
-use Rattle.plan_run.specs.declared.asking.Reach.{Reach}
-use Rattle.plan_run.specs.declared.asking.Reach.TheVariants.{Percent}
+use Rattle.plan_run.specs.declared.options.Wanted.{Wanted}
+use Rattle.plan_run.specs.declared.options.Reach.{Reach}
+use Rattle.plan_run.specs.declared.options.Reach.TheVariants.{Percent}
 use Rattle.run_status.specs.declared.status.Status.{Status}
 use Rattle.run_status.specs.declared.status.Status.TheVariants as status
 use Rattle.run_status.specs.Sent.{Sent, nothing, TookFront}

@@ -11,7 +11,7 @@ use Rattle.plan_run.specs.Earlier.{Misses}
 use Rattle.run_status.specs.Ends.{FrontOf}
 use Rattle.run_status.specs.Sent.{Sent, IsWhole, IsFront}
 use Rattle.plan_run.specs.Listable.{IsListable}
-use Rattle.plan_run.specs.declared.asking.Wanted.{Wanted}
+use Rattle.plan_run.specs.declared.options.Wanted.{Wanted}
 use Rattle.run_status.specs.declared.status.Status.{Status}
 use Rattle.run_status.specs.declared.status.Status.TheVariants as status
 

@@ -9,9 +9,9 @@ use Rattle.plan_out.specs.declared.end.End.TheVariants as end
 use Rattle.plan_out.specs.Texts.{end_line}
 use Rattle.plan_run.specs.declared.reaching.Least.{Least}
 use Rattle.plan_run.specs.declared.reaching.Least.TheVariants.{Costs, Dear, Never}
-use Rattle.plan_run.specs.declared.asking.Wanted.{Wanted}
-use Rattle.plan_run.specs.declared.asking.Reach.{Reach}
-use Rattle.plan_run.specs.declared.asking.Reach.TheVariants.{All, UpTo, Percent}
+use Rattle.plan_run.specs.declared.options.Wanted.{Wanted}
+use Rattle.plan_run.specs.declared.options.Reach.{Reach}
+use Rattle.plan_run.specs.declared.options.Reach.TheVariants.{All, UpTo, Percent}
 use Rattle.run_status.specs.declared.status.Status.{Status}
 use Rattle.run_status.specs.Sent.{Sent}
 use Rattle.plan_run.specs.Lists.{aim, end_status, Listing, PartListing, WholeOrPart}

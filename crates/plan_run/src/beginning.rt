@@ -7,8 +7,8 @@ ghost use Rattle.space_api.specs.View.{View};
 ghost use Rattle.reconstruct.specs.Engine.{IsReadyFor};
 ghost use Rattle.plan_run.specs.Engines.{OwesAll};
 
-use crate::asking::Search;
 use crate::choice::Patient;
+use crate::options::Search;
 use loopless::LooplessPlans;
 use reconstruct::TopPlans;
 use selectors::LazyPlans;
@@ -16,8 +16,9 @@ use space_api::Space;
 use std::alloc::Global;
 use symk_task::{Memory, Task};
 
-// The set to which the search backward is kept: where the mutex groups are asked for, the states that keep those of the task's
-// that are shown inductive, and else none. Each useful state is one of them. It alone is valid then.
+// The set to which the search backward is kept: where the mutex groups are asked for, the states that keep
+// those of the task's that are shown inductive, and else none. Each useful state is one of them. It alone is
+// valid then.
 fn kept_to<S: Space>(
     alloc: Global,
     task: &Task,

@@ -1,6 +1,6 @@
 //! Which side of a search goes on, by the direction that is asked for.
 
-use crate::asking::Direction;
+use crate::options::Direction;
 use bidirectional::{Choice, Choose, Lighter};
 
 /// How many steps one side takes in a row before the other has one, where the side isn't asked for.
@@ -51,8 +51,8 @@ impl Choose for Patient {
         }
     }
 
-    fn note_step(&mut self, forward: bool, nodes: usize) {
-        self.choice.note_step(forward, nodes);
+    fn note_step(&mut self, forward: bool, work: u64) {
+        self.choice.note_step(forward, work);
         if self.forward != forward {
             self.forward = forward;
             self.steps = 0;

@@ -5,8 +5,8 @@ ghost use Rattle.symk_task.specs.declared.parts.Mode.TheVariants.{TopK};
 ghost use Rattle.plan_run.specs.Engines.{OwesAll};
 ghost use Rattle.plan_run.specs.Costs.{HasMore, HasPlans};
 
-use crate::asking::{Direction, Search};
 use crate::beginning::top_plans;
+use crate::options::{Direction, Search};
 use bdd_space::BddSpace;
 use selectors::{LazyPlans, Limited, Stop};
 use std::alloc::{AllocError, Global};

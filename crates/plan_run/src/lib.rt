@@ -11,17 +11,17 @@
 //! what holds of these engines over this space is proved once, below the program.
 #![tactic(auto)]
 
-mod asking;
 mod beginning;
 mod choice;
 mod costs;
 mod earlier;
 mod engines;
+mod options;
 mod planning;
 mod reaching;
 
-pub use asking::{Direction, Reach, Search, Wanted};
 pub use costs::{Costs, SHOWN, costs_found};
 pub use earlier::Earlier;
 pub use engines::list_found;
+pub use options::{Direction, MOST_PLANS, Reach, Search, Wanted};
 pub use reaching::list_reached;

@@ -4,14 +4,15 @@ ghost use Rattle.std.specs.Prelude.{◌≡◌, ◌≤◌, ◌<◌, ◌^◌, ◌�
 ghost use Rattle.symk_task.specs.Plans.{IsUnit, cost_of};
 ghost use Rattle.plan_out.specs.Texts.{block as block_text, end_line as end_text};
 ghost use Rattle.run_status.specs.Ends.{Ends, HasCauses, Puts};
+ghost use Rattle.plan_run.specs.declared.options.TheConstants.{MOST_PLANS};
 ghost use Rattle.plan_run.specs.Earlier.{IsEarlier};
 ghost use Rattle.plan_run.specs.Engines.{OwesRest};
 ghost use Rattle.run_status.specs.Sent.{TookPiece, TookFront};
 ghost use Rattle.plan_run.specs.Listable.{IsListable};
 ghost use Rattle.plan_run.specs.Lists.{OrPart, aim_after, all_end, end_status, gap_text};
 
-use crate::asking::Wanted;
 use crate::earlier::Earlier;
+use crate::options::Wanted;
 use plan_out::{End, block_with_cost, end_line};
 use run_status::{Status, end, end_with, status_of};
 use selectors::{LazyPlans, Limited, Stop};
@@ -39,7 +40,7 @@ pub fn list_plans<I: LazyPlans + Drop, K: Sink>(
     requires owes { OwesRest I.system I.mode I.most I.pends I.lawful
         task.now (I.mode engine) limit earlier.now.plans engine }
     requires least { 1 ≤ wanted.count }
-    requires count { wanted.count ≤ 1000000000 }
+    requires count { wanted.count ≤ MOST_PLANS }
     requires limit { IfSome limit (λ most. most < 2 ^ 64) }
     requires earlier { IsEarlier task.now (I.mode engine) limit earlier.now }
     ensures lists { Puts (OrPart (aim_after task.now (I.mode engine) wanted limit earlier.now.plans))
@@ -102,8 +103,8 @@ fn gap_text(alloc: Global, cost: u64) -> Result<Text, Memory>
     Ok(text)
 }
 
-// Puts the block of a plan, which is the one of this number in its list, as one piece, or ends the run. What is known already
-// is what the plan costs, and whether each operator of the task costs 1.
+// Puts the block of a plan, which is the one of this number in its list, as one piece, or ends the run. What is
+// known already is what the plan costs, and whether each operator of the task costs 1.
 fn put_block<K: Sink>(
     alloc: Global,
     task: &Task,

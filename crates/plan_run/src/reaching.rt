@@ -3,14 +3,15 @@
 ghost use Rattle.std.specs.Prelude.{◌≡◌, ◌≤◌, ◌<◌, ◌^◌, IfOk, IfSome};
 ghost use Rattle.symk_task.specs.declared.parts.Mode.TheVariants.{TopK};
 ghost use Rattle.run_status.specs.Ends.{HasCauses, Puts};
+ghost use Rattle.plan_run.specs.declared.options.TheConstants.{MOST_PLANS};
 ghost use Rattle.plan_run.specs.Engines.{OwesAll};
 ghost use Rattle.plan_run.specs.Lists.{OrPart, aim};
 ghost use Rattle.plan_run.specs.Reaches.{OrReached, HasLeast, IsNear, share};
 
-use crate::asking::{Reach, Search, Wanted};
 use crate::beginning::top_plans;
 use crate::earlier::Earlier;
 use crate::engines::list_found;
+use crate::options::{Reach, Search, Wanted};
 use crate::planning::end_list;
 use bdd_space::BddSpace;
 use plan_out::End;
@@ -42,7 +43,7 @@ pub fn list_reached<K: Sink>(
     sink: &mut K,
 ) -> Status
     requires least { 1 ≤ wanted.count }
-    requires count { wanted.count ≤ 1000000000 }
+    requires count { wanted.count ≤ MOST_PLANS }
     requires near { IsNear reach }
     ensures lists { Puts (OrReached task.now mode wanted reach) (K.view sink.old) (K.view sink.new) result }
     ensures causes { HasCauses result 0 0 (K.view sink.old).faults (K.view sink.new).faults }
@@ -73,7 +74,7 @@ fn list_first<K: Sink>(
     sink: &mut K,
 ) -> Status
     requires least { 1 ≤ wanted.count }
-    requires count { wanted.count ≤ 1000000000 }
+    requires count { wanted.count ≤ MOST_PLANS }
     requires limit { IfSome limit (λ most. most < 2 ^ 64) }
     ensures lists { Puts (OrPart (aim task.now mode wanted limit)) (K.view sink.old) (K.view sink.new) result }
     ensures causes { HasCauses result 0 0 (K.view sink.old).faults (K.view sink.new).faults }
@@ -91,8 +92,8 @@ fn share(cost: u64, percent: u64) -> u64
     most.min(u128::from(u64::MAX)) as u64
 }
 
-// What the cheapest plan of the task costs. In each mode that is what the cheapest plan of the mode costs: leaving out a circle
-// makes no plan dearer, so that a cheapest one may be taken to be loopless.
+// What the cheapest plan of the task costs. In each mode that is what the cheapest plan of the mode costs:
+// leaving out a circle makes no plan dearer, so that a cheapest one may be taken to be loopless.
 fn least_cost(alloc: Global, task: &Task, search: Search) -> Result<Least, Memory>
     ensures { IfOk result (HasLeast task.now) }
 {

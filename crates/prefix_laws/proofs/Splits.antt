@@ -6,10 +6,6 @@ use Rattle.std.proofs.lemmas.List.Sums.{sum_by-cons}
 use Rattle.task_system.specs.System.{State, System, Runs, cost_of, are_equal}
 use Rattle.prefix_laws.specs.Queue.{prefix, ind, count, sum_ops, Replaced}
 
-pub sum_same : (n : ℕ) (f g : ℕ → ℕ) → ((k : ℕ) → k < n → f k ≡ g k) → sum_ops n f ≡ sum_ops n g
-sum_same zero f g h = refl
-sum_same (suc n) f g h = omega (arith, sum_same n f g (λ k b. h k (omega arith)), h n (omega arith))
-
 sum_zero : (n : ℕ) (f : ℕ → ℕ) → ((k : ℕ) → k < n → f k ≡ 0) → sum_ops n f ≡ 0
 sum_zero zero f h = refl
 sum_zero (suc n) f h = omega (arith, sum_zero n f (λ k b. h k (omega arith)), h n (omega arith))

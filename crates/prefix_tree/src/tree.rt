@@ -9,7 +9,8 @@ ghost use Rattle.prefix_tree.specs.Tree.{One, IsTree, AreLinked, path_at, uses_a
 use space_api::Space;
 use std::alloc::{AllocError, Global};
 
-/// A prefix: the place of the one before it, the operator that makes it longer, and the set of the one state where it ends.
+/// A prefix: the place of the one before it, the operator that makes it longer, and the set of the one state
+/// where it ends.
 ///
 /// The first of a tree is the empty prefix, of which only the set counts.
 #[derive(Clone, Copy)]
@@ -17,8 +18,8 @@ pub struct Node<T> {
     pub parent: usize,
     pub op: u32,
     pub set: T,
-    /// How many prefixes that are used come right after it, and how many entries of the queue are at it. Its set is given back
-    /// where there are none.
+    /// How many prefixes that are used come right after it, and how many entries of the queue are at it. Its
+    /// set is given back where there are none.
     pub uses: u64,
 }
 
@@ -97,8 +98,8 @@ pub(crate) fn set_uses<T: Copy>(tree: &mut [Node<T>], at: usize, uses: u64)
     tree[at] = node;
 }
 
-/// Adds the prefix that is longer by the operator and ends in the one state of the set, and tells its place. It is used once, for
-/// an entry of the queue. Want of memory leaves the tree as it was.
+/// Adds the prefix that is longer by the operator and ends in the one state of the set, and tells its place. It
+/// is used once, for an entry of the queue. Want of memory leaves the tree as it was.
 pub fn add<T: Copy>(
     tree: &mut Vec<Node<T>>,
     parent: usize,

@@ -1,5 +1,5 @@
 -- One call, by how it ends.
-use Rattle.std.proofs.Common.{◌≡◌, ◌≢◌, ℕ, ◌↔◌, inl, inr, List, [], Option, Some, None, Result, Ok, Err, refl, sym, ◌∙◌, ap, subst}
+use Rattle.std.proofs.Common.{◌≡◌, ℕ, ◌↔◌, inl, inr, List, [], Option, Some, None, Result, Ok, Err, refl, sym, ◌∙◌, ap, subst}
 use Rattle.task_system.specs.System.{System, IsPlan}
 use Rattle.symk_task.specs.declared.parts.Mode.TheVariants.{TopK}
 use Rattle.space_api.specs.View.{View, Valid}
@@ -9,7 +9,7 @@ use Rattle.space_api.proofs.Trading.{valid_clash}
 use Rattle.lazy_plans.specs.Law.{Turned, Ended, Last, last_of}
 use Rattle.lazy_plans.specs.declared.stop.Stop.{Stop}
 use Rattle.lazy_plans.specs.declared.stop.Stop.TheVariants.{Memory}
-use Rattle.lazy_plans.proofs.Given.{ended_by, again_none, again_stop}
+use Rattle.lazy_plans.proofs.Given.{ended_by}
 use Rattle.entry_turns.specs.declared.entries.Entry.{Entry}
 use Rattle.bidirectional.specs.Both.{IsBeneath, IsBoth, IsOwnOf, front_layers, back_layers}
 use Rattle.bidirectional.specs.declared.search.Both.{Both}
@@ -160,24 +160,6 @@ module _ {Set P : Type 0} (most : Option ℕ) (within : Option Set) where
             last = refl;
             room = tt;
           }
-
-  -- a call of an engine that has ended
-  pub repeated : (v : View Set) (both : Both Set P) (listed : Option Place) (queue : List (Entry Set)) (held : Option (List ℕ)) (ended : Last) (r : Result (Option (List ℕ)) Stop) → IsSound v both most within listed queue held ended → ended ≢ None → ended ≡ last_of r → Answered v v most (Pending v (back_layers both) listed queue held) (Pending v (back_layers both) listed queue held) (IsSound v both most within listed queue held ended) ended r
-  repeated v both listed queue held ended (Ok (Some p)) e some is = absurd (some is)
-  repeated v both listed queue held ended (Ok None) e some is = record {
-    engine = e;
-    system = refl;
-    law = again_none v.system TopK most (Pending v (back_layers both) listed queue held) (subst (λ (l : Last). Ended v.system most (Pending v (back_layers both) listed queue held) l) is e.said);
-    last = is;
-    room = e.room is;
-  }
-  repeated v both listed queue held ended (Err stop) e some is = record {
-    engine = e;
-    system = refl;
-    law = again_stop v.system TopK most (Pending v (back_layers both) listed queue held) stop (subst (λ (l : Last). Ended v.system most (Pending v (back_layers both) listed queue held) l) is e.said);
-    last = is;
-    room = tt;
-  }
 
   -- an engine of which nothing was asked yet: no set is valid but those of the search and the one that was handed over
   pub engine_begins : (u v : View Set) (both : Both Set P) (queue : List (Entry Set)) → IsReadyFor u within → Trades u v (λ a. ⊥) (IsOwnOf both) → IsBoth v both → queue ≡ [] → IsSound v both most within None queue None None

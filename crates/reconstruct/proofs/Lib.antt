@@ -1,5 +1,6 @@
 pub mod Ends
 pub mod Answered
+pub mod Ready
 pub mod Placing
 pub mod Goes
 pub mod Moves

@@ -1,5 +1,5 @@
 -- The first entry of a cut is put into the queue.
-use Rattle.std.proofs.Common.{◌≡◌, ℕ, ◌+◌, ◌<◌, ◌↔◌, inl, inr, Bool, true, false, List, [], ◌∷◌, Option, Some, None, Result, Ok, Err, OnOk, OnErr, refl, sym, ◌∙◌, ap, subst, arith}
+use Rattle.std.proofs.Common.{◌≡◌, ℕ, ◌+◌, ◌<◌, ◌↔◌, inl, inr, Bool, true, false, List, [], ◌∷◌, drop, slice_get, Option, Some, None, Result, Ok, Err, OnOk, OnErr, refl, sym, ◌∙◌, subst, arith}
 use Rattle.task_system.specs.System.{State, System, Runs, IsPlan, cost_of}
 use Rattle.space_api.specs.View.{View, Valid}
 use Rattle.space_api.specs.Frames.{Kept, Stays}
@@ -14,28 +14,28 @@ use Rattle.entry_laws.specs.Entries.{Plain, Owed, Lawful, Stands, entry_hits}
 use Rattle.entry_laws.proofs.Cutting.{cut_inside}
 use Rattle.entry_laws.proofs.Paths.{both, parted, led}
 use Rattle.entry_laws.proofs.Drawing.{cross_there}
-use Rattle.entry_turns.specs.Entries.{set_in, plain, SetIn, member_in, RightSides}
+use Rattle.entry_turns.specs.Entries.{plain, SetIn, member_in, RightSides}
 use Rattle.entry_turns.specs.Turned.{IsQueue}
 use Rattle.entry_turns.specs.declared.entries.Entry.{Entry}
 use Rattle.entry_turns.proofs.Barren.{in_layer}
 use Rattle.entry_turns.proofs.Kept.{member_kept, sides_kept}
-use Rattle.entry_turns.proofs.Reaching.{not_valid}
 use Rattle.space_api.proofs.Keeping.{kept_trans}
 use Rattle.entry_turns.specs.Walked.{IsLawful, IsOwed}
 use Rattle.entry_turns.proofs.RightLayers.{serve}
 use Rattle.plan_cuts.specs.Cuts.{IsCutAt, IsNextCut}
 use Rattle.entry_turns.specs.Opened.{IsDrawable, Opened}
 use Rattle.entry_laws.specs.Drawing.{undrawn}
-use Rattle.reconstruct.specs.Listing.{IsListing, OwedAt, Drew, Draws, PutsOne, LeavesAll}
+use Rattle.reconstruct.specs.Listing.{AreReady, AreReadyAt, IsSame, IsListing, OwedAt, Drew, Draws, PutsOne, LeavesAll}
 use Rattle.reconstruct.specs.declared.drawing.Drawn.{Drawn}
 use Rattle.reconstruct.specs.declared.drawing.Place.{Place}
-use Rattle.entry_turns.proofs.Sets.{new_back}
+use Rattle.entry_turns.proofs.Sets.{in_valid, entry_back}
 use Rattle.space_api.proofs.Trading.{trades_stays}
 use Rattle.entry_laws.proofs.Draws.{drawn_lawful, drawn_owed, none_lawful, none_owed}
 use Rattle.bidirectional.specs.Both.{IsBeneath, IsBoth, front_layers, back_layers}
 use Rattle.bidirectional.specs.declared.search.Both.{Both}
 use Rattle.reconstruct.specs.Sides.{AreRightLayers}
 use Rattle.reconstruct.proofs.Ends.{stays_ends}
+use Rattle.reconstruct.proofs.Ready.{ready_next}
 
 pub sides_of : {Set : Type 0} (v : View Set) (front back : Layers Set) → AreRightLayers v front back → RightSides v.system v front back (known_of front) (known_of back)
 sides_of v front back r = serve v front back (known_of front) (known_of back) r.front_held r.back_held r.front_right r.back_right
@@ -58,6 +58,10 @@ drawable v front back cost (Cross x op y) r lt c =
 
 clash : (b : Bool) → b ≡ true → b ≡ false → ⊥
 clash b e f = cc
+
+not_valid : (b : Bool) → (b ≡ true → ⊥) → b ≡ false
+not_valid true f = absurd (f refl)
+not_valid false f = refl
 
 -- a law in a later view that keeps all sets
 module _ {Set : Type 0} (v w : View Set) (front back : Layers Set) (k : Kept v w) (hf : Held v front) (hb : Held v back) where
@@ -95,21 +99,21 @@ module _ {Set : Type 0} (v w : View Set) (front back : Layers Set) (cost : ℕ) 
         ((λ h. d.0 (a.0 h)), (λ h. a.1 (d.1 h)))
 
     pub one_queue : IsQueue w (e ∷ [])
-    one_queue = record { each = (o.fine, tt); distinct = ((λ x. x), tt) }
+    one_queue = record { each = (o.fine, tt); distinct = ((λ a has x. x), tt) }
 
     pub one_trades : Trades v w (SetIn {Set = Set} []) (SetIn (e ∷ []))
     one_trades = record {
       system = o.kept.system;
-      owned = λ a h. elim h [ inl s ↦ subst (λ (x : Set). Valid w x) (sym s) o.new.valid | inr x ↦ absurd x ];
-      fresh = λ a h n. elim h [ inl s ↦ subst (λ (x : Set). v.valid x ≡ false) (sym s) o.new.fresh | inr x ↦ absurd x ];
+      owned = λ a h. in_valid w (e ∷ []) a (o.fine, tt) h;
+      fresh = λ a h n. elim h [ inl has ↦ o.new.fresh a has | inr x ↦ absurd x ];
       given = λ a h valid. absurd h;
       others = λ a h n. o.kept.valid a h;
-      only = λ a h. elim (o.new.only a h) [ inl k ↦ inr k | inr s ↦ inl (inl s) ];
+      only = λ a h. elim (o.new.only a h) [ inl k ↦ inr k | inr has ↦ inl (inl has) ];
       same = λ a h n s. o.kept.same a h s;
     }
 
     pub one_apart : (Uses : Set → Type 0) → ((a : Set) → Uses a → Valid v a) → (a : Set) → SetIn (e ∷ []) a → ¬ Uses a
-    one_apart Uses valid a h use1 = elim h [ inl s ↦ clash (v.valid a) (valid a use1) (subst (λ (x : Set). v.valid x ≡ false) (sym s) o.new.fresh) | inr x ↦ x ]
+    one_apart Uses valid a h use1 = elim h [ inl has ↦ clash (v.valid a) (valid a use1) (o.new.fresh a has) | inr x ↦ x ]
 
   -- no cut is left
   module _ (none : IsNextCut v.system (known_of back) cost after None) (s : Stays v w) where
@@ -122,81 +126,77 @@ module _ {Set : Type 0} (v w : View Set) (front back : Layers Set) (cost : ℕ) 
         let d = none_owed v.system (known_of back) cost (member_in v front) (member_in v back) (known_of front) r.begun.1 after none p in
         ((λ h. d.0 (a.0 h)), (λ h. a.1 (d.1 h)))
 
--- nothing changes but the view, which keeps all sets
-pub listing_stays : {Set : Type 0} (v w : View Set) (Uses : Set → Type 0) (front back : Layers Set) (place : Place) → AreRightLayers v front back → Stays v w → IsListing v Uses front back place [] → IsListing w Uses front back place []
-listing_stays v w Uses front back place r s l = record {
-  queue_is = record { each = tt; distinct = tt };
-  apart = l.apart;
-  settled = l.settled;
-  lawful = lawful_on v w front back s.kept r.front_held r.back_held place.cost [] (undrawn place.left place.after) l.lawful;
-}
-
-pub owed_stays : {Set : Type 0} (v w : View Set) (front back : Layers Set) (place : Place) → AreRightLayers v front back → Stays v w → (p : List ℕ) → OwedAt w back place [] p ↔ OwedAt v back place [] p
-owed_stays v w front back place r s p = owed_on v w front back s.kept r.front_held r.back_held (known_of back) place.cost [] (undrawn place.left place.after) p
-
 pub trades_empty : {Set : Type 0} (v w : View Set) → Stays v w → Trades v w (SetIn {Set = Set} []) (SetIn {Set = Set} [])
 trades_empty v w s = trades_stays v w (SetIn []) s (λ a h. absurd h)
 
-module _ {Set : Type 0} (v : View Set) (Uses : Set → Type 0) (front back : Layers Set) (cost : ℕ) (after : Option Cut) (r : AreRightLayers v front back) (valid : (a : Set) → Uses a → Valid v a) (l : IsListing v Uses front back (record { cost = cost; after = after; left = true }) []) where
-  drew_none : (w : View Set) → Stays v w → IsNextCut v.system (known_of back) cost after None → Drew v w Uses front back (record { cost = cost; after = after; left = true }) (record { cost = cost; after = after; left = false }) [] []
-  drew_none w s none = record {
-    kept = s.kept;
-    listing = record { queue_is = record { each = tt; distinct = tt }; apart = l.apart; settled = l.settled; lawful = none_left v w front back cost after r l.settled none s l.lawful };
-    cost = refl;
-    trades = trades_empty v w s;
-    owes = none_owes v w front back cost after r l.settled none s;
-  }
+-- what is told of a cost, a cut and a mark, of a place with them
+pub at_place : (C : ℕ → Option Cut → Bool → Type 0) (p : Place) (cost : ℕ) (after : Option Cut) (left : Bool) → p.cost ≡ cost → p.after ≡ after → p.left ≡ left → C cost after left → C p.cost p.after p.left
+at_place C p cost after left a b c h = subst (λ (n : ℕ). C n p.after p.left) (sym a) (subst (λ (o : Option Cut). C cost o p.left) (sym b) (subst (C cost after) (sym c) h))
 
-  drew_one : (w : View Set) (cut : Cut) (e : Entry Set) → IsNextCut v.system (known_of back) cost after (Some cut) → Opened v w front back cost cut e → Drew v w Uses front back (record { cost = cost; after = after; left = true }) (record { cost = cost; after = Some cut; left = true }) [] (e ∷ [])
-  drew_one w cut e next o = record {
-    kept = o.kept;
-    listing = record { queue_is = one_queue v w front back cost after r l.settled cut e next o; apart = one_apart v w front back cost after r l.settled cut e next o Uses valid; settled = l.settled; lawful = one_lawful v w front back cost after r l.settled cut e next o l.lawful };
-    cost = refl;
-    trades = one_trades v w front back cost after r l.settled cut e next o;
-    owes = one_owed v w front back cost after r l.settled cut e next o;
-  }
-
-  drew_stays : (w : View Set) → Stays v w → Drew v w Uses front back (record { cost = cost; after = after; left = true }) (record { cost = cost; after = after; left = true }) [] []
-  drew_stays w s = record {
-    kept = s.kept;
-    listing = listing_stays v w Uses front back (record { cost = cost; after = after; left = true }) r s l;
-    cost = refl;
-    trades = trades_empty v w s;
-    owes = owed_stays v w front back (record { cost = cost; after = after; left = true }) r s;
-  }
-
+-- a place with a cut that may be left, and nothing in the queue
 module _ {Set : Type 0} (v : View Set) (Uses : Set → Type 0) (front back : Layers Set) (place : Place) (queue : List (Entry Set)) (r : AreRightLayers v front back) (valid : (a : Set) → Uses a → Valid v a) (left : place.left ≡ true) (empty : queue ≡ []) (l : IsListing v Uses front back place queue) where
-  abbrev at : Place
-  at = record { cost = place.cost; after = place.after; left = true }
+  lawful_at : IsLawful v front back place.cost [] (undrawn true place.after)
+  lawful_at = subst (λ (x : Bool). IsLawful v front back place.cost [] (undrawn x place.after)) left (subst (λ (q : List (Entry Set)). IsLawful v front back place.cost q (undrawn place.left place.after)) empty l.lawful)
 
-  place_is : place ≡ at
-  place_is = ap (λ (b : Bool). record { cost = place.cost; after = place.after; left = b }) left
+  owed_at : (p : List ℕ) → IsOwed v back place.cost [] (undrawn true place.after) p ↔ OwedAt v back place queue p
+  owed_at p = (
+    (λ h. subst (λ (q : List (Entry Set)). OwedAt v back place q p) (sym empty) (subst (λ (x : Bool). IsOwed v back place.cost [] (undrawn x place.after) p) (sym left) h)),
+    (λ h. subst (λ (x : Bool). IsOwed v back place.cost [] (undrawn x place.after) p) left (subst (λ (q : List (Entry Set)). OwedAt v back place q p) empty h)),
+  )
 
-  l2 : IsListing v Uses front back at []
-  l2 = subst (λ (q : Place). IsListing v Uses front back q []) place_is (subst (λ (q : List (Entry Set)). IsListing v Uses front back place q) empty l)
+  -- what was done, by what is known of it without the place
+  drew_of : (w : View Set) (place2 : Place) (queue2 : List (Entry Set)) (after2 : Option Cut) (left2 : Bool) → place2.cost ≡ place.cost → place2.after ≡ after2 → place2.left ≡ left2 → Kept v w → IsQueue w queue2 → ((a : Set) → SetIn queue2 a → ¬ Uses a) → Trades v w (SetIn {Set = Set} []) (SetIn queue2) → AreReadyAt v.system (known_of back) place2
+      → IsLawful w front back place.cost queue2 (undrawn left2 after2) → ((p : List ℕ) → IsOwed w back place.cost queue2 (undrawn left2 after2) p ↔ IsOwed v back place.cost [] (undrawn true place.after) p) → Drew v w Uses front back place place2 queue queue2
+  drew_of w place2 queue2 after2 left2 cost after mark k fine apart t ready lawful owes = record {
+    kept = k;
+    listing = record {
+      queue_is = fine;
+      apart = apart;
+      settled = subst (λ (n : ℕ). n < known_of front + known_of back) (sym cost) l.settled;
+      lawful = at_place (λ c o x. IsLawful w front back c queue2 (undrawn x o)) place2 place.cost after2 left2 cost after mark lawful;
+      ready = subst (λ (y : System). AreReadyAt y (known_of back) place2) (sym k.system) ready;
+    };
+    cost = cost;
+    trades = subst (λ (q : List (Entry Set)). Trades v w (SetIn q) (SetIn queue2)) (sym empty) t;
+    owes = λ p.
+        let o = owes p in
+        let a = owed_at p in
+        at_place (λ c x y. IsOwed w back c queue2 (undrawn y x) p ↔ OwedAt v back place queue p) place2 place.cost after2 left2 cost after mark ((λ h. a.0 (o.0 h)), (λ h. o.1 (a.1 h)));
+  }
 
-  back_to : (w : View Set) (place2 : Place) (queue2 : List (Entry Set)) → Drew v w Uses front back at place2 [] queue2 → Drew v w Uses front back place place2 queue queue2
-  back_to w place2 queue2 d = subst (λ (q : Place). Drew v w Uses front back q place2 queue queue2) (sym place_is) (subst (λ (q : List (Entry Set)). Drew v w Uses front back at place2 q queue2) (sym empty) d)
+  to_queue : (w : View Set) (place2 : Place) (queue2 queue3 : List (Entry Set)) → queue3 ≡ queue2 → Drew v w Uses front back place place2 queue queue2 → Drew v w Uses front back place place2 queue queue3
+  to_queue w place2 queue2 queue3 e d = subst (λ (q : List (Entry Set)). Drew v w Uses front back place place2 queue q) (sym e) d
 
-  pub none_drew : (w : View Set) → Stays v w → IsNextCut v.system (known_of back) place.cost place.after None → Drew v w Uses front back place (record { cost = place.cost; after = place.after; left = false }) queue queue
-  none_drew w s none = back_to w _ queue (subst (λ (q : List (Entry Set)). Drew v w Uses front back at (record { cost = place.cost; after = place.after; left = false }) [] q) (sym empty) (drew_none v Uses front back place.cost place.after r valid l2 w s none))
+  no_queue : (w : View Set) → IsQueue {Set = Set} w []
+  no_queue w = record { each = tt; distinct = tt }
 
-  pub stays_drew : (w : View Set) → Stays v w → Drew v w Uses front back place place queue queue
-  stays_drew w s = back_to w place queue (subst (λ (q : List (Entry Set)). Drew v w Uses front back at place [] q) (sym empty) (subst (λ (q : Place). Drew v w Uses front back at q [] []) (sym place_is) (drew_stays v Uses front back place.cost place.after r valid l2 w s)))
+  -- no cut follows
+  pub none_drew : (w : View Set) (place2 : Place) → place2.cost ≡ place.cost → place2.after ≡ place.after → place2.left ≡ false → AreReadyAt v.system (known_of back) place2 → Stays v w → IsNextCut v.system (known_of back) place.cost place.after None → Drew v w Uses front back place place2 queue queue
+  none_drew w place2 cost after mark ready s none = to_queue w place2 [] queue empty
+      (drew_of w place2 [] place.after false cost after mark s.kept (no_queue w) (λ a h. absurd h) (trades_empty v w s) ready (none_left v w front back place.cost place.after r l.settled none s lawful_at) (none_owes v w front back place.cost place.after r l.settled none s))
+
+  -- nothing changes but the view, which keeps all sets, and the cuts that are ready
+  pub stays_drew : (w : View Set) (place2 : Place) → IsSame place place2 → AreReadyAt v.system (known_of back) place2 → Stays v w → Drew v w Uses front back place place2 queue queue
+  stays_drew w place2 same ready s = to_queue w place2 [] queue empty
+      (drew_of w place2 [] place.after true same.cost same.after (same.left ∙ left) s.kept (no_queue w) (λ a h. absurd h) (trades_empty v w s) ready (lawful_on v w front back s.kept r.front_held r.back_held place.cost [] (undrawn true place.after) lawful_at)
+      (λ p. owed_on v w front back s.kept r.front_held r.back_held (known_of back) place.cost [] (undrawn true place.after) p))
+
+  one_drew : (w : View Set) (place2 : Place) (cut : Cut) (e : Entry Set) → place2.cost ≡ place.cost → place2.after ≡ Some cut → place2.left ≡ true → AreReadyAt v.system (known_of back) place2 → IsNextCut v.system (known_of back) place.cost place.after (Some cut) → Opened v w front back place.cost cut e → Drew v w Uses front back place place2 queue (e ∷ [])
+  one_drew w place2 cut e cost after mark ready next o = drew_of w place2 (e ∷ []) (Some cut) true cost after mark o.kept (one_queue v w front back place.cost place.after r l.settled cut e next o) (one_apart v w front back place.cost place.after r l.settled cut e next o Uses valid) (one_trades v w front back place.cost place.after r l.settled cut e next o) ready
+      (one_lawful v w front back place.cost place.after r l.settled cut e next o lawful_at) (one_owed v w front back place.cost place.after r l.settled cut e next o)
 
   -- by what putting the entry answers
-  pub put_drew : {A : Type 0} {E : Type 0} (v1 w : View Set) (d : Drawn Set) (place2 : Place) (queue2 : List (Entry Set)) (x : Result A E) → IsNextCut v.system (known_of back) place.cost place.after (Some d.cut) → Opened v v1 front back place.cost d.cut d.entry → OnOk x (PutsOne v1 w place place2 queue2 d) → OnErr x (LeavesAll v1 w place place2 queue queue2 d) → Drew v w Uses front back place place2 queue queue2
-  put_drew v1 w d place2 queue2 (Ok a) next o ok err =
-      let cut = d.cut in
-      let e = d.entry in
-      let here = drew_one v Uses front back place.cost place.after r valid l2 v1 cut e next o in
-      let is : place2 ≡ record { cost = place.cost; after = Some cut; left = true } = ok.1 ∙ ap (λ (b : Bool). record { cost = place.cost; after = Some cut; left = b }) left in
-      let h1 = subst (λ (z : View Set). Drew v z Uses front back at (record { cost = place.cost; after = Some cut; left = true }) [] (e ∷ [])) (sym ok.0) here in
-      let h2 = subst (λ (q : Place). Drew v w Uses front back at q [] (e ∷ [])) (sym is) h1 in
-      back_to w place2 queue2 (subst (λ (q : List (Entry Set)). Drew v w Uses front back at place2 [] q) (sym ok.2) h2)
-  put_drew v1 w d place2 queue2 (Err b) next o ok err =
-      let s : Stays v w = new_back v v1 w (set_in d.entry) o.kept o.new err.0 in
-      subst (λ (q : Place). Drew v w Uses front back place q queue queue2) (sym err.1) (subst (λ (q : List (Entry Set)). Drew v w Uses front back place place queue q) (sym err.2) (stays_drew w s))
+  pub put_drew : {A : Type 0} {E : Type 0} (v1 w : View Set) (place1 : Place) (d : Drawn Set) (place2 : Place) (queue2 : List (Entry Set)) (x : Result A E) → IsSame place place1 → AreReadyAt v.system (known_of back) place1 → slice_get place1.ready.items 0 ≡ Some d.cut → Opened v v1 front back place1.cost d.cut d.entry → OnOk x (PutsOne v1 w place1 place2 queue2 d) → OnErr x (LeavesAll v1 w place1 place2 queue queue2 d) → Drew v w Uses front back place place2 queue queue2
+  put_drew v1 w place1 d place2 queue2 (Ok a) same ready is o ok err =
+      let n = ready_next v.system (known_of back) place1.cost place1.after place1.ready.items d.cut ready is in
+      let next = subst (λ (c : ℕ). IsNextCut v.system (known_of back) c place.after (Some d.cut)) same.cost (subst (λ (x : Option Cut). IsNextCut v.system (known_of back) place1.cost x (Some d.cut)) same.after n.0) in
+      let rest = subst (λ (c : ℕ). AreReady v.system (known_of back) c place2.after (drop 1 place1.ready.items)) (sym ok.cost) (subst (λ (x : Option Cut). AreReady v.system (known_of back) place1.cost x (drop 1 place1.ready.items)) (sym ok.after) n.1) in
+      let ready2 = subst (AreReady v.system (known_of back) place2.cost place2.after) (sym ok.ready) rest in
+      let here = one_drew v1 place2 d.cut d.entry (ok.cost ∙ same.cost) ok.after (ok.left ∙ same.left ∙ left) ready2 next (subst (λ (c : ℕ). Opened v v1 front back c d.cut d.entry) same.cost o) in
+      to_queue w place2 (d.entry ∷ []) queue2 ok.queue (subst (λ (z : View Set). Drew v z Uses front back place place2 queue (d.entry ∷ [])) (sym ok.view) here)
+  put_drew v1 w place1 d place2 queue2 (Err b) same ready is o ok err =
+      let s : Stays v w = entry_back v v1 w d.entry o.kept o.new o.fine err.0 in
+      to_queue w place2 queue queue2 err.2 (subst (λ (q : Place). Drew v w Uses front back place q queue queue) (sym err.1) (stays_drew w place1 same ready s))
 
 pub drawable_on : {Set : Type 0} (v w : View Set) (front back : Layers Set) (cut : Cut) → Kept v w → IsDrawable v front back cut → IsDrawable w front back cut
 drawable_on v w front back Whole k d = tt
@@ -207,8 +207,7 @@ pub opened_from : {Set : Type 0} (v v1 w : View Set) (front back : Layers Set) (
 opened_from v v1 w front back cost cut e s hf hb o = record {
   kept = kept_trans s.kept o.kept;
   new = record {
-    fresh = not_valid (v.valid (set_in e)) (λ h. clash (v1.valid (set_in e)) (s.kept.valid (set_in e) h) o.new.fresh);
-    valid = o.new.valid;
+    fresh = λ a has. not_valid (v.valid a) (λ h. clash (v1.valid a) (s.kept.valid a h) (o.new.fresh a has));
     only = λ a h. elim (o.new.only a h) [ inl k ↦ inl (s.only a k) | inr q ↦ inr q ];
   };
   fine = o.fine;

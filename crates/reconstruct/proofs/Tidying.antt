@@ -12,7 +12,7 @@ use Rattle.entry_turns.proofs.Sets.{all_kept}
 use Rattle.entry_turns.proofs.Kept.{plains_kept}
 use Rattle.entry_laws.specs.Drawing.{undrawn}
 use Rattle.reconstruct.specs.Sides.{AreRightLayers}
-use Rattle.reconstruct.specs.Listing.{IsListing, OwedAt}
+use Rattle.reconstruct.specs.Listing.{AreReadyAt, IsListing, OwedAt}
 use Rattle.reconstruct.specs.declared.drawing.Place.{Place}
 use Rattle.reconstruct.proofs.Placing.{lawful_on, owed_on}
 use Rattle.reconstruct.specs.Working.{IsAt, Owes}
@@ -25,6 +25,7 @@ module _ {Set : Type 0} (v w : View Set) (Uses : Set → Type 0) (front back : L
     apart = l.apart;
     settled = l.settled;
     lawful = subst (λ (es : List Plain). Lawful w.system (member_in w front) (member_in w back) (known_of front) (known_of back) place.cost es (undrawn place.left place.after)) (sym (plains_kept v w s.kept queue l.queue_is.each)) (lawful_on v w front back s.kept r.front_held r.back_held place.cost (plains v queue) (undrawn place.left place.after) l.lawful);
+    ready = subst (λ (y : System). AreReadyAt y (known_of back) place) (sym s.kept.system) l.ready;
   }
 
   pub at_kept : (listed : Option Place) (queue : List (Entry Set)) → IsAt v Uses front back listed queue → IsAt w Uses front back listed queue

@@ -1,27 +1,24 @@
 -- A walk, by the parts of an engine.
-use Rattle.std.proofs.Common.{◌≡◌, Bool, true, false, List, inr, Some}
+use Rattle.std.proofs.Common.{◌≡◌, Bool, true, false, List, inr, Some, sym, subst}
+use Rattle.task_system.specs.System.{System}
 use Rattle.space_api.specs.View.{View, Valid}
 use Rattle.space_api.specs.Owned.{Trades}
-use Rattle.cost_layers.specs.Layers.{Keeps}
+use Rattle.cost_layers.specs.Layers.{known_of}
 use Rattle.cost_layers.specs.declared.layers.Layers.{Layers}
 use Rattle.entry_turns.specs.Entries.{SetIn}
 use Rattle.entry_turns.specs.Turned.{IsQueue}
 use Rattle.entry_turns.specs.declared.entries.Entry.{Entry}
 use Rattle.entry_laws.specs.Drawing.{undrawn}
-use Rattle.entry_turns.specs.Walked.{IsLawful, AreApart}
+use Rattle.entry_turns.specs.Walked.{IsLawful}
 use Rattle.bidirectional.specs.Both.{IsBeneath, IsBoth, front_layers, back_layers}
 use Rattle.bidirectional.specs.declared.search.Both.{Both}
-use Rattle.reconstruct.specs.Listing.{IsListing, Lists}
+use Rattle.reconstruct.specs.Listing.{AreReadyAt, IsListing, Lists}
 use Rattle.reconstruct.specs.Working.{IsWorking}
 use Rattle.reconstruct.specs.declared.drawing.Place.{Place}
 use Rattle.bidirectional.proofs.Ends.{valid_ends, kept_ends}
 
 clash : (b : Bool) → b ≡ true → b ≡ false → ⊥
 clash b e f = cc
-
--- the layers keep none of the queue's sets
-pub apart_of : {Set : Type 0} (v : View Set) (Uses : Set → Type 0) (front back l : Layers Set) (place : Place) (queue : List (Entry Set)) → ((a : Set) → Keeps l a → Uses a) → IsListing v Uses front back place queue → AreApart queue l
-apart_of v Uses front back l place queue keeps at a s k = at.apart a s (keeps a k)
 
 module _ {Set : Type 0} (v w : View Set) (Uses : Set → Type 0) (front back : Layers Set) (place : Place) (queue queue2 : List (Entry Set)) (valid : (a : Set) → Uses a → Valid v a) (l : IsListing v Uses front back place queue) (t : Trades v w (SetIn queue) (SetIn queue2)) where
   pub walked_listing : IsQueue w queue2 → IsLawful w front back place.cost queue2 (undrawn place.left place.after) → IsListing w Uses front back place queue2
@@ -30,6 +27,7 @@ module _ {Set : Type 0} (v w : View Set) (Uses : Set → Type 0) (front back : L
     apart = λ a s u. clash (v.valid a) (valid a u) (t.fresh a s (λ o. l.apart a o u));
     settled = l.settled;
     lawful = lawful;
+    ready = subst (λ (y : System). AreReadyAt y (known_of back) place) (sym t.system) l.ready;
   }
 
 -- the search stands on, since the queue's sets are none that it stands on

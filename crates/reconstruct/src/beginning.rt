@@ -65,7 +65,8 @@ impl<S: Space + Drop, P: Choose + Drop> TopPlans<S, P> {
         begin(alloc, space, choose, None, None)
     }
 
-    /// The same, where no plan that costs more than `most` is wanted. Such plans pend for ever, and it ends without them.
+    /// The same, where no plan that costs more than `most` is wanted. Such plans pend for ever, and it ends without
+    /// them.
     pub fn within(alloc: Global, space: S, choose: P, most: u64) -> Result<TopPlans<S, P>, Memory>
         requires { IsReadyFor (S.view space) None }
         ensures { IfOk result (IsNew S.view (S.view space) (Some most)) }

@@ -2,13 +2,16 @@
 
 use entry_turns::Entry;
 use plan_cuts::Cut;
+use std::collections::VecDeque;
 
 /// The cost that is listed, the last cut that was drawn, and whether a cut may be left.
-#[derive(Clone, Copy)]
+#[derive(Drop)]
 pub(crate) struct Place {
     pub(crate) cost: u64,
     pub(crate) after: Option<Cut>,
     pub(crate) left: bool,
+    /// The cuts that were found and aren't drawn yet, which come next, in order.
+    pub(crate) ready: VecDeque<Cut>,
 }
 
 /// A cut, and its first entry.
@@ -18,34 +21,63 @@ pub(crate) struct Drawn<T> {
     pub(crate) entry: Entry<T>,
 }
 
-ghost use Rattle.std.specs.Prelude.{◌≡◌, ◌+◌, ◌<◌, [], IsTrue, Some, IfOk, OnOk, OnErr};
+ghost use Rattle.std.specs.Prelude.{◌≡◌, ◌+◌, ◌<◌, [], IsTrue, None, Some, IfOk, OnOk, OnErr};
 ghost use Rattle.space_api.specs.View.{View, Valid};
 ghost use Rattle.space_api.specs.Frames.{Stays};
-ghost use Rattle.entry_turns.specs.Entries.{set_in};
+ghost use Rattle.plan_cuts.specs.Cuts.{IsNextCut};
+ghost use Rattle.entry_turns.specs.Entries.{HasSet};
 ghost use Rattle.bidirectional.specs.Both.{IsBoth, f_of, b_of, front_layers, back_layers};
-ghost use Rattle.reconstruct.specs.Listing.{Lists, DrawsNext, PutsOne, LeavesAll, Draws};
+ghost use Rattle.reconstruct.specs.Listing.{IsSame, AreReadyAt, Lists, DrawsNext, PutsOne, LeavesAll, Draws};
 ghost use Rattle.reconstruct.specs.Going.{HasMore};
 
 use bidirectional::{Both, Choose};
-use entry_turns::{open_cut, set_of};
+use entry_turns::{give_back, open_cut};
 use space_api::{Space, SpaceFault};
 use std::alloc::{AllocError, Global};
 
-/// The next cut of plans of this cost with its first entry. None where no cut follows.
+/// Finds the cuts that come next, where none is ready. Want of memory leaves those that are.
+fn find_cuts<S: Space, P: Choose>(
+    alloc: Global,
+    space: &mut S,
+    both: &Both<S::Set, P>,
+    place: &mut Place,
+) -> Result<(), SpaceFault>
+    requires both { IsBoth (S.view space.old) both.now }
+    requires settled { place.old.cost < f_of both.now + b_of both.now }
+    requires ready { AreReadyAt (S.view space.old).system (b_of both.now) place.old }
+    ensures stays { Stays (S.view space.old) (S.view space.new) }
+    ensures same { IsSame place.old place.new }
+    ensures ready { AreReadyAt (S.view space.old).system (b_of both.now) place.new }
+    ensures ok { OnOk result (place.new.ready.items ≡ [] → IsNextCut (S.view space.old).system (b_of both.now)
+        place.new.cost place.new.after None) }
+{
+    if !place.ready.is_empty() {
+        return Ok(());
+    }
+    let cuts = both.next_cuts(alloc, space, place.cost, place.after)?;
+    place.ready = VecDeque::from(cuts);
+    Ok(())
+}
+
+/// The first entry of the next cut of plans of the cost that is listed; the cut is then the first that is ready. None
+/// where no cut follows.
 fn next_entry<S: Space, P: Choose>(
     alloc: Global,
     space: &mut S,
     both: &Both<S::Set, P>,
-    cost: u64,
-    after: Option<Cut>,
+    place: &mut Place,
 ) -> Result<Option<Drawn<S::Set>>, SpaceFault>
     requires both { IsBoth (S.view space.old) both.now }
-    requires settled { cost < f_of both.now + b_of both.now }
+    requires settled { place.old.cost < f_of both.now + b_of both.now }
+    requires ready { AreReadyAt (S.view space.old).system (b_of both.now) place.old }
+    ensures same { IsSame place.old place.new }
+    ensures ready { AreReadyAt (S.view space.old).system (b_of both.now) place.new }
     ensures ok { IfOk result (DrawsNext (S.view space.old) (S.view space.new) (front_layers both.now)
-        (back_layers both.now) cost after) }
+        (back_layers both.now) place.new) }
     ensures err { OnErr result (Stays (S.view space.old) (S.view space.new)) }
 {
-    match both.next_cut(alloc, space, cost, after)? {
+    find_cuts(alloc, space, both, place)?;
+    match place.ready.front().copied() {
         None => Ok(None),
         Some(cut) => {
             let entry = open_cut(
@@ -53,7 +85,7 @@ fn next_entry<S: Space, P: Choose>(
                 space,
                 both.forward_layers(),
                 both.backward_layers(),
-                cost,
+                place.cost,
                 cut,
             )?;
             Ok(Some(Drawn { cut, entry }))
@@ -61,30 +93,35 @@ fn next_entry<S: Space, P: Choose>(
     }
 }
 
-/// Puts the first entry of a cut into the empty queue. Want of memory gives its set back and leaves all as it was.
+/// Puts the first entry of the first cut that is ready into the empty queue. Want of memory gives its set back, if it
+/// has one, and leaves all as it was.
 fn put<S: Space>(
     space: &mut S,
     place: &mut Place,
     queue: &mut Vec<Entry<S::Set>>,
     drawn: Drawn<S::Set>,
 ) -> Result<(), SpaceFault>
-    requires set { Valid (S.view space.old) (set_in drawn.entry) }
+    requires set { (a : S.Set) → HasSet drawn.entry a → Valid (S.view space.old) a }
     requires empty { queue.old.items ≡ [] }
     ensures ok { OnOk result (PutsOne (S.view space.old) (S.view space.new) place.old place.new queue.new.items drawn) }
     ensures err { OnErr result (LeavesAll (S.view space.old) (S.view space.new) place.old place.new
         queue.old.items queue.new.items drawn) }
 {
     let Drawn { cut, entry } = drawn;
-    let set = set_of(&entry);
-    if queue.push(entry).is_err() {
-        space.forget(set);
-        return Err(AllocError);
+    match queue.push(entry) {
+        Ok(()) => {
+            place.ready.pop_front();
+            place.after = Some(cut);
+            Ok(())
+        }
+        Err(refused) => {
+            give_back(space, &refused.value);
+            Err(AllocError)
+        }
     }
-    place.after = Some(cut);
-    Ok(())
 }
 
-/// Draws the next cut into the empty queue, or marks that none is left. Want of memory leaves all as it was.
+/// Draws the next cut into the empty queue, or marks that none is left. Want of memory leaves what is owed.
 pub(crate) fn draw<S: Space, P: Choose>(
     alloc: Global,
     space: &mut S,
@@ -101,7 +138,7 @@ pub(crate) fn draw<S: Space, P: Choose>(
     ensures err { OnErr result (queue.new.items ≡ queue.old.items) }
     ensures ok { OnOk result (HasMore queue.new.items (Some place.new)) }
 {
-    match next_entry(alloc, space, both, place.cost, place.after)? {
+    match next_entry(alloc, space, both, place)? {
         None => {
             place.left = false;
             Ok(())

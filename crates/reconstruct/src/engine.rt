@@ -33,13 +33,13 @@ ghost use Rattle.reconstruct.specs.Working.{FewTurns};
 ghost use Rattle.reconstruct.specs.Engine.{system_of, most_of, ended_by, Pends, tells, IsEngine, KeepsAll, HasRoom, Answers};
 ghost use Rattle.reconstruct.specs.Laws.{engine_fair, engine_told};
 
-use crate::giving::give;
+use crate::next_plan::give;
 use lazy_plans::{LazyPlans, Steps};
 use std::sync::ledger::Ledger;
 
 impl<S: Space, P: Choose> TopPlans<S, P> {
-    /// Asks for the next plan, and tidies the space before it is handed out. Where that is refused the plan is held, and the
-    /// engine stops.
+    /// Asks for the next plan, and tidies the space before it is handed out. Where that is refused the plan is held,
+    /// and the engine stops.
     fn ask<L: Ledger>(&mut self, alloc: Global, steps: &mut Steps<L>) -> Result<Option<Plan>, Stop>
         requires engine { IsEngine S.view self.old }
         requires goes_on { ended_by self.old ≡ None }
@@ -93,8 +93,9 @@ impl<S: Space, P: Choose> LazyPlans for TopPlans<S, P> {
 
     ghost last = { λ x. ended_by x };
 
-    /// The next plan. One turn is one step: a plan takes at most as many turns as it has operators, and two; None takes none.
-    /// After each call every valid set is one that the engine keeps, and after a plan or None the space is tidy.
+    /// The next plan. One turn is one step: a plan takes at most as many turns as it has operators, and two; None
+    /// takes none. After each call every valid set is one that the engine keeps, and after a plan or None the space
+    /// is tidy.
     fn next_plan<L: Ledger>(
         &mut self,
         alloc: Global,

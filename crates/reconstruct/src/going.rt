@@ -1,7 +1,7 @@
 //! On to the next cost at which a plan exists, and its first cut.
 
-/// Whether an entry stands in the queue, or why not: no plan that is wanted is left, or each one that is left costs more than
-/// 64 bits hold.
+/// Whether an entry stands in the queue, or why not: no plan that is wanted is left, or each one that is left costs
+/// more than 64 bits hold.
 #[derive(Clone, Copy, Debug, PartialEq, Eq)]
 pub(crate) enum Filled {
     Ready,
@@ -22,6 +22,7 @@ use bidirectional::{Both, Choose, Next, Within};
 use entry_turns::Entry;
 use space_api::{Space, SpaceFault};
 use std::alloc::Global;
+use std::collections::VecDeque;
 
 /// The cost that is listed.
 fn cost_of(listed: &Option<Place>) -> Option<u64>
@@ -86,6 +87,7 @@ pub(crate) fn go_on<S: Space, P: Choose>(
                 cost,
                 after: None,
                 left: true,
+                ready: VecDeque::new(alloc),
             };
             draw(alloc, space, both, &mut place, queue)?;
             *listed = Some(place);

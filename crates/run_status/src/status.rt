@@ -22,8 +22,8 @@ pub enum Status {
     Exhausted,
     /// A block of the list fails.
     BadList,
-    /// All plans up to the greatest cost that is wanted were listed: fewer than were asked for or, where one more was looked
-    /// for, no more.
+    /// All plans up to the greatest cost that is wanted were listed: fewer than were asked for or, where one
+    /// more was looked for, no more.
     Bounded,
     /// The list that was to be gone on from misses a plan.
     Gap,
@@ -41,8 +41,8 @@ pub enum Status {
     Unreadable,
     /// The sink refused bytes.
     WriteFault,
-    /// All plans of at most 64-bit cost were listed, fewer than were asked for or, where one more was looked for, no more, and
-    /// there is a dearer one.
+    /// All plans of at most 64-bit cost were listed, fewer than were asked for or, where one more was looked
+    /// for, no more, and there is a dearer one.
     CostRange,
     /// Memory is wanting.
     Memory,

@@ -4,8 +4,8 @@ use Rattle.std.proofs.lemmas.List.{append-nil}
 use Rattle.std.specs.Option.{option_map, option_and_then}
 use Rattle.symk_task.specs.declared.parts.Fact.{Fact}
 use Rattle.symk_task.specs.declared.parts.Variable.{Variable}
-use Rattle.sas_reader.specs.Numbers.{with_first, HasNoPlainFirst}
-use Rattle.sas_reader.specs.Reading.{fact_first, with_fact, conds_of, counted_conds, ending_numbers, effect_after, effect_of}
+use Rattle.sas_reader.specs.Numbers.{with_first}
+use Rattle.sas_reader.specs.Reading.{fact_first, with_fact, conds_of, ending_numbers}
 
 abbrev Numbers : Type 0
 Numbers = Option (List (Option ℕ))
@@ -73,12 +73,6 @@ facts_done variables front count i o total le so_far =
 
 -- how many, and then so many
 
-pub none_counted : (variables : List Variable) (o : Numbers) → HasNoPlainFirst o → option_and_then (counted_conds variables) o ≡ None
-none_counted variables None h = refl
-none_counted variables (Some []) h = refl
-none_counted variables (Some (None ∷ ns)) h = refl
-none_counted variables (Some (Some n ∷ ns)) h = absurd h
-
 -- the end
 
 pub ending_is : (o o1 o2 o3 : Numbers) (var : ℕ) (pre : Option ℕ) (post : ℕ) → o ≡ with_first (Some var) o1 → o1 ≡ with_first pre o2 → o2 ≡ with_first (Some post) o3 → o3 ≡ Some [] → Some (var, pre, post) ≡ option_and_then ending_numbers o
@@ -90,6 +84,3 @@ not_ending o o1 o2 (Some []) var pre post e f g h = absurd (h refl)
 not_ending o o1 o2 (Some (n ∷ ns)) var pre post e f g h = rw (e, f, g) refl
 
 -- the effect of what was found
-
-pub no_effect : (variables : List Variable) (o : Numbers) → option_and_then (counted_conds variables) o ≡ None → option_and_then (effect_of variables) o ≡ None
-no_effect variables o e = and_then_twice (counted_conds variables) (effect_after variables) o ∙ ap (option_and_then (effect_after variables)) e

@@ -1,21 +1,21 @@
 -- The sections of facts, groups and values are read exactly.
-use Rattle.std.proofs.Common.{◌≡◌, ℕ, zero, suc, ◌+◌, ◌-◌, ◌^◌, ◌≤◌, ◌<◌, Bool, true, false, cond, if◌then◌else◌, eqb, nat_le, nat_lt, List, [], ◌∷◌, ◌++◌, length, get_or, Option, Some, None, IfSome, IsSomeAnd, slice_get, refl, sym, ap, subst, ◌∙◌, arith, codes}
+use Rattle.std.proofs.Common.{◌≡◌, ℕ, zero, suc, ◌+◌, ◌-◌, ◌≤◌, ◌<◌, true, false, cond, if◌then◌else◌, eqb, nat_lt, List, [], ◌∷◌, length, Option, Some, None, IfSome, IsSomeAnd, slice_get, refl, subst, arith, codes}
 use Rattle.std.proofs.lemmas.Option.{cond_some}
 use Rattle.std.proofs.lemmas.List.Elements.{All-nil, All-cons, All-head, All-tail}
 use Rattle.std.proofs.lemmas.Bool.Decides.{nat_tests}
 use Rattle.std.specs.Option.{option_and_then, option_map_or}
-use Rattle.std.specs.List.{flat_map, All, AllByRecursion}
+use Rattle.std.specs.List.{flat_map, All}
 use Rattle.symk_task.specs.declared.parts.Fact.{Fact}
 use Rattle.symk_task.specs.declared.parts.Variable.{Variable}
 use Rattle.symk_task.specs.Variables.{range}
 use Rattle.symk_task.specs.Fits.{InRange, AreFacts}
 use Rattle.sas_reader.specs.declared.fault.Shape.{Shape}
 use Rattle.sas_reader.specs.declared.fault.Shape.TheVariants as shape
-use Rattle.line_grammar.specs.Reading.{Reading, row_at, counted_at}
+use Rattle.line_grammar.specs.Reading.{Reading, counted_at}
 use Rattle.line_grammar.proofs.Exact as grammar
 use Rattle.line_grammar.proofs.Joining as joining
 use Rattle.sas_reader.specs.Numbers.{two_numbers}
-use Rattle.sas_reader.specs.Rows.{Row, word, number, numbers, shape_of, IsSpelled}
+use Rattle.sas_reader.specs.Rows.{Row, number, numbers, shape_of, IsSpelled}
 use Rattle.sas_reader.specs.Format.{fact_numbers, fact_rows, counted_rows, group_rows, value_rows, state_rows, goal_rows}
 use Rattle.sas_reader.specs.Reading.{number_that, count_to, kept, in_range, fact_in, fact_at, most_facts, facts_at, group_at, groups_at, range_at, value_at, next_place, initial_at, state_at, goal_at}
 use Rattle.sas_reader.proofs.Lines.{RowIs, picked_are, number_is, count_is}

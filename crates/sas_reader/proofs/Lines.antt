@@ -1,5 +1,5 @@
 -- Single lines are read exactly.
-use Rattle.std.proofs.Common.{◌≡◌, ℕ, ◌≤◌, ◌<◌, Bool, true, false, cond, eqb, nat_le, ◌^◌, List, [], ◌∷◌, length, Option, Some, None, refl, sym, ap, subst, ◌∙◌, arith, codes}
+use Rattle.std.proofs.Common.{◌≡◌, ℕ, ◌≤◌, ◌<◌, Bool, true, eqb, nat_le, ◌^◌, List, [], ◌∷◌, Option, Some, None, refl, ap, subst, ◌∙◌, arith}
 use Rattle.std.proofs.lemmas.Option.{cond_some}
 use Rattle.std.proofs.lemmas.Bool.Decides.{nat_tests}
 use Rattle.std.proofs.lemmas.Slice.Eq.{bytes_eq-Decides}
@@ -11,7 +11,7 @@ use Rattle.sas_reader.specs.declared.fault.Shape.{Shape}
 use Rattle.sas_reader.specs.declared.fault.Shape.TheVariants as shape
 use Rattle.line_grammar.proofs.Exact as grammar
 use Rattle.line_grammar.proofs.Joining.{Always}
-use Rattle.sas_reader.specs.Numbers.{numbers_of, only_number, two_numbers, three_numbers}
+use Rattle.sas_reader.specs.Numbers.{numbers_of, only_number}
 use Rattle.sas_reader.specs.Rows.{Row, word, name, numbers, number, shape_of, IsSpelled}
 use Rattle.sas_reader.specs.Reading.{exactly, a_name, if_passes, number_that, three}
 use Rattle.sas_reader.proofs.Spelling.{line_for, IsSmall, numbers_spelled}

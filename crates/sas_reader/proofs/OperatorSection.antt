@@ -1,10 +1,10 @@
 -- The section of the operators is read exactly.
-use Rattle.std.proofs.Common.{◌≡◌, ℕ, zero, suc, ◌+◌, ◌-◌, ◌^◌, ◌≤◌, ◌<◌, Bool, true, false, cond, eqb, nat_le, nat_lt, ◌&&◌, ◌||◌, List, [], ◌∷◌, ◌++◌, length, Option, Some, None, IfSome, IsSomeAnd, slice_get, is_none, refl, sym, ap, subst, ◌∙◌, arith, codes}
+use Rattle.std.proofs.Common.{◌≡◌, ℕ, zero, suc, ◌+◌, ◌-◌, ◌≤◌, ◌<◌, Bool, true, false, cond, nat_le, ◌&&◌, ◌||◌, List, [], ◌∷◌, ◌++◌, length, Option, Some, None, IfSome, IsSomeAnd, slice_get, is_none, refl, sym, ap, subst, ◌∙◌, arith, codes}
 use Rattle.std.proofs.lemmas.Option.{cond_some}
 use Rattle.std.proofs.lemmas.List.Elements.{All-nil, All-cons, All-head, All-tail}
 use Rattle.std.proofs.lemmas.Bool.Decides.{nat_tests}
 use Rattle.std.specs.Option.{option_map, option_and_then, option_map_or}
-use Rattle.std.specs.List.{flat_map, list_any, All, AllByRecursion}
+use Rattle.std.specs.List.{flat_map, list_any, All}
 use Rattle.symk_text.specs.Lines.{IsLine}
 use Rattle.symk_task.specs.declared.parts.Fact.{Fact}
 use Rattle.symk_task.specs.declared.parts.Variable.{Variable}
@@ -14,13 +14,13 @@ use Rattle.symk_task.specs.Variables.{range, is_base}
 use Rattle.symk_task.specs.Fits.{InRange, AreFacts, FitsEffect, FitsOperator}
 use Rattle.sas_reader.specs.declared.fault.Shape.{Shape}
 use Rattle.sas_reader.specs.declared.fault.Shape.TheVariants as shape
-use Rattle.line_grammar.specs.Reading.{Reading, row_at, both_at, before_at, counted_at}
+use Rattle.line_grammar.specs.Reading.{Reading, both_at, before_at}
 use Rattle.line_grammar.proofs.Exact as grammar
 use Rattle.line_grammar.proofs.Joining as joining
 use Rattle.line_grammar.proofs.Joining.{Always}
-use Rattle.sas_reader.specs.Rows.{Row, word, name, number, numbers, shape_of, IsSpelled}
+use Rattle.sas_reader.specs.Rows.{word, name, number, numbers, shape_of, IsSpelled}
 use Rattle.sas_reader.specs.Format.{fact_numbers, fact_rows, counted_rows, name_rows, effect_numbers, effect_rows, operator_rows}
-use Rattle.sas_reader.specs.Reading.{exactly, number_that, count_to, kept, in_range, name_at, facts_at, fact_first, with_fact, conds_of, counted_conds, is_base_at, allows, ending_numbers, ending_that, ending_of, effect_with, effect_after, effect_of, effect_in, effect_at, most_effects, effects_at, cost_at, operator_of, operator_at, operators_at}
+use Rattle.sas_reader.specs.Reading.{exactly, number_that, in_range, name_at, facts_at, fact_first, with_fact, conds_of, counted_conds, is_base_at, allows, ending_of, effect_with, effect_after, effect_of, effect_in, effect_at, most_effects, effects_at, cost_at, operator_of, operator_at, operators_at}
 use Rattle.sas_reader.proofs.Lines.{RowIs, numbers_are, number_is}
 use Rattle.sas_reader.proofs.Sections.{Exact, after_word, before_word, exact_name}
 use Rattle.sas_reader.proofs.FactSections.{Good, exact_list, exact_facts, range_passes, passes_range}
@@ -201,9 +201,6 @@ exact_cost : Exact cost_at (λ c. number shape.Cost c ∷ []) Always
 exact_cost = grammar.exact_row shape_of IsSpelled shape.Cost (number_that (λ _. true)) (number shape.Cost) Always (number_is shape.Cost (λ _. true) Always (λ _ _. tt) (λ _ _. refl) 0 tt (omega arith))
 
 -- an operator
-
-abbrev Parts : Type 0
-Parts = List ℕ × (List Fact × (List Effect × ℕ))
 
 abbrev OperatorFits : List Variable → List ℕ × (List Fact × (List Effect × ℕ)) → Type 0
 OperatorFits variables x = IsLine x.0 × (AreFacts variables x.1.0 × (((length x.1.1.0 ≤ most_effects variables) × All (FitsEffect variables) x.1.1.0) × Unit {0}))

@@ -1,5 +1,5 @@
 -- The section of the rules is read exactly.
-use Rattle.std.proofs.Common.{◌≡◌, ℕ, zero, suc, ◌+◌, ◌-◌, ◌^◌, ◌≤◌, ◌<◌, ◌⊎◌, inl, inr, Bool, true, false, cond, eqb, nat_le, nat_lt, ◌&&◌, ◌||◌, List, [], ◌∷◌, ◌++◌, length, get_or, Option, Some, None, IfSome, IsSomeAnd, slice_get, is_none, refl, sym, ap, subst, ◌∙◌, arith, codes}
+use Rattle.std.proofs.Common.{◌≡◌, ℕ, zero, suc, ◌-◌, ◌≤◌, ◌<◌, ◌⊎◌, inl, inr, Bool, true, false, cond, eqb, nat_lt, ◌&&◌, ◌||◌, List, [], ◌∷◌, length, get_or, Option, Some, None, IsSomeAnd, slice_get, is_none, refl, ap, subst, arith, codes}
 use Rattle.std.proofs.lemmas.Option.{cond_some}
 use Rattle.std.proofs.lemmas.List.Elements.{All-nil, All-cons, All-head, All-tail}
 use Rattle.std.proofs.lemmas.Bool.Decides.{nat_tests}
@@ -8,15 +8,14 @@ use Rattle.std.specs.List.{list_all, All}
 use Rattle.symk_task.specs.declared.parts.Fact.{Fact}
 use Rattle.symk_task.specs.declared.parts.Variable.{Variable}
 use Rattle.symk_task.specs.declared.parts.Rule.{Rule}
-use Rattle.symk_task.specs.Variables.{range, is_base}
-use Rattle.symk_task.specs.Fits.{InRange, AreFacts}
-use Rattle.sas_reader.specs.declared.fault.Shape.{Shape}
+use Rattle.symk_task.specs.Variables.{is_base}
+use Rattle.symk_task.specs.Fits.{AreFacts}
 use Rattle.sas_reader.specs.declared.fault.Shape.TheVariants as shape
-use Rattle.line_grammar.specs.Reading.{Reading, row_at, both_at, before_at, counted_at}
+use Rattle.line_grammar.specs.Reading.{row_at, before_at}
 use Rattle.line_grammar.proofs.Exact as grammar
 use Rattle.line_grammar.proofs.Joining as joining
 use Rattle.sas_reader.specs.Numbers.{three_numbers}
-use Rattle.sas_reader.specs.Rows.{Row, word, numbers, shape_of, IsSpelled}
+use Rattle.sas_reader.specs.Rows.{word, numbers, shape_of, IsSpelled}
 use Rattle.sas_reader.specs.Format.{fact_rows, counted_rows, rule_rows}
 use Rattle.sas_reader.specs.Reading.{exactly, kept, facts_at, may_stand, heads, head_fits, head_in, rule_of, rule_at, most_rules, rules_at}
 use Rattle.sas_reader.proofs.Lines.{RowIs, picked_are}

@@ -1,15 +1,14 @@
 -- The sections of a file are read exactly.
-use Rattle.std.proofs.Common.{◌≡◌, ℕ, ◌+◌, ◌≤◌, ◌<◌, Bool, true, false, cond, List, [], ◌∷◌, ◌++◌, length, Option, Some, None, refl, sym, ap, subst, ◌∙◌, arith, codes}
-use Rattle.std.specs.List.{flat_map, AllByRecursion}
+use Rattle.std.proofs.Common.{ℕ, ◌+◌, ◌≤◌, List, [], ◌∷◌, ◌++◌, codes}
 use Rattle.symk_text.specs.Lines.{IsLine}
 use Rattle.sas_reader.specs.declared.fault.Shape.{Shape}
 use Rattle.sas_reader.specs.declared.fault.Shape.TheVariants as shape
-use Rattle.line_grammar.specs.Reading.{Reading, row_at, both_at, after_at, before_at, counted_at}
+use Rattle.line_grammar.specs.Reading.{Reading, after_at, before_at}
 use Rattle.line_grammar.proofs.Exact as grammar
 use Rattle.line_grammar.proofs.Joining as joining
-use Rattle.sas_reader.specs.Rows.{Row, word, name, numbers, number, shape_of, IsSpelled}
+use Rattle.sas_reader.specs.Rows.{Row, word, name, number, shape_of, IsSpelled}
 use Rattle.sas_reader.specs.Format.{header_rows, name_rows}
-use Rattle.sas_reader.specs.Reading.{exactly, a_name, three, count_to, name_at, header_at, kept}
+use Rattle.sas_reader.specs.Reading.{exactly, a_name, three, count_to, name_at, header_at}
 use Rattle.sas_reader.proofs.Lines.{word_is, name_is, three_is, count_is}
 
 abbrev pub Exact : {A : Type 0} → Reading Shape A → (A → List Row) → (A → Type 0) → Type 0

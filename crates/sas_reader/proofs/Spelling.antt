@@ -1,17 +1,17 @@
 -- Each list of numbers is spelled by some line.
-use Rattle.std.proofs.Common.{◌≡◌, ℕ, zero, suc, ◌+◌, ◌-◌, ◌*◌, ◌/◌, ◌%◌, ◌^◌, ◌<◌, ◌≤◌, Bool, true, false, cond, not, eqb, nat_lt, nat_le, ◌&&◌, List, [], ◌∷◌, ◌++◌, length, get_or, take, filter, Option, Some, None, refl, sym, ap, subst, ◌∙◌, arith, codes, decimal, length-append}
+use Rattle.std.proofs.Common.{◌≡◌, ℕ, ◌+◌, ◌-◌, ◌*◌, ◌/◌, ◌%◌, ◌^◌, ◌<◌, ◌≤◌, Bool, true, false, eqb, nat_lt, nat_le, List, [], ◌∷◌, ◌++◌, length, take, filter, Option, Some, None, refl, ap, subst, ◌∙◌, arith, codes, decimal}
 use Rattle.std.proofs.lemmas.Fmt.{decimal_by_steps, length-decimal-le, decimal_nonempty}
 use Rattle.std.proofs.lemmas.List.Splits.{slice_split_at}
 use Rattle.std.proofs.lemmas.List.Elements.{All-from_recursion}
 use Rattle.std.proofs.lemmas.List.{take_all}
 use Rattle.std.proofs.lemmas.Bool.Decides.{nat_tests}
 use Rattle.std.proofs.lemmas.Slice.Eq.{bytes_eq-Decides}
-use Rattle.std.specs.Option.{option_map, option_and_then}
+use Rattle.std.specs.Option.{option_and_then}
 use Rattle.std.specs.Str.{bytes_eq}
 use Rattle.std.specs.List.{fold, prefix_len, slice_split, AllByRecursion}
 use Rattle.std.specs.Char.{is_ascii_digit}
 use Rattle.symk_text.specs.Numbers.{value_of, run_at, number_at}
-use Rattle.sas_reader.specs.Numbers.{is_blank_byte, words_of, number_of_word, numbers_of_words, numbers_of, with_first, if_whole}
+use Rattle.sas_reader.specs.Numbers.{is_blank_byte, words_of, number_of_word, numbers_of_words, numbers_of, with_first}
 
 abbrev next : ℕ → ℕ → ℕ
 next value digit = value * 10 + (digit - 48)

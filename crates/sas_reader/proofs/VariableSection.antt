@@ -1,22 +1,21 @@
 -- The section of the variables is read exactly.
-use Rattle.std.proofs.Common.{◌≡◌, ℕ, suc, ◌+◌, ◌-◌, ◌^◌, ◌≤◌, ◌<◌, Bool, true, false, cond, eqb, nat_le, ◌&&◌, List, [], ◌∷◌, ◌++◌, length, Option, Some, None, IfSome, is_none, Ok, refl, sym, ap, subst, ◌∙◌, arith, codes}
+use Rattle.std.proofs.Common.{◌≡◌, ℕ, ◌+◌, ◌^◌, ◌≤◌, ◌<◌, true, cond, nat_le, List, [], ◌∷◌, ◌++◌, length, Option, Some, None, IfSome, is_none, Ok, refl, subst, arith, codes}
 use Rattle.std.proofs.lemmas.Option.{cond_some}
 use Rattle.std.proofs.lemmas.Bool.Decides.{nat_tests}
 use Rattle.std.specs.Option.{option_and_then}
-use Rattle.std.specs.List.{flat_map, AllByRecursion}
+use Rattle.std.specs.List.{flat_map}
 use Rattle.symk_text.specs.Lines.{IsLine}
 use Rattle.symk_task.specs.declared.parts.Variable.{Variable}
-use Rattle.symk_task.specs.Variables.{range, width, doublings, is_base}
+use Rattle.symk_task.specs.Variables.{range, width, doublings}
 use Rattle.symk_task.specs.Fits.{bits_of}
 use Rattle.symk_task.specs.declared.bits.TheConstants.{STATE_BITS}
-use Rattle.sas_reader.specs.declared.fault.Shape.{Shape}
 use Rattle.sas_reader.specs.declared.fault.Shape.TheVariants as shape
 use Rattle.line_grammar.specs.Rows.{Lines}
-use Rattle.line_grammar.specs.Reading.{Reading, row_at, both_at, after_at, before_at}
+use Rattle.line_grammar.specs.Reading.{row_at, both_at, before_at}
 use Rattle.line_grammar.proofs.Exact as grammar
 use Rattle.line_grammar.proofs.Joining as joining
 use Rattle.sas_reader.specs.Numbers.{only_number}
-use Rattle.sas_reader.specs.Rows.{Row, word, name, numbers, number, shape_of, IsSpelled}
+use Rattle.sas_reader.specs.Rows.{word, name, numbers, number, shape_of, IsSpelled}
 use Rattle.sas_reader.specs.Format.{name_rows, variable_rows, counted_rows}
 use Rattle.sas_reader.specs.Reading.{exactly, number_that, count_to, if_layer, layer_in, may_have, name_at, kept, values_at, variable_of, variable_at, variables_at, used_after}
 use Rattle.sas_reader.proofs.Lines.{RowIs, picked_are, number_is, count_is}

@@ -1,5 +1,5 @@
 -- A whole file is read exactly.
-use Rattle.std.proofs.Common.{◌≡◌, ℕ, zero, suc, ◌+◌, ◌-◌, ◌≤◌, ◌<◌, Bool, true, false, cond, eqb, nat_le, nat_lt, ◌&&◌, List, [], ◌∷◌, ◌++◌, length, get_or, Option, Some, None, IfSome, IsSomeAnd, slice_get, is_none, Ok, Err, take, refl, sym, ap, subst, ◌∙◌, arith}
+use Rattle.std.proofs.Common.{◌≡◌, ℕ, zero, suc, ◌+◌, ◌-◌, ◌≤◌, ◌<◌, true, cond, nat_le, List, [], ◌∷◌, ◌++◌, length, get_or, Option, Some, None, IfSome, slice_get, is_none, Ok, Err, take, refl, sym, ap, subst, ◌∙◌, arith}
 use Rattle.std.proofs.lemmas.List.Elements.{All-nil, All-cons, All-head, All-tail}
 use Rattle.std.proofs.lemmas.List.Sums.{sum_by-cons}
 use Rattle.std.proofs.lemmas.Bool.Decides.{nat_tests}
@@ -11,7 +11,7 @@ use Rattle.symk_task.specs.declared.parts.Variable.{Variable}
 use Rattle.symk_task.specs.declared.parts.Operator.{Operator}
 use Rattle.symk_task.specs.declared.parts.Rule.{Rule}
 use Rattle.symk_task.specs.declared.parts.TaskParts.{TaskParts}
-use Rattle.symk_task.specs.Variables.{range, width, is_base}
+use Rattle.symk_task.specs.Variables.{range, width}
 use Rattle.symk_task.specs.Fits.{bits_of, AreFacts, FitsVariable, FitsOperator, FitsRule, Fits}
 use Rattle.symk_task.specs.declared.bits.TheConstants.{STATE_BITS}
 use Rattle.sas_reader.specs.declared.fault.Shape.{Shape}
@@ -27,10 +27,10 @@ use Rattle.sas_reader.specs.Rows.{Row, shape_of, IsSpelled}
 use Rattle.sas_reader.specs.Format.{header_rows, counted_rows, variable_rows, group_rows, state_rows, goal_rows, operator_rows, rule_rows, file_rows, IsFileOf, Wants}
 use Rattle.sas_reader.specs.Reading.{kept, may_have, used_after, range_at, next_place, header_at, file_at, variables_at, groups_at, state_at, goal_at, operators_at, rules_at, Parts, task_of, main_at}
 use Rattle.sas_reader.proofs.Sections.{Exact, FitFrom, IsMetric, exact_header}
-use Rattle.sas_reader.proofs.VariableSection.{IsLayer, VariableFits, VariablesFit, variable_within, exact_variables}
+use Rattle.sas_reader.proofs.VariableSection.{VariableFits, VariablesFit, variable_within, exact_variables}
 use Rattle.sas_reader.proofs.FactSections.{Good, ValuesFit, all_fit, fit_all, exact_groups, exact_state, exact_goal}
 use Rattle.sas_reader.proofs.OperatorSection.{exact_operators}
-use Rattle.sas_reader.proofs.RuleSection.{Layered, Defaults, RuleFits, RuleIsFit, exact_rules}
+use Rattle.sas_reader.proofs.RuleSection.{Layered, Defaults, RuleIsFit, exact_rules}
 
 -- The variables.
 

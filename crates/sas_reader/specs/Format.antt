@@ -1,5 +1,5 @@
 -- The rows of a task file.
-use Rattle.std.specs.Prelude.{ℕ, ◌-◌, List, [], ◌∷◌, ◌++◌, length, codes, Option, Some, None}
+use Rattle.std.specs.Prelude.{ℕ, ◌-◌, List, [], ◌∷◌, ◌++◌, length, codes, Option, Some}
 use Rattle.std.specs.List.{flat_map}
 use Rattle.sas_reader.specs.declared.fault.Shape.{Shape}
 use Rattle.sas_reader.specs.declared.fault.Shape.TheVariants as shape

@@ -1,5 +1,5 @@
 -- What is known of the variables once they are read.
-use Rattle.std.specs.Prelude.{ℕ, ◌≤◌, List, length, All}
+use Rattle.std.specs.Prelude.{◌≤◌, List, length, All}
 use Rattle.symk_task.specs.declared.parts.Variable.{Variable}
 use Rattle.symk_task.specs.Variables.{range}
 

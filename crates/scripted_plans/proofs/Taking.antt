@@ -21,10 +21,6 @@ got_first (q ∷ plans) p e = subst (λ (z : List ℕ). IsOneOf (q ∷ plans) z)
     some_is : (a b : List ℕ) → Some a ≡ Some b → a ≡ b
     some_is a b e = cc
 
-pub none_first : (plans : List (List ℕ)) → None ≡ slice_get plans 0 → (q : List ℕ) → ¬ IsOneOf plans q
-none_first [] e q h = cc
-none_first (p ∷ plans) e q h = cc
-
 pub gave_script : (plans later : List (List ℕ)) (p : List ℕ) → Some p ≡ slice_get plans 0 → ((q : List ℕ) → is_one_of later q ≡ cond (pointwise nat_eq p q) false (is_one_of plans q))
     → Gave free TopK None (IsOneOf plans) (IsOneOf later) p
 gave_script plans later p first taken = record {

@@ -9,7 +9,7 @@ use Rattle.symk_task.specs.declared.parts.Mode.TheVariants.{TopK, Unordered}
 use Rattle.symk_task.specs.Plans.{Same, IsListed}
 use Rattle.task_system.specs.System.{System, IsPlan, cost_of, same, are_equal}
 use Rattle.task_system.proofs.SameLaw.{same_law}
-use Rattle.lazy_plans.specs.Law.{Gave, Stays, Stops, Fair, NoneLeft, Turned, top}
+use Rattle.lazy_plans.specs.Law.{Gave, Stays, Stops, Fair, Turned, top}
 use Rattle.lazy_plans.specs.declared.stop.Stop.{Stop}
 use Rattle.lazy_plans.specs.declared.stop.Stop.TheVariants.{Memory, CostRange}
 use Rattle.lazy_plans.proofs.Given.{stays_trans, turned_from}
@@ -101,23 +101,7 @@ module _ (system : System) (below mode : Mode) (most : Option ℕ) (finer : (p q
     );
   }
 
--- one that is not is given, where the engine below is of this mode
-gives : (system : System) (mode : Mode) (most : Option ℕ) (keys : List (List ℕ)) (before after : List ℕ → Type 0) (p : List ℕ) → Gave system mode most before after p → ¬ IsListed mode keys p → Gave system mode most (Unlisted mode keys before) (Unlisted mode keys after) p
-gives system mode most keys before after p gave fresh = record {
-  pended = (fresh, gave.pended);
-  fits = gave.fits;
-  least = λ q h. gave.least q h.1;
-  rest = λ q. (
-    (λ h. let k = (gave.rest q).0 h.1 in ((h.0, k.0), k.1)),
-    (λ h. (h.0.0, (gave.rest q).1 (h.0.1, h.1))),
-  );
-}
-
 -- The answers that end it.
-
-none_left : (system : System) (mode : Mode) (most : Option ℕ) (keys : List (List ℕ)) (before : List ℕ → Type 0) → NoneLeft system most before → NoneLeft system most (Unlisted mode keys before)
-none_left system mode None keys before n = λ q h. n q h.1
-none_left system mode (Some c) keys before n = λ q h. n q h.1
 
 -- a plan that is too dear is not listed
 dear_unlisted : (system : System) (mode : Mode) (most : Option ℕ) (keys : List (List ℕ)) (q : List ℕ) → AreKeys system mode most keys → top most < cost_of system q → ¬ IsListed mode keys q
@@ -213,6 +197,3 @@ module _ (system : System) (mode : Mode) (most : Option ℕ) (keys : List (List 
 
   pub after_stop : (stop : Stop) → AreKeys system mode most keys → Stops system most before stop × Stays before after → Stops system most (Unlisted mode keys first) stop × Stays (Unlisted mode keys first) (Unlisted mode keys after)
   after_stop stop ok h = turned_from system mode most (Unlisted mode keys first) (Unlisted mode keys before) (Unlisted mode keys after) (Err stop) stays (stops system mode most keys before stop ok h.0, unlisted_stays mode keys before after h.1)
-
-  pub after_none : NoneLeft system most before × Stays before after → NoneLeft system most (Unlisted mode keys first) × Stays (Unlisted mode keys first) (Unlisted mode keys after)
-  after_none h = turned_from system mode most (Unlisted mode keys first) (Unlisted mode keys before) (Unlisted mode keys after) (Ok None) stays (none_left system mode most keys before h.0, unlisted_stays mode keys before after h.1)

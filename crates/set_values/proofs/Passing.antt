@@ -62,17 +62,6 @@ module _ (nodes : List Node) (block : Block) (start : ℕ) where
   pub passes_none : (ids : List ℕ) (ends : List ℕ) (marks : List Bool) → AreKnown nodes ends → PassesBelow ids ends marks marks 0
   passes_none ids ends marks known = record { kept = λ place h. h; known = known; found = λ b k lt. absurd (omega (arith, lt)) }
 
-  pub passes_more : (ids : List ℕ) (old new : List ℕ) (marks mid more : List Bool) (n : ℕ) → PassesBelow ids old marks mid n → Adds nodes block start (get_or ids n 0) old new mid more → PassesBelow ids new marks more (n + 1)
-  passes_more ids old new marks mid more n p a = record {
-    kept = λ place h. a.kept place (p.kept place h);
-    known = a.known;
-    found = λ b k lt less m. elim (below_or_at k n lt) [
-      | inl before ↦ finds_more (get_or ids k 0) old new mid more b a.kept a.keeps (p.found b k before less m)
-      | inr at ↦ (let same = ap (λ (i : ℕ). get_or ids i 0) at in
-          subst (λ (id : ℕ). Finds nodes block start id new more b) (sym same) (a.found b less (subst (λ (id : ℕ). means nodes id b ≡ true) same m)))
-    ];
-  }
-
   -- and of all of them
   pub passes_all : (ids ends next : List ℕ) (marks more : List Bool) → PassesBelow ids ends marks more (length ids) → ((q : ℕ) → HasId next q ↔ HasId ends q) → Passes nodes block start ids next marks more
   unfolding HasId

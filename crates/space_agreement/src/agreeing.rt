@@ -154,10 +154,10 @@ fn rounds<A: Space, B: Space>(
     Ok(true)
 }
 
-/// Whether two spaces answer alike: which operators there are and what they cost, and then, over so many calls that the seed
-/// draws, whether each new set is empty, has the initial state, and equals a set that is kept. Each call is made on both
-/// spaces, with sets that the same calls gave. Sets are given back as it goes, and all of them in the end; now and then both
-/// spaces may collect.
+/// Whether two spaces answer alike: which operators there are and what they cost, and then, over so many calls
+/// that the seed draws, whether each new set is empty, has the initial state, and equals a set that is kept.
+/// Each call is made on both spaces, with sets that the same calls gave. Sets are given back as it goes, and
+/// all of them in the end; now and then both spaces may collect.
 pub fn agree<A: Space, B: Space>(
     alloc: Global,
     a: &mut A,

@@ -67,8 +67,8 @@ fn same_beside<A: Space, B: Space>(
     a.same(pair.left, other.left) == b.same(pair.right, other.right)
 }
 
-/// Whether both spaces answer alike about the pair: whether it is empty, whether it has the initial state, and to which of
-/// the pairs kept it is equal.
+/// Whether both spaces answer alike about the pair: whether it is empty, whether it has the initial state, and
+/// to which of the pairs kept it is equal.
 pub fn alike<A: Space, B: Space>(
     a: &A,
     b: &B,

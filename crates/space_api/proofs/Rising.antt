@@ -1,11 +1,8 @@
 -- Rising numbers of a list: none of it lies between one and the next.
-use Rattle.std.proofs.Common.{◌≡◌, ℕ, zero, suc, ◌+◌, ◌-◌, ◌<◌, ◌≤◌, ◌⊎◌, ◌↔◌, inl, inr, true, false, List, length, get_or, Result, Ok, Err, refl, sym, ◌∙◌, subst, arith}
+use Rattle.std.proofs.Common.{◌≡◌, ℕ, zero, suc, ◌+◌, ◌-◌, ◌<◌, ◌≤◌, ◌⊎◌, inl, inr, List, length, get_or, refl, sym, ◌∙◌, subst, arith}
 use Rattle.std.specs.List.{Contains}
-use Rattle.std.specs.List.Sorted.{IsStrictlyIncreasing, IsBinarySearchResult}
-use Rattle.std.specs.Ordering.{nat_cmp}
-use Rattle.std.specs.Result.{is_ok}
+use Rattle.std.specs.List.Sorted.{IsStrictlyIncreasing}
 use Rattle.std.proofs.lemmas.List.{get_or_default}
-use Rattle.std.proofs.lemmas.List.Sorted.{searched}
 
 before_or : (a b : ℕ) → (a < b) ⊎ (b ≤ a)
 before_or a b = grind arith
@@ -69,22 +66,3 @@ module _ (xs : List ℕ) (up : IsStrictlyIncreasing xs) where
     | inl strict ↦ (let r = rises i j strict lt in omega (arith, r))
     | inr rest ↦ (let same : i ≡ j = omega (arith, le, rest) in subst (λ (n : ℕ). get_or xs i 0 ≤ get_or xs n 0) same (omega arith))
   ]
-
-  -- what a search by halves finds
-  pub found_in : (x : ℕ) (r : Result ℕ ℕ) → IsBinarySearchResult (λ y. nat_cmp y x) xs r → is_ok r ≡ true ↔ Contains xs x
-  found_in x (Ok i) h =
-      let s = searched xs x (Ok i) h never_falls in
-      ((λ e. (i, s.0, get_or_default xs i x 0 s.0 ∙ s.1)), (λ c. refl))
-  found_in x (Err i) h =
-      let s = searched xs x (Err i) h never_falls in (
-        (λ e. absurd (differs e)),
-        (λ (k, lt, at). absurd (
-            let here : get_or xs k 0 ≡ x = get_or_default xs k 0 x lt ∙ at in
-            elim (before_or k i) [
-              | inl before ↦ (let l = s.1 k before in omega (arith, l, here))
-              | inr after ↦ (let l = s.2 k after lt in omega (arith, l, here))
-            ])),
-      )
-    where
-      differs : false ≡ true → ⊥
-      differs e = cc

@@ -1,7 +1,8 @@
 //! Spaces of sets of states.
 
 ghost use Rattle.std.specs.Prelude.{◌≡◌, ◌+◌, ◌*◌, ◌<◌, ◌≤◌, ◌↔◌, ℕ, IsTrue, IsFalse, IfOk, OnOk, OnErr, length, slice_index};
-ghost use Rattle.symk_task.specs.Variables.{IsBase};
+ghost use Rattle.symk_task.specs.Variables.{IsBase, IsState};
+ghost use Rattle.task_run.specs.Counted.{AreRulesOf};
 ghost use Rattle.task_system.specs.System.{State, Listed};
 ghost use Rattle.task_system.specs.Computed.{system_of};
 ghost use Rattle.space_api.specs.View.{View, Valid, Has, HasMember, IsEmpty, HasSame, GoalIn, FactIn, Unites, Meets, Lacks, Image, CostImage, Preimage, CostPreimage};
@@ -12,7 +13,8 @@ ghost use Rattle.space_api.specs.Costs.{costs_of};
 ghost use Rattle.space_api.specs.Operators.{LeadInto, LeadFrom};
 
 use std::alloc::Global;
-use symk_task::{Fact, Memory};
+use symk_task::{Fact, Memory, State, Task};
+use task_run::Rules;
 
 /// Why a call of a space is refused: want of memory alone.
 pub type SpaceFault = Memory;
@@ -20,13 +22,14 @@ pub type SpaceFault = Memory;
 /// Sets of states of one task.
 ///
 /// Each call is given valid sets of this space. Each call that gives a set gives one that was not valid before; it is
-/// valid until it is handed to `forget`. No call changes the task or what a valid set has, and a refused call makes no set
-/// valid.
+/// valid until it is handed to `forget`. No call changes the task or what a valid set has, and a refused call makes
+/// no set valid.
 pub trait Space {
     /// A name of a set. It is copied freely; the set is given back once, by `forget`.
     type Set: Copy;
 
-    /// The task and its system, which sets are valid, which states each has, and how many nodes are held and were needed last.
+    /// The task and its system, which sets are valid, which states each has, and how many nodes are held and were
+    /// needed last.
     ghost view: { Self → View Self.Set };
 
     /// Whether the space needs just so many nodes for its valid sets and for itself.
@@ -111,8 +114,13 @@ pub trait Space {
     fn last(&self) -> usize
         ensures { result ≡ (view self.now).last };
 
-    /// Collects, that is throws away what the space doesn't need, where more than twice as many nodes as were needed last
-    /// time, and 1,000, are held. Else nothing changes.
+    /// How much work the space's operations were so far, up to wrapping, in steps of its own; 0 always where they
+    /// aren't counted. It takes no memory. Those may look at it who choose between two searches: nothing that is told
+    /// of sets hangs on it.
+    fn work(&self) -> u64;
+
+    /// Collects, that is throws away what the space doesn't need, where more than twice as many nodes as were needed
+    /// last time, and 1,000, are held. Else nothing changes.
     fn tidy(&mut self) -> Result<(), SpaceFault>
         ensures stays { Stays (view self.old) (view self.new) }
         ensures ok { OnOk result (Tidied (needs self.old) (needs self.new) (view self.old) (view self.new)) }
@@ -130,6 +138,12 @@ pub trait Space {
         requires a { Valid (view self.now) a }
         requires b { Valid (view self.now) b }
         ensures { IsTrue result ↔ HasSame (view self.now) a b };
+
+    /// Membership: whether the state is one of the set. It takes no memory.
+    fn has(&self, a: Self::Set, state: &State) -> bool
+        requires a { Valid (view self.now) a }
+        requires state { IsState (view self.now).task state.now }
+        ensures { result ≡ (view self.now).has a state.now };
 
     /// Whether the initial state is one of the set.
     fn has_init(&self, a: Self::Set) -> bool
@@ -159,10 +173,19 @@ pub trait Space {
         requires { Valid (view self.now) a }
         ensures { IfOk result (λ ops. LeadInto (view self.now) a ops.items) };
 
-    /// The operators that may apply in states of `a`, rising: each that leads on from a state of `a`, and perhaps others.
+    /// The operators that may apply in states of `a`, rising: each that leads on from a state of `a`, and perhaps
+    /// others.
     fn operators_from(&self, alloc: Global, a: Self::Set) -> Result<Vec<u32>, SpaceFault>
         requires { Valid (view self.now) a }
         ensures { IfOk result (λ ops. LeadFrom (view self.now) a ops.items) };
+
+    /// The task. It takes no memory.
+    fn task(&self) -> &Task
+        ensures { result.now ≡ (view self.now).task };
+
+    /// The rules of the task that count, for those who look at single states. It takes no memory.
+    fn rules(&self) -> &Rules
+        ensures { AreRulesOf (view self.now).task result.now };
 
     /// The system is that of the task.
     ghost of_task: { (x : Self) → (view x).system ≡ system_of (view x).task };

@@ -1,10 +1,10 @@
 //! Times the search for all states that a task's operators reach, by the calls of a space.
 //!
-//! The words name a space and a task file (SAS, version 3): `explicit FILE` or `diagrams FILE`. The output says how many rounds
-//! found a state, which is how many operators it takes at most to reach one, and whether a goal state is reached; standard
-//! error says the time and how much the space holds. `bench/images.sh` runs it beside a program on BuDDy that does the same.
-//! What it says is exact, over any `Space`. It stands on `reached_states` for the search, on the spaces, and for the file on
-//! `symk_io` and `sas_reader`.
+//! The words name a space and a task file (SAS, version 3): `explicit FILE` or `diagrams FILE`. The output says
+//! how many rounds found a state, which is how many operators it takes at most to reach one, and whether a goal
+//! state is reached; standard error says the time and how much the space holds. `bench/images.sh` runs it
+//! beside a program on BuDDy that does the same. What it says is exact, over any `Space`. It stands on
+//! `reached_states` for the search, on the spaces, and for the file on `symk_io` and `sas_reader`.
 #![tactic(auto)]
 
 mod exploring;

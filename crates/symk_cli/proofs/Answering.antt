@@ -9,8 +9,8 @@ use Rattle.plan_out.specs.declared.end.End.TheVariants as end
 use Rattle.plan_out.specs.declared.check.Checked.{Checked}
 use Rattle.plan_out.specs.declared.check.Checked.TheVariants as checked
 use Rattle.symk_cli.specs.declared.top.TheConstants.{USAGE}
-use Rattle.plan_run.specs.declared.asking.Reach.{Reach}
-use Rattle.plan_run.specs.declared.asking.Reach.TheVariants.{All, UpTo, Percent}
+use Rattle.plan_run.specs.declared.options.Reach.{Reach}
+use Rattle.plan_run.specs.declared.options.Reach.TheVariants.{All, UpTo, Percent}
 use Rattle.run_status.specs.declared.status.Status.{Status}
 use Rattle.run_status.specs.declared.status.Status.TheVariants as status
 use Rattle.run_status.specs.Sent.{Sent, nothing, IsOne}

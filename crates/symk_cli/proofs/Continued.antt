@@ -14,7 +14,7 @@ use Rattle.plan_out.specs.Fails.{Finds}
 use Rattle.plan_out.specs.Lists.{plans_of, IsGoodList}
 use Rattle.plan_out.proofs.GoodList.{good}
 use Rattle.plan_out.proofs.Noting.{get_push}
-use Rattle.plan_run.specs.declared.asking.Wanted.{Wanted}
+use Rattle.plan_run.specs.declared.options.Wanted.{Wanted}
 use Rattle.plan_run.specs.declared.earlier.Earlier.{Earlier}
 use Rattle.run_status.specs.declared.status.Status.{Status}
 use Rattle.run_status.specs.declared.status.Status.TheVariants as status

@@ -10,7 +10,7 @@ use Rattle.plan_out.specs.Fails.{Finds}
 use Rattle.plan_out.specs.Lists.{plans_of}
 use Rattle.run_status.specs.Sent.{Sent, IsOne}
 use Rattle.plan_run.specs.Lists.{Aim, aim_after, MayCome, PartListing, WholeOrPart}
-use Rattle.plan_run.specs.declared.asking.Wanted.{Wanted}
+use Rattle.plan_run.specs.declared.options.Wanted.{Wanted}
 use Rattle.run_status.specs.declared.status.Status.{Status}
 use Rattle.run_status.specs.declared.status.Status.TheVariants.{BadList}
 use Rattle.symk_cli.specs.Verdicts.{Verdict}

@@ -8,12 +8,13 @@ use Rattle.symk_io.specs.View.{Bytes}
 use Rattle.symk_task.specs.declared.parts.Mode.{Mode}
 use Rattle.symk_task.specs.declared.parts.Mode.TheVariants.{TopK, Loopless, Unordered}
 use Rattle.symk_words.specs.Texts.{Texts, PlanTexts, texts_asked, plan, check, demo, prove, refute}
-use Rattle.plan_run.specs.declared.asking.Wanted.{Wanted}
-use Rattle.plan_run.specs.declared.asking.Reach.{Reach}
-use Rattle.plan_run.specs.declared.asking.Reach.TheVariants.{All, UpTo, Percent}
-use Rattle.plan_run.specs.declared.asking.Search.{Search}
-use Rattle.plan_run.specs.declared.asking.Direction.{Direction}
-use Rattle.plan_run.specs.declared.asking.Direction.TheVariants.{Auto, Forward, Backward, Bidirectional}
+use Rattle.plan_run.specs.declared.options.TheConstants.{MOST_PLANS}
+use Rattle.plan_run.specs.declared.options.Wanted.{Wanted}
+use Rattle.plan_run.specs.declared.options.Reach.{Reach}
+use Rattle.plan_run.specs.declared.options.Reach.TheVariants.{All, UpTo, Percent}
+use Rattle.plan_run.specs.declared.options.Search.{Search}
+use Rattle.plan_run.specs.declared.options.Direction.{Direction}
+use Rattle.plan_run.specs.declared.options.Direction.TheVariants.{Auto, Forward, Backward, Bidirectional}
 use Rattle.symk_cli.specs.declared.reading.Named.{Named}
 use Rattle.symk_cli.specs.declared.reading.Named.TheVariants.{File, Plans, Cert}
 
@@ -108,7 +109,7 @@ ask_of t count mode direction reach =
 unfoldable pub spelled : Texts → Option Wish
 spelled (plan t) =
     option_and_then (λ count. option_and_then (λ mode. option_and_then (λ direction. option_and_then (λ reach. lists_if_served t.after (ask_of t count mode direction reach))
-    (reach_of t.bound t.quality)) (direction_of t.search)) (mode_of t.mode)) (number_within 1 1000000000 t.k)
+    (reach_of t.bound t.quality)) (direction_of t.search)) (mode_of t.mode)) (number_within 1 MOST_PLANS t.k)
 spelled (check file plans mode) = option_map (λ m. checks file plans m) (mode_of mode)
 spelled (demo n) = option_map (λ number. shows number) (number_within 1 64 n)
 spelled (prove file) = Some (proves file)

@@ -10,10 +10,10 @@
 
 mod checking;
 mod continuing;
+mod demo;
 mod pieces;
 mod reading;
 mod request;
-mod showing;
 mod top;
 
 pub use run_status::Status;

@@ -6,7 +6,7 @@ ghost use Rattle.plan_run.specs.Reaches.{IsNear};
 ghost use Rattle.symk_cli.specs.Wishes.{number_within, mode_named, mode_of, direction_named, direction_of, reach_of, serves, lists_after, spelled};
 ghost use Rattle.symk_cli.specs.Requests.{wished, IsWithin};
 
-use plan_run::{Direction, Reach, Search, Wanted};
+use plan_run::{Direction, MOST_PLANS, Reach, Search, Wanted};
 use symk_task::Mode;
 use symk_text::number;
 use symk_words::Asked;
@@ -62,7 +62,7 @@ pub fn request_of<'a>(asked: &Asked<'a>) -> Option<Request<'a>>
             after,
             mutex,
         } => {
-            let count = number_within(k, 1, 1_000_000_000)?;
+            let count = number_within(k, 1, MOST_PLANS)?;
             let mode = mode_of(mode)?;
             let direction = direction_of(search)?;
             let reach = reach_of(bound, quality)?;
@@ -103,7 +103,7 @@ fn list_request<'a>(
     reach: Reach,
 ) -> Option<Request<'a>>
     requires least { 1 ≤ wanted.count }
-    requires most { wanted.count ≤ 1000000000 }
+    requires most { wanted.count ≤ MOST_PLANS }
     requires near { IsNear reach }
     ensures wish { option_map wished result ≡ lists_after (option_map (λ s. s.now) after.entry)
         (record { file = file.now; wanted = wanted; mode = mode; search = search; reach = reach }) }

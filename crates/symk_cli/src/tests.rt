@@ -27,8 +27,8 @@ struct Outcome {
     bytes: Vec<u8>,
 }
 
-// The files of a run, and which of its calls fail. PLANS and CERT are two names of one text. A count of blanks stands in the
-// place of a text.
+// The files of a run, and which of its calls fail. PLANS and CERT are two names of one text. A count of blanks
+// stands in the place of a text.
 #[derive(Clone, Copy)]
 struct World<'a> {
     file: &'a [u8],

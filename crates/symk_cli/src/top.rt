@@ -2,6 +2,7 @@
 
 ghost use Rattle.std.specs.Prelude.{◌≡◌, ◌≢◌, ◌≤◌, [], ◌∷◌, Some, None, IfOk, IsErrOf, map, string_bytes};
 ghost use Rattle.run_status.specs.Ends.{HasCauses};
+ghost use Rattle.plan_run.specs.declared.options.TheConstants.{MOST_PLANS};
 ghost use Rattle.plan_run.specs.Reaches.{IsNear};
 ghost use Rattle.symk_cli.specs.Wishes.{wish_of, files_of, lists, continues, checks, proves, refutes};
 ghost use Rattle.symk_cli.specs.Requests.{wished, IsWithin};
@@ -14,9 +15,9 @@ ghost use Rattle.symk_cli.specs.Lengths.{Lengths};
 
 use crate::checking::judge;
 use crate::continuing::go_on;
+use crate::demo::show;
 use crate::reading::{Named, plans_of, task_of, text_of};
 use crate::request::{Request, request_of};
-use crate::showing::show;
 use plan_run::{Reach, Search, Wanted, list_reached};
 use run_status::{Status, end};
 use std::alloc::Global;
@@ -158,7 +159,7 @@ fn plan<F: Files, K: Sink>(
     reach: Reach,
 ) -> Status
     requires least { 1 ≤ wanted.count }
-    requires count { wanted.count ≤ 1000000000 }
+    requires count { wanted.count ≤ MOST_PLANS }
     requires near { IsNear reach }
     ensures answer { Answered (Some
         (lists (record { file = file.now; wanted = wanted; mode = mode; search = search; reach = reach })))
@@ -186,7 +187,7 @@ fn further<F: Files, K: Sink>(
     wanted: Wanted,
 ) -> Status
     requires least { 1 ≤ wanted.count }
-    requires count { wanted.count ≤ 1000000000 }
+    requires count { wanted.count ≤ MOST_PLANS }
     ensures answer { Answered (Some
         (continues (record {
           file = file.now;

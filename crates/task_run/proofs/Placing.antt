@@ -1,5 +1,5 @@
 -- Each rule of the layer is looked at, is done, or waits for a condition that is not met.
-use Rattle.std.proofs.Common.{◌≡◌, ℕ, zero, suc, ◌<◌, ◌⊎◌, inl, inr, List, [], ◌∷◌, ◌++◌, length, get_or, Option, Some, None, slice_get, Contains, refl, sym, ap, subst, ◌∙◌, arith}
+use Rattle.std.proofs.Common.{◌≡◌, ℕ, suc, ◌<◌, ◌⊎◌, inl, inr, List, [], ◌∷◌, ◌++◌, length, get_or, Option, Some, slice_get, Contains, refl, sym, ap, subst, ◌∙◌, arith}
 use Rattle.std.proofs.Math.ListN.{set}
 use Rattle.std.proofs.lemmas.Bool.{cases_eq}
 use Rattle.std.proofs.lemmas.List.{length-set, get_or-set_same, get_or-set_other}
@@ -13,7 +13,7 @@ use Rattle.symk_task.specs.Fits.{Fits, FitsRule, InRange}
 use Rattle.task_run.specs.Values.{HasValue}
 use Rattle.symk_task.proofs.Places.{within_some}
 use Rattle.task_run.proofs.Growing.{rule_within}
-use Rattle.task_run.specs.Looks.{Lacks}
+use Rattle.task_run.specs.RuleStatus.{Lacks}
 use Rattle.task_run.specs.Layer.{IsOpen, Raises, IsStuck}
 use Rattle.task_run.specs.Work.{Stands, waiting_at, Placed, AllPlaced, AllBut, Kept}
 use Rattle.task_run.specs.Work.Placed.{stacked, idle, waits}

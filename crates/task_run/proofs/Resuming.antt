@@ -1,5 +1,5 @@
 -- The conditions of a rule before the place where the last look at it stopped keep their values.
-use Rattle.std.proofs.Common.{◌≡◌, ℕ, ◌+◌, ◌-◌, ◌<◌, inl, inr, List, [], length, get_or, Some, slice_get, sym, ap, subst, ◌∙◌, arith}
+use Rattle.std.proofs.Common.{◌≡◌, ℕ, ◌-◌, ◌<◌, inl, inr, List, [], length, get_or, Some, slice_get, sym, ap, subst, ◌∙◌, arith}
 use Rattle.std.proofs.Math.ListN.{set}
 use Rattle.std.specs.List.{All}
 use Rattle.std.proofs.lemmas.Bool.{cases_eq, cases_lt}
@@ -13,7 +13,7 @@ use Rattle.symk_task.specs.Fits.{Fits, FitsRule, MayStand}
 use Rattle.task_run.specs.Values.{HasValue}
 use Rattle.task_run.specs.Layer.{IsOwn, IsOpen, Raises}
 use Rattle.task_run.specs.Work.{HasBefore, IsFresh, Passed}
-use Rattle.task_run.specs.Looks.{HaveBetween, Lacks}
+use Rattle.task_run.specs.RuleStatus.{HaveBetween, Lacks}
 use Rattle.symk_task.proofs.Layers.{base_derived, one_layer, two_values}
 use Rattle.task_run.proofs.Layers.{counts, may}
 
@@ -89,15 +89,6 @@ passed_fresh task layer values places f = record {
   own = λ x rule at own k d lt. (let e = f.later x rule layer at own (λ h. omega (arith, h)) in absurd (omega (arith, e, lt)));
   later = λ x rule high at own far. f.later x rule high at own (λ h. omega (arith, h, far));
 }
-
-pub fresh_passed : (task : TaskParts) (layer : ℕ) (values places : List ℕ) → Passed task layer values places → IsFresh task (layer + 1) places
-fresh_passed task layer values places p = record {
-  each = p.each;
-  later = λ x rule high at own not_so. p.later x rule high at own (far high not_so);
-}
-  where
-    far : (high : ℕ) → ¬ (high < layer + 1) → layer < high
-    far high not_so = elim (cases_lt high (layer + 1)) [ inl lt ↦ absurd (not_so lt) | inr le ↦ omega (arith, le) ]
 
 -- a rule whose last conditions have their values raises its variable
 pub ready_raises : (task : TaskParts) (layer : ℕ) (values places : List ℕ) (x : ℕ) (rule : Rule) → slice_get task.rules x ≡ Some rule → IsOpen task layer values rule → HaveBetween values rule.conds (get_or places x 0) (length rule.conds) → Passed task layer values places → Raises task layer values rule

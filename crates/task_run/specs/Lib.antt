@@ -2,5 +2,5 @@ pub mod Values
 pub mod Layer
 pub mod Counted
 pub mod Work
-pub mod Looks
+pub mod RuleStatus
 pub mod Verdicts

@@ -5,7 +5,7 @@ ghost use Rattle.symk_task.specs.Fits.{Fits};
 ghost use Rattle.task_run.specs.Layer.{Raises, Grows, IsStuck};
 ghost use Rattle.task_run.specs.Work.{AllPlaced, AllBut, Kept, Passed, IsFresh};
 
-use crate::looks::{Look, look_at};
+use crate::rule_status::{RuleStatus, status_of};
 use crate::work::Work;
 use std::alloc::Global;
 use symk_task::{Memory, TaskParts};
@@ -32,10 +32,10 @@ fn next_raising(
     let rules = parts.rules.as_slice();
     'looking: while let Some(number) = work.stack.pop() {
         let rule = number as usize;
-        match look_at(parts, layer, &rules[rule], values, work.places[rule]) {
-            Look::Ready => return Ok(Some(number)),
-            Look::WaitsFor { place, var } => work.wait(number, place, var)?,
-            Look::Done => {}
+        match status_of(parts, layer, &rules[rule], values, work.places[rule]) {
+            RuleStatus::Ready => return Ok(Some(number)),
+            RuleStatus::WaitsFor { place, var } => work.wait(number, place, var)?,
+            RuleStatus::Done => {}
         }
     }
     Ok(None)

@@ -11,7 +11,7 @@
 mod closing;
 mod counting;
 mod layer;
-mod looks;
+mod rule_status;
 mod rules;
 mod run;
 mod steps;

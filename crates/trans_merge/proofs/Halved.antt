@@ -1,5 +1,5 @@
 -- Relations joined by halves, from two halves.
-use Rattle.std.proofs.Common.{◌≡◌, ℕ, zero, suc, ◌<◌, inl, inr, Bool, true, false, List, [], ◌∷◌, ◌++◌, length, get_or, refl, sym, subst, arith}
+use Rattle.std.proofs.Common.{◌≡◌, ℕ, zero, suc, ◌<◌, inl, inr, List, [], ◌∷◌, ◌++◌, length, get_or, sym, subst, arith}
 use Rattle.std.specs.List.{All}
 use Rattle.std.proofs.lemmas.List.Elements.{All-append}
 use Rattle.bdd_table.specs.declared.node.Node.{Node}
@@ -11,11 +11,6 @@ use Rattle.trans_merge.specs.Merging.IsHalved.{nothing, single, joins, apart}
 use Rattle.axiom_layers.proofs.RootValues.{keeps_itself}
 use Rattle.trans_merge.proofs.Reaching.{at_most_kept, at_most_before}
 use Rattle.trans_merge.proofs.Merged.{relation_kept, leads_kept, front_holds, behind_holds}
-
-same_truth : (x y : Bool) → (x ≡ true → y ≡ true) → (y ≡ true → x ≡ true) → x ≡ y
-same_truth true y f g = sym (f refl)
-same_truth false true f g = g refl
-same_truth false false f g = refl
 
 module _ (o : Layout) where
   -- a joined relation stays joined as the table grows

@@ -215,9 +215,6 @@ differ_at k q ne = elim (order k q) [
 abbrev pub in_keys : List ℕ → ℕ → Bool
 in_keys keys q = list_any (is_at (nat_cmp q)) keys
 
-pub put_none : (id q : ℕ) (old : Bool) → id < 2 → (old ≡ true) ↔ (((q ≡ id) × (2 ≤ id)) ⊎ (old ≡ true))
-put_none id q old low = ((λ h. inr h), (λ h. elim h [ inl x ↦ (let two = x.1 in absurd (omega (arith, two, low))) | inr o ↦ o ]))
-
 pub pop_law : (k q : ℕ) (old new : Bool) → new ≡ cond (is_eq (nat_cmp k q)) false old → (new ≡ true) ↔ ((q ≢ k) × (old ≡ true))
 pop_law k q old new is = elim (cases_eq k q) [
   | inl e ↦ (

@@ -28,8 +28,8 @@ enum Outcome {
     Whole { fine: bool },
 }
 
-/// Settles costs up to 5, lists the cuts of the plans of cost 5, and asks for the next cost; whether there is one cut and the
-/// next cost is 7, as of the switch.
+/// Settles costs up to 5, lists the cuts of the plans of cost 5, and asks for the next cost; whether there is
+/// one cut and the next cost is 7, as of the switch.
 fn three_calls<S: Space, P: Choose>(
     alloc: Global,
     space: &mut S,
@@ -91,8 +91,8 @@ fn is_refused<S: Space, P: Choose>(
     settled && advanced
 }
 
-/// Whether each further call that needs the space is refused, twice, and neither bound moves. The cuts of the greatest cost
-/// that is known need it: there the last layers of both sides meet.
+/// Whether each further call that needs the space is refused, twice, and neither bound moves. The cuts of the
+/// greatest cost that is known need it: there the last layers of both sides meet.
 fn stays_refused<S: Space, P: Choose>(
     alloc: Global,
     space: &mut S,
@@ -248,7 +248,8 @@ fn fused(alloc: Global, task: &Task, choose: Choice, n: u64) -> Result<Outcome, 
     fused_over(alloc, &mut space, task, choose)
 }
 
-/// How many counts of calls end in a refusal, up to the first that needs none; None where something isn't as it should be.
+/// How many counts of calls end in a refusal, up to the first that needs none; None where something isn't as it
+/// should be.
 fn refusals(alloc: Global, task: &Task, choose: Choice) -> Result<Option<u64>, Memory> {
     for n in 0..1000 {
         match fused(alloc, task, choose, n)? {

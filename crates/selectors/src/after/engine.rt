@@ -17,8 +17,8 @@ use symk_task::{List, Memory, Mode, Plan};
 
 /// The plans of an engine that count as one with no plan of an earlier list: an engine of the same mode.
 ///
-/// It asks for no memory of its own once it is made, so that no plan is held: one pends exactly where it counts as one with
-/// no plan of the list and pends in the engine below.
+/// It asks for no memory of its own once it is made, so that no plan is held: one pends exactly where it counts
+/// as one with no plan of the list and pends in the engine below.
 #[derive(Drop)]
 pub struct After<I> {
     inner: I,
@@ -43,8 +43,8 @@ fn keys_of(alloc: Global, mode: Mode, plans: &List<Plan>) -> Result<(Keys, Vec<u
 }
 
 impl<I: LazyPlans + Drop> After<I> {
-    /// The plans that are left after `plans`. At first those of `inner` pend that count as one with none of them: where all
-    /// plans pend in it, the rest of the list.
+    /// The plans that are left after `plans`. At first those of `inner` pend that count as one with none of
+    /// them: where all plans pend in it, the rest of the list.
     pub fn new(alloc: Global, inner: I, mode: Mode, plans: &List<Plan>) -> Result<After<I>, Memory>
         requires lawful { I.lawful inner }
         requires mode { mode ≡ I.mode inner }

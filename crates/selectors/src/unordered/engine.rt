@@ -15,8 +15,8 @@ use symk_task::{Memory, Plan};
 
 /// The first plan of each class of rearrangements, of an engine of mode `TopK`: an engine of mode `Unordered`.
 ///
-/// It keeps the sorted operators of each plan that it gave. A plan pends where it is no rearrangement of a plan given, and
-/// pends in the engine below or was taken from it and is held, since memory was refused for its key.
+/// It keeps the sorted operators of each plan that it gave. A plan pends where it is no rearrangement of a plan
+/// given, and pends in the engine below or was taken from it and is held, since memory was refused for its key.
 #[derive(Drop)]
 pub struct Unordered<I> {
     inner: I,

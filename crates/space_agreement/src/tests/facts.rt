@@ -99,8 +99,8 @@ fn told<S: Space>(space: &mut S, set: S::Set, all: S::Set) -> Result<Answers, Sp
     })
 }
 
-/// Whether both spaces say the same of the states where the fact holds, and neither misses an operator that leads into them
-/// or on from them.
+/// Whether both spaces say the same of the states where the fact holds, and neither misses an operator that
+/// leads into them or on from them.
 fn are_alike<A: Space + Drop, B: Space + Drop>(
     alloc: Global,
     a: A,
@@ -205,8 +205,8 @@ fn moved(alloc: Global) -> Result<TaskParts, Memory> {
     })
 }
 
-/// Whether the states in which the first lamp is on are two: the initial one, in which the second is off, and the one goal state
-/// among them.
+/// Whether the states in which the first lamp is on are two: the initial one, in which the second is off, and
+/// the one goal state among them.
 fn first_is_on<S: Space + Drop>(space: S) -> Result<bool, SpaceFault>
     requires first { IsBase (S.view space).task 0 }
     requires second { IsBase (S.view space).task 1 }

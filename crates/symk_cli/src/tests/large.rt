@@ -35,8 +35,8 @@ fn refuses_a_long_certificate(rt: HostRuntime) -> Result<(), Fail> {
     Ok(())
 }
 
-// A rule for each of 1,000 derived variables that the one before raises, in the wrong order: each in a layer of its own, or
-// all in one.
+// A rule for each of 1,000 derived variables that the one before raises, in the wrong order: each in a layer of
+// its own, or all in one.
 fn chain(alloc: Global, layered: bool) -> Result<Text, AllocError> {
     let mut text = Text::new(alloc);
     push_bytes(

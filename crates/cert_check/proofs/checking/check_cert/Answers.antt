@@ -1,7 +1,6 @@
-use Rattle.std.proofs.Common.{◌≡◌, List, ℕ, subst}
+use Rattle.std.proofs.Common.{subst}
 use Rattle.certificates.specs.Meaning.{Named}
 use Rattle.certificates.proofs.NoPlan.{no_plan}
-use Rattle.cert_check.specs.declared.judging.CertVerdict.{CertVerdict}
 use Rattle.cert_check.specs.Judging.{Judges}
 use Rattle.cert_check.proofs.checking.check_cert.Goals as goal
 

@@ -1,4 +1,4 @@
-use Rattle.std.proofs.Common.{◌≤◌, arith, length}
+use Rattle.std.proofs.Common.{arith}
 use Rattle.bdd_table.specs.Diagram.{means}
 use Rattle.transitions.specs.Relations.{HasMember}
 use Rattle.cert_check.proofs.Answering.{match_true, match_false, past_operators}

@@ -1,5 +1,4 @@
-use Rattle.bdd_table.specs.Diagram.{means}
-use Rattle.cert_check.proofs.Answering.{AreMembers, members_made}
+use Rattle.cert_check.proofs.Answering.{members_made}
 use Rattle.cert_check.proofs.judging.members_of.Goals as goal
 
 pub returns-clause-set : goal.returns-clause-set

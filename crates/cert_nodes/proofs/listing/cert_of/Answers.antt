@@ -1,7 +1,5 @@
-use Rattle.std.proofs.Common.{◌≡◌, ◌+◌, ◌<◌, ◌≤◌, ◌∙◌, [], ◌∷◌, List, ℕ, length, get_or, ap, sym, subst, arith}
-use Rattle.bdd_table.specs.declared.node.Node.{Node}
+use Rattle.std.proofs.Common.{◌≡◌, ◌∙◌, List, get_or, ap, sym, subst, arith}
 use Rattle.certificates.specs.declared.node.CertNode.{CertNode}
-use Rattle.certificates.specs.declared.node.Certificate.{Certificate}
 use Rattle.certificates.specs.Meaning.{state_bits, holds}
 use Rattle.certificates.specs.Texts.{state_width, IsInOrder}
 use Rattle.certificates.specs.Tidy.{IsTidy}

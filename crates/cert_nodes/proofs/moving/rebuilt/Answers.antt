@@ -1,4 +1,4 @@
-use Rattle.std.proofs.Common.{◌≡◌, ◌+◌, ◌<◌, ◌≤◌, Bool, false, [], ◌∷◌, ◌++◌, ◌∙◌, List, ℕ, length, ap, arith}
+use Rattle.std.proofs.Common.{◌+◌, ◌<◌, false, [], ◌∷◌, ◌++◌, ◌∙◌, List, ℕ, length, ap, arith}
 use Rattle.std.proofs.lemmas.List.{get_or_default}
 use Rattle.bdd_table.specs.Diagram.{means}
 use Rattle.bdd_table.proofs.Collecting.{closed_marks}

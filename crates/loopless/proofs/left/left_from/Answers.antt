@@ -1,9 +1,9 @@
 use Rattle.std.proofs.Common.{◌≡◌, ◌∙◌, Some, None, ap, subst, arith}
 use Rattle.space_api.specs.View.{Has}
 use Rattle.cost_layers.specs.Layers.{known_of}
+use Rattle.cost_search.specs.Meeting.{IsFirstFrom}
 use Rattle.cost_search.specs.Search.{layers_of}
 use Rattle.cost_search.specs.Directed.{search_of}
-use Rattle.loopless.specs.Left.{IsFirstFrom}
 use Rattle.loopless.proofs.Layers.{first_least, exactly, exact_small, at_least_known, known_small, nowhere}
 use Rattle.loopless.proofs.left.left_from.Goals as goal
 

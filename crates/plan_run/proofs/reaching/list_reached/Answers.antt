@@ -1,7 +1,7 @@
 use Rattle.std.proofs.Common.{ap, sym, refl, subst, ℕ, Some, None}
 use Rattle.plan_out.specs.declared.end.End.TheVariants.{Exhausted, CostRange}
-use Rattle.plan_run.specs.declared.asking.Reach.{Reach}
-use Rattle.plan_run.specs.declared.asking.Reach.TheVariants.{All, UpTo, Percent}
+use Rattle.plan_run.specs.declared.options.Reach.{Reach}
+use Rattle.plan_run.specs.declared.options.Reach.TheVariants.{All, UpTo, Percent}
 use Rattle.plan_run.specs.declared.reaching.Least.{Least}
 use Rattle.run_status.specs.Ends.{Puts}
 use Rattle.plan_run.specs.Reaches.{OrReached, HasLeast}

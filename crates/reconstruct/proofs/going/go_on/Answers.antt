@@ -1,5 +1,6 @@
-use Rattle.std.proofs.Common.{◌∙◌}
+use Rattle.std.proofs.Common.{◌∙◌, refl, None, true}
 use Rattle.bidirectional.specs.Both.{IsBeneath, IsOwnOf, front_layers, back_layers}
+use Rattle.reconstruct.specs.declared.drawing.Place.{Place}
 use Rattle.reconstruct.proofs.Ends.{right_ends}
 use Rattle.reconstruct.proofs.Goes.{first_listing, filled, trades_on, trades_alone}
 use Rattle.reconstruct.proofs.going.go_on.Goals as goal
@@ -10,7 +11,7 @@ draw-requires-clause-listing g c =
     let v1 = view c.next_cost.new.space in
     let x = c.next_cost.new.both in
     let next = rw (c.in-Plans.is, c.cost_of.ensures) at c.in_ok-next_cost.ensures.ok in
-    rw c.requires.empty (first_listing v1 (IsBeneath x) (front_layers x) (back_layers x) _ c.args.most c.in-Plans.cost (view c.args.space.now).system (right_ends v1 x c.next_cost.ensures.both) next)
+    rw c.requires.empty (first_listing v1 (IsBeneath x) (front_layers x) (back_layers x) _ c.args.most c.in-Plans.cost _ (view c.args.space.now).system (record { cost_is = refl; after = refl; left = refl; ready = c.new.ensures.items }) (right_ends v1 x c.next_cost.ensures.both) next)
 
 pub returns-in_err-next_cost-clause-trades : goal.returns-in_err-next_cost-clause-trades
 returns-in_err-next_cost-clause-trades g c =
@@ -49,5 +50,6 @@ returns-in_ok-draw-in-Plans-clause-ok g c =
     let t = c.next_cost.ensures.trades in
     let d = c.draw.ensures.draws.1 in
     let next = rw (c.in-Plans.is, c.cost_of.ensures) at c.in_ok-next_cost.ensures.ok in
+    let start : Place = record { cost = c.in-Plans.cost; after = None; left = true; ready = c.new.result } in
     let owes = rw c.requires.empty at d.owes in
-    filled v v1 w (IsBeneath z) (front_layers z) (back_layers z) c.args.most c.args.listed.now c.in-Plans.cost c.draw.new.place c.draw.new.queue.items t.system (d.kept.system ∙ t.system) next d.listing d.cost owes c.in_ok-draw-in-Plans.ensures.ok
+    filled v v1 w (IsBeneath z) (front_layers z) (back_layers z) c.args.most c.args.listed.now c.in-Plans.cost c.draw.new.place c.draw.new.queue.items t.system (d.kept.system ∙ t.system) next d.listing d.cost start (record { cost_is = refl; after = refl; left = refl; ready = c.new.ensures.items }) owes c.in_ok-draw-in-Plans.ensures.ok

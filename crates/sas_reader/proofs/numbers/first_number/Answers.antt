@@ -1,6 +1,5 @@
-use Rattle.std.proofs.Common.{◌≡◌, ◌≤◌, ◌∙◌, arith, length, sym, eqb, true, false}
+use Rattle.std.proofs.Common.{◌∙◌, length, sym, true, false}
 use Rattle.std.proofs.lemmas.List.{take_rest}
-use Rattle.std.proofs.lemmas.Bool.Decides.{nat_tests}
 use Rattle.sas_reader.proofs.NumbersLeft.{number_first, no_number_first, nothing_first, is_empty_word, is_some_word}
 use Rattle.sas_reader.proofs.numbers.first_number.Goals as goal
 

@@ -1,7 +1,7 @@
-use Rattle.std.proofs.Common.{◌≡◌, ◌∙◌, ◌≤◌, length, arith, ap, sym, not, take, ℕ}
+use Rattle.std.proofs.Common.{◌∙◌, arith, ap, sym, not, take, ℕ}
 use Rattle.std.proofs.lemmas.List.Sums.{prefix_len_is}
 use Rattle.sas_reader.specs.Numbers.{is_blank_byte}
-use Rattle.sas_reader.proofs.WordsLeft.{is_inked, word_in}
+use Rattle.sas_reader.proofs.WordsLeft.{is_inked}
 use Rattle.sas_reader.proofs.numbers.first_word.Goals as goal
 use Rattle.sas_reader.proofs.numbers.first_word.Goals.{then-loop-count-test+else-not-is_blank_byte, else-loop-count-test}
 

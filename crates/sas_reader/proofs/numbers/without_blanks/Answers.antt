@@ -1,4 +1,4 @@
-use Rattle.std.proofs.Common.{◌≡◌, ◌∙◌, ◌≤◌, length, arith, ap, sym, drop, ℕ}
+use Rattle.std.proofs.Common.{◌∙◌, arith, ap, sym, drop, ℕ}
 use Rattle.std.proofs.lemmas.List.{take_rest}
 use Rattle.std.proofs.lemmas.List.Sums.{prefix_len_is}
 use Rattle.sas_reader.specs.Numbers.{is_blank_byte}

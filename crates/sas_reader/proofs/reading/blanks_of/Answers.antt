@@ -1,4 +1,4 @@
-use Rattle.std.proofs.Common.{◌≡◌, ◌≤◌, ◌+◌, ◌∙◌, sym, length, arith}
+use Rattle.std.proofs.Common.{◌∙◌, sym, arith}
 use Rattle.std.proofs.lemmas.Result.{err_from_is_err_and}
 use Rattle.sas_reader.proofs.Blanks.{blanks_at, blank_goes, blank_ends, blanks_done}
 use Rattle.sas_reader.proofs.reading.blanks_of.Goals as goal

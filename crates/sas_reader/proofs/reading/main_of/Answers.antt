@@ -1,5 +1,4 @@
-use Rattle.std.proofs.Common.{◌≤◌, arith}
-use Rattle.sas_reader.specs.Known.{Known}
+use Rattle.std.proofs.Common.{arith}
 use Rattle.sas_reader.proofs.Whole.{metric_read, variables_read, state_read}
 use Rattle.sas_reader.proofs.reading.main_of.Goals as goal
 

@@ -1,4 +1,4 @@
-use Rattle.std.proofs.Common.{◌≡◌, ◌∙◌}
+use Rattle.std.proofs.Common.{◌∙◌}
 use Rattle.symk_text.specs.Lines.{lines}
 use Rattle.sas_reader.proofs.Whole.{file_given, file_fits, refused_at, left_within}
 use Rattle.sas_reader.proofs.reading.read_task.Goals as goal

@@ -1,4 +1,4 @@
-use Rattle.std.proofs.Common.{◌≡◌, ◌<◌, ◌≤◌, ◌+◌, ◌-◌, ◌*◌}
+use Rattle.std.proofs.Common.{◌≡◌, ◌<◌, ◌≤◌, ◌+◌, ◌-◌}
 use Rattle.symk_task.specs.Variables.{doublings, width}
 use Rattle.sas_reader.proofs.variables.width_of.Given as goal
 

@@ -2,7 +2,7 @@ use Rattle.std.proofs.Common.{◌≡◌, ◌<◌, ◌∙◌, ℕ, List, [], leng
 use Rattle.std.proofs.lemmas.Grind.{get_or_default_zero}
 use Rattle.symk_task.specs.declared.parts.Rule.{Rule}
 use Rattle.task_run.specs.Work.{AllPlaced}
-use Rattle.task_run.specs.Looks.{Lacks, HaveBetween}
+use Rattle.task_run.specs.RuleStatus.{Lacks, HaveBetween}
 use Rattle.task_run.specs.Layer.{Raises}
 use Rattle.task_run.proofs.Placing.{popped, back_idle, lacks_waits, lacks_within, all_stuck, kept_pop, kept_wait, rule_at, none_left}
 use Rattle.task_run.proofs.Resuming.{passed_wait, ready_raises}
@@ -20,8 +20,8 @@ index-requires c =
     let each = c.looking.invariant.passed.each in
     omega (arith, full, each, p.1)
 
-pub look_at-requires-clause-rule : goal.look_at-requires-clause-rule
-look_at-requires-clause-rule c =
+pub status_of-requires-clause-rule : goal.status_of-requires-clause-rule
+status_of-requires-clause-rule c =
     let p = kept_pop c.args.parts.now c.looking.work.stack.items c.pop.new.self.items c.looking.work.waiting.items c.in-Some.number c.in-Some.ensures.items c.looking.invariant.kept in
     let r = rule_at c.args.parts.now c.as_slice-rules.result.now c.in-Some.number c.index-rules-rule.result c.requires.fits c.as_slice-rules.ensures p.1 c.index-rules-rule.is in
     r.fit

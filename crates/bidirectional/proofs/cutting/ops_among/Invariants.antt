@@ -1,0 +1,14 @@
+use Rattle.space_api.specs.View.{Has}
+use Rattle.space_api.specs.Frames.{Stays}
+use Rattle.cost_layers.specs.Layers.{Stands}
+use Rattle.bidirectional.proofs.Gathered.{Gathered}
+use Rattle.bidirectional.proofs.cutting.ops_among.Given as goal
+
+abbrev pub invariant-operators : goal.invariant-operators
+invariant-operators g l =
+    let view = g.S.Space.view in
+    let v = view l.fn.space in
+    record {
+      stays : Stays v (view l.space);
+      found : Gathered v.system (Stands v l.front) (Has v l.to) l.cost l.b l.z l.op-items l.op-index l.from l.found.items;
+    }

@@ -1,0 +1,17 @@
+use Rattle.std.proofs.Common.{◌++◌, take}
+use Rattle.entry_turns.specs.Entries.{Makes}
+use Rattle.entry_turns.specs.Ways.{IsWay}
+use Rattle.entry_turns.specs.declared.entries.Entry.TheVariants.{Before}
+use Rattle.entry_turns.proofs.Gathering.{SofarFrom}
+use Rattle.entry_turns.proofs.before.gather_before.Given as goal
+
+abbrev pub invariant-operators : goal.invariant-operators
+invariant-operators g l =
+    let view = g.S.Space.view in
+    let u = view l.fn.space in
+    let v = view l.space in
+    record {
+      way : IsWay l.front l.prefix.cost l.way;
+      makes : Makes u v (l.children.level.items ++ l.children.falling.items);
+      sofar : SofarFrom u v l.front l.back (Before l.prefix) (take l.op-index l.op-items) l.children.level.items l.children.falling.items;
+    }

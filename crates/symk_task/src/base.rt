@@ -12,7 +12,7 @@ pub fn base_values(alloc: Global, variables: &[Variable], values: &[u32]) -> Res
     requires { length values.now ≡ length variables.now }
     ensures { IfOk result (λ state. state ≡ base_values variables.now values.now) }
 {
-    let mut base = Vec::new(alloc);
+    let mut base = Vec::with_capacity(alloc, values.len())?;
     for i in 0..variables.len() {
         if variables[i].layer.is_none() {
             base.push(values[i])?;

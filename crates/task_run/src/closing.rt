@@ -22,6 +22,9 @@ pub fn closed_by(alloc: Global, task: &Task, rules: &Rules, state: &State) -> Re
     let variables = parts.variables.as_slice();
     let counting = rules.as_slice();
     let mut values = start_values(alloc, variables, parts.initial.as_slice(), state.as_slice())?;
+    if counting.is_empty() {
+        return Ok(Closed::of(values));
+    }
     let mut work = Work::of(alloc, variables.len(), parts.rules.as_slice().len())?;
     let mut at = 0;
     'layers: while at < counting.len() {

@@ -61,7 +61,7 @@ pub(crate) fn start_values(
     ensures values { IfOk result (λ values. (var : ℕ) → var < length variables.now →
         slice_index values.items var ≡ start_value variables.now defaults.now state.now var) }
 {
-    let mut values = Vec::new(alloc);
+    let mut values = Vec::with_capacity(alloc, variables.len())?;
     let mut place = 0;
     for i in 0..variables.len() {
         if variables[i].layer.is_none() {

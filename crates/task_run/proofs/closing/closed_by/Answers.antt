@@ -1,4 +1,4 @@
-use Rattle.std.proofs.Common.{◌≡◌, ◌<◌, ◌∙◌, ℕ, List, [], length, get_or, refl, sym, subst, ap}
+use Rattle.std.proofs.Common.{◌≡◌, ◌<◌, ◌∙◌, ℕ, List, [], length, get_or, refl, sym, subst, ap, arith, eqb-true}
 use Rattle.symk_task.specs.declared.parts.TaskParts.{TaskParts}
 use Rattle.symk_task.specs.declared.parts.Rule.{Rule}
 use Rattle.symk_task.specs.declared.parts.Variable.{Variable}
@@ -8,23 +8,43 @@ use Rattle.task_run.specs.declared.counting.Counting.{Counting}
 use Rattle.task_run.specs.Values.{Valued}
 use Rattle.task_run.specs.Layer.{start_value}
 use Rattle.task_run.specs.Work.{Kept, AllPlaced}
-use Rattle.task_run.proofs.Rounds.{none_closed, begin_layer, end_layer, all_closed, same_rules}
+use Rattle.task_run.proofs.Rounds.{IsClosedTo, none_closed, begin_layer, end_layer, all_closed, same_rules}
 use Rattle.task_run.proofs.closing.closed_by.Goals as goal
+
+-- the values are the first ones of the task, whose parts the slices are
+starts : (task : TaskParts) (s : List ℕ) (variables : List Variable) (initial state values : List ℕ) → variables ≡ task.variables → initial ≡ task.initial → state ≡ s
+    → ((var : ℕ) → var < length variables → get_or values var 0 ≡ start_value variables initial state var)
+    → (var : ℕ) → var < length task.variables → get_or values var 0 ≡ start_value task.variables task.initial s var
+starts task s variables initial state values v i e first var lt =
+    first var (subst (λ (z : List Variable). var < length z) (sym v) lt)
+    ∙ ap (λ (z : List Variable). start_value z initial state var) v ∙ ap (λ (z : List ℕ). start_value task.variables z state var) i ∙ ap (λ (z : List ℕ). start_value task.variables task.initial z var) e
+
+pub returns-then-is_empty : goal.returns-then-is_empty
+returns-then-is_empty c =
+    let parts = c.parts-parts.result.now in
+    let rules = c.as_slice-counting.result.now in
+    let values = c.in_ok-values.values.items in
+    let fits = subst Fits (sym c.parts-parts.ensures.value) c.parts-parts.ensures.fits in
+    let are = same_rules c.args.task.now parts c.args.rules.now rules c.parts-parts.ensures.value c.as_slice-counting.ensures c.requires.rules in
+    let waiting : List (List ℕ) = replicate (length parts.variables) [] in
+    let places : List ℕ = replicate (length parts.rules) 0 in
+    let none : IsClosedTo parts c.args.state.now rules 0 values [] waiting places = none_closed parts c.args.state.now rules values [] waiting places fits
+    (c.in_ok-values.ensures.each ∙ ap (λ (z : List Variable). length z) c.as_slice-variables.ensures)
+    (starts parts c.args.state.now c.as_slice-variables.result.now c.as_slice.result.now c.as_slice-2.result.now values c.as_slice-variables.ensures c.as_slice.ensures c.as_slice-2.ensures c.in_ok-values.ensures.values)
+    refl refl refl in
+    let all = all_closed parts c.args.state.now rules 0 values [] waiting places fits are none (omega (arith, eqb-true (length rules) 0 (sym c.if-is_empty.ensures))) in
+    subst (λ (z : List ℕ). Valued c.args.task.now c.args.state.now z) (sym c.of.ensures) (subst (λ (z : TaskParts). Valued z c.args.state.now values) c.parts-parts.ensures.value all)
 
 pub layers-init : goal.layers-init
 layers-init c =
     let parts = c.parts-parts.result.now in
     let fits = subst Fits (sym c.parts-parts.ensures.value) c.parts-parts.ensures.fits in
     let variables : c.as_slice-variables.result.now ≡ parts.variables = c.as_slice-variables.ensures in
-    let defaults : c.as_slice.result.now ≡ parts.initial = c.as_slice.ensures in
-    let s : c.as_slice-2.result.now ≡ c.args.state.now = c.as_slice-2.ensures in
     let values = c.in_ok-values.values.items in
     let rules : c.as_slice-3.result.now ≡ parts.rules = c.as_slice-3.ensures in
     none_closed parts c.args.state.now c.as_slice-counting.result.now values c.in_ok-work.work.stack.items c.in_ok-work.work.waiting.items c.in_ok-work.work.places.items fits
     (c.in_ok-values.ensures.each ∙ ap (λ (z : List Variable). length z) variables)
-    (λ var lt.
-    let k = c.in_ok-values.ensures.values var (subst (λ (z : List Variable). var < length z) (sym variables) lt) in
-    k ∙ ap (λ (z : List Variable). start_value z c.as_slice.result.now c.as_slice-2.result.now var) variables ∙ ap (λ (z : List ℕ). start_value parts.variables z c.as_slice-2.result.now var) defaults ∙ ap (λ (z : List ℕ). start_value parts.variables parts.initial z var) s)
+    (starts parts c.args.state.now c.as_slice-variables.result.now c.as_slice.result.now c.as_slice-2.result.now values variables c.as_slice.ensures c.as_slice-2.ensures c.in_ok-values.ensures.values)
     c.in_ok-work.ensures.stack (c.in_ok-work.ensures.waiting ∙ ap (λ (z : List Variable). replicate (length z) []) variables) (c.in_ok-work.ensures.places ∙ ap (λ (z : List Rule). replicate (length z) 0) rules)
 
 pub close_layer-requires-clause-kept : goal.close_layer-requires-clause-kept
@@ -89,4 +109,4 @@ returns c =
     let are = same_rules c.args.task.now parts c.args.rules.now rules c.parts-parts.ensures.value c.as_slice-counting.ensures c.requires.rules in
     let work = c.layers.work in
     let all = all_closed parts c.args.state.now rules c.layers.at c.layers.values.items work.stack.items work.waiting.items work.places.items fits are c.layers.invariant c.layers-test.false in
-    subst (λ (z : List ℕ). Valued c.args.task.now c.args.state.now z) (sym c.of-2.ensures) (subst (λ (z : TaskParts). Valued z c.args.state.now c.layers.values.items) c.parts-parts.ensures.value all)
+    subst (λ (z : List ℕ). Valued c.args.task.now c.args.state.now z) (sym c.of-3.ensures) (subst (λ (z : TaskParts). Valued z c.args.state.now c.layers.values.items) c.parts-parts.ensures.value all)

@@ -15,7 +15,6 @@ use Rattle.entry_turns.specs.Entries.{plain, plains, EntryOk, member_in, Ready}
 use Rattle.entry_turns.specs.Grown.{AddsChild, Gathers}
 use Rattle.entry_turns.specs.declared.entries.Entry.{Entry}
 use Rattle.entry_turns.proofs.Sets.{all_split, all_kept}
-use Rattle.entry_turns.proofs.Leading.{numbers, numbers_more}
 use Rattle.entry_turns.proofs.Kept.{member_kept, plain_kept, plains_kept, ready_kept}
 
 -- all so far
@@ -45,10 +44,11 @@ module _ {Set : Type 0} (u v v1 w : View Set) (front back : Layers Set) (e : Ent
       rw more (sofar_push (take i ops) op level falling level2 falling2 all sofar added)
 
 -- the next operator, in a view that stays
-pub sofar_next : {Set : Type 0} (v : View Set) (front back : Layers Set) (e : Entry Set) (n : ℕ) (level falling level2 falling2 : List (Entry Set)) → AllByRecursion (EntryOk v) (level ++ falling) → SofarFrom v v front back e (numbers n) level falling → AddsChild v v front back e n level falling level2 falling2 → SofarFrom v v front back e (numbers (n + 1)) level2 falling2
-sofar_next v front back e n level falling level2 falling2 all sofar added f b listed ready =
+pub sofar_next : {Set : Type 0} (v : View Set) (front back : Layers Set) (e : Entry Set) (ops : List ℕ) (i op : ℕ) (level falling level2 falling2 : List (Entry Set)) → i < length ops → op ≡ get_or ops i 0 → AllByRecursion (EntryOk v) (level ++ falling) → SofarFrom v v front back e (take i ops) level falling → AddsChild v v front back e op level falling level2 falling2 → SofarFrom v v front back e (take (i + 1) ops) level2 falling2
+sofar_next v front back e ops i op level falling level2 falling2 lt is all sofar added f b listed ready =
     let parts = all_split (EntryOk v) level falling all in
-    rw (numbers_more n) (sofar_more v.system (member_in v front) (member_in v back) (plain v e) (numbers n) n (plains v level) (plains v falling) (plains v level2) (plains v falling2) (sofar f b listed ready) (added f b listed parts.0 parts.1 ready))
+    let more : take (i + 1) ops ≡ take i ops ++ (op ∷ []) = take_more ops i 0 lt ∙ ap (λ (z : ℕ). take i ops ++ (z ∷ [])) (sym is) in
+    rw more (sofar_more v.system (member_in v front) (member_in v back) (plain v e) (take i ops) op (plains v level) (plains v falling) (plains v level2) (plains v falling2) (sofar f b listed ready) (added f b listed parts.0 parts.1 ready))
 
 pub sofar_end : {Set : Type 0} (u v : View Set) (front back : Layers Set) (e : Entry Set) (ops : List ℕ) (level falling : List (Entry Set)) → ((f b listed : ℕ) → Ready u.system u front back f b listed (plain u e) → MissesNone u.system (member_in u front) (member_in u back) (plain u e) ops) → SofarFrom u v front back e ops level falling → Gathers u v front back e level falling
 sofar_end u v front back e ops level falling misses sofar f b listed ready =

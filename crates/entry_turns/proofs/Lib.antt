@@ -4,6 +4,8 @@ pub mod Kept
 pub mod Barren
 pub mod Leading
 pub mod OneChild
+pub mod Moving
+pub mod Remembering
 pub mod Adding
 pub mod Gathering
 pub mod Expanding

@@ -1,14 +1,22 @@
 -- Layers in a view in which their sets stay.
-use Rattle.std.proofs.Common.{◌≡◌, ℕ, ◌≤◌, ◌⊎◌, ◌↔◌, inl, inr, Bool, List, [], length, Option, Some, None, MatchOption, refl, sym, subst, arith}
+use Rattle.std.proofs.Common.{◌≡◌, ℕ, ◌-◌, ◌<◌, ◌≤◌, ◌⊎◌, ◌↔◌, inl, inr, Bool, List, [], length, Option, Some, None, MatchOption, refl, sym, ◌∙◌, subst, arith}
+use Rattle.std.proofs.lemmas.List.Elements.{All-weaker}
 use Rattle.task_system.specs.System.{State, System}
 use Rattle.space_api.specs.View.{View, Valid}
+use Rattle.space_api.specs.Frames.{Kept}
 use Rattle.space_api.specs.Owned.{Trades}
+use Rattle.space_api.proofs.Trading.{trades_trans}
 use Rattle.cost_layers.specs.Rings.{IsLayer}
 use Rattle.cost_layers.specs.Layers.{rings_at, whole_at, Held, Keeps, Stands as StandsIn}
 use Rattle.cost_layers.specs.declared.layers.Layers.{Layers}
 use Rattle.cost_layers.proofs.Holding.{ring_same, layer_same, layer_at, kept_valid}
 use Rattle.entry_laws.specs.Entries.{Tables}
 use Rattle.entry_turns.specs.Entries.{in_some, member_in, SetIn, RightSides}
+use Rattle.entry_turns.specs.Ways.{IsFirst}
+use Rattle.entry_turns.specs.Moves.{LeadsNotOn, IsMove}
+use Rattle.entry_turns.specs.Expansions.{AreRight}
+use Rattle.entry_turns.specs.declared.moves.Move.{Move}
+use Rattle.entry_turns.specs.declared.expansions.Expansions.{Expansions}
 use Rattle.entry_turns.specs.declared.entries.Entry.{Entry}
 use Rattle.entry_turns.specs.Walked.{AreApart}
 
@@ -45,6 +53,33 @@ module _ {Set : Type 0} (v w : View Set) (l : Layers Set) (h : Held v l) (f : (a
   pub member_same : member_in w l ≡ member_in v l
   member_same = λ i c s. some_same (whole_at l c) s (λ a is. whole_kept v l c a h is) i
 
+  -- so do moves from states
+  first_same : (c : ℕ) (s : State) (n : ℕ) → IsFirst v l c s n → IsFirst w l c s n
+  first_same c s n i m at = let r = i m ((stands_same c m s).0 at) in (r.0, (stands_same c n s).1 r.1)
+
+  not_same : w.system ≡ v.system → (c : ℕ) (s : State) (op : ℕ) → LeadsNotOn v l c s op → LeadsNotOn w l c s op
+  not_same sys c s op none = rw sys (λ a t le at lead has. none a t le at lead (sym ((f a (whole_kept v l (c - v.system.cost op) a h at)).1 t) ∙ has))
+
+  move_same : w.system ≡ v.system → (c : ℕ) (s : State) (m : Move) → IsMove v l c s m → IsMove w l c s m
+  move_same sys c s m move = record {
+    number = rw sys move.number;
+    fits = rw sys move.fits;
+    cost_is = rw sys move.cost_is;
+    leads = rw sys move.leads;
+    lands = rw sys (move.lands.0, move.lands.1, (f move.lands.0 (whole_kept v l (c - v.system.cost m.op) move.lands.0 h move.lands.1)).1 m.state ∙ move.lands.2);
+    least = rw sys (first_same (c - v.system.cost m.op) m.state m.ring move.least);
+    small = move.small;
+  }
+
+  pub right_same : w.system ≡ v.system → (x : Expansions) → AreRight v l x → AreRight w l x
+  right_same sys x right c s moves r =
+      let all = right c s moves r in
+      record {
+        rising = all.rising;
+        each = All-weaker (IsMove v l c s) (IsMove w l c s) (move_same sys c s) moves all.each;
+        others = λ op lt missing. not_same sys c s op (all.others op (subst (λ (y : System). op < y.operators) sys lt) missing);
+      }
+
 pub sides_same : {Set : Type 0} (y : System) (v w : View Set) (front back : Layers Set) (f b : ℕ) → member_in w front ≡ member_in v front → member_in w back ≡ member_in v back
     → ((c i : ℕ) (s : State) → StandsIn w front c i s ↔ StandsIn v front c i s) → ((c i : ℕ) (s : State) → StandsIn w back c i s ↔ StandsIn v back c i s) → RightSides y v front back f b → RightSides y w front back f b
 sides_same y v w front back f b mf mb sf sb r = record {
@@ -66,3 +101,19 @@ module _ {Set : Type 0} (u v : View Set) (old new : List (Entry Set)) (t : Trade
       let ok : Valid u a = kept_valid u (rings_at l) (whole_at l) h a k in
       let out : ¬ SetIn old a = λ i. apart a i k in
       (t.others a ok out, t.same a ok out)
+
+  -- moves stay right
+  pub right_there : (x : Expansions) → AreRight u l x → AreRight v l x
+  right_there x right = right_same u v l h traded t.system x right
+
+  -- moves that were found since are right in the view before
+  pub right_before : (x : Expansions) → AreRight v l x → AreRight u l x
+  right_before x right = right_same v u l (held_in u v l h traded) (λ a k. (kept_valid u (rings_at l) (whole_at l) h a k, λ s. sym ((traded a k).1 s))) (sym t.system) x right
+
+-- moves that were found in one turn are right after it
+pub right_on : {Set : Type 0} (u v w : View Set) (old now new : List (Entry Set)) → Trades u v (SetIn old) (SetIn now) → Trades v w (SetIn now) (SetIn new) → (l : Layers Set) → Held u l → AreApart old l → (x : Expansions) → AreRight v l x → AreRight w l x
+right_on u v w old now new t t2 l h apart x right = right_there u w old new (trades_trans t t2) l h apart x (right_before u v old now t l h apart x right)
+
+-- all sets stay
+pub right_kept : {Set : Type 0} (v w : View Set) (l : Layers Set) (x : Expansions) → Held v l → Kept v w → AreRight v l x → AreRight w l x
+right_kept v w l x h k right = right_same v w l h (λ a keeps. let ok = kept_valid v (rings_at l) (whole_at l) h a keeps in (k.valid a ok, k.same a ok)) k.system x right

@@ -7,6 +7,7 @@ use Rattle.cost_layers.specs.declared.layers.Layers.{Layers}
 use Rattle.entry_laws.specs.Growing.{Added, Gathered}
 use Rattle.entry_turns.specs.Entries.{cost_in, ring_in, plain, plains, EntryOk, Makes, member_in, Ready}
 use Rattle.entry_turns.specs.Ways.{IsLeast, IsFirst}
+use Rattle.entry_turns.specs.declared.moves.Move.{Move}
 use Rattle.entry_turns.specs.declared.entries.Prefix.{Prefix}
 use Rattle.entry_turns.specs.declared.entries.Suffix.{Suffix}
 use Rattle.entry_turns.specs.declared.entries.Entry.{Entry}
@@ -29,6 +30,13 @@ pub record GrownAfter {Set : Type 0} (v : View Set) (back : Layers Set) (e : Suf
   pub least : IsFirst v back (e.cost - w) state c.ring
   pub fits : c.ring < 2 ^ 64
 
+-- the suffix c grows out of e by this move
+pub record GrownBy (e : Suffix) (m : Move) (c : Suffix) : Type 0 where
+  pub state_is : c.state ≡ m.state
+  pub cost_is : c.cost ≡ m.cost
+  pub ring_is : c.ring ≡ m.ring
+  pub operators_are : c.operators.items ≡ e.operators.items ++ m.op ∷ []
+
 -- c was put after the others, with the falling ones where its cost or ring is less than these
 abbrev pub IsPut : {Set : Type 0} → ℕ → ℕ → Entry Set → List (Entry Set) → List (Entry Set) → List (Entry Set) → List (Entry Set) → Type 0
 IsPut cost ring c level falling level2 falling2 =
@@ -41,6 +49,10 @@ PutsBefore {Set} v front e op w set level falling level2 falling2 = (c : Prefix 
 
 abbrev pub PutsAfter : {Set : Type 0} → View Set → Layers Set → Suffix → ℕ → ℕ → State → List (Entry Set) → List (Entry Set) → List (Entry Set) → List (Entry Set) → Type 0
 PutsAfter v back e op w state level falling level2 falling2 = (c : Suffix) × GrownAfter v back e op w state c × IsPut e.cost e.ring (After c) level falling level2 falling2
+
+-- the same by a move
+abbrev pub PutsBy : {Set : Type 0} → Suffix → Move → List (Entry Set) → List (Entry Set) → List (Entry Set) → List (Entry Set) → Type 0
+PutsBy e m level falling level2 falling2 = (c : Suffix) × GrownBy e m c × IsPut e.cost e.ring (After c) level falling level2 falling2
 
 -- what was made so far and what is more was made since
 abbrev pub MakesOn : {Set : Type 0} → View Set → View Set → List (Entry Set) → List (Entry Set) → Type 0

@@ -5,12 +5,14 @@ ghost use Rattle.space_api.specs.View.{View, Valid};
 ghost use Rattle.space_api.specs.Frames.{Stays};
 ghost use Rattle.cost_layers.specs.Layers.{Held};
 ghost use Rattle.entry_turns.specs.Entries.{EntryOk, Makes};
+ghost use Rattle.entry_turns.specs.Expansions.{AreRight};
 ghost use Rattle.entry_turns.specs.Grown.{Gathers, Expands};
 
 use crate::after::gather_after;
 use crate::before::gather_before;
 use crate::children::{Children, give_back_children};
 use crate::entries::Entry;
+use crate::expansions::Expansions;
 use cost_layers::Layers;
 use space_api::{Space, SpaceFault};
 use std::alloc::Global;
@@ -22,13 +24,16 @@ fn gather<S: Space>(
     front: &Layers<S::Set>,
     back: &Layers<S::Set>,
     entry: &Entry<S::Set>,
+    memo: &mut Expansions,
     children: &mut Children<S::Set>,
 ) -> Result<(), SpaceFault>
     requires front { Held (S.view space.old) front.now }
     requires back { Held (S.view space.old) back.now }
     requires entry { EntryOk (S.view space.old) entry.now }
+    requires memo { AreRight (S.view space.old) back.now memo.old }
     requires level { children.old.level.items ≡ [] }
     requires falling { children.old.falling.items ≡ [] }
+    ensures memo { AreRight (S.view space.old) back.now memo.new }
     ensures makes { Makes (S.view space.old) (S.view space.new)
         (children.new.level.items ++ children.new.falling.items) }
     ensures ok { OnOk result (Gathers (S.view space.old) (S.view space.new) front.now back.now entry.now
@@ -36,7 +41,7 @@ fn gather<S: Space>(
 {
     match entry {
         Entry::Before(prefix) => gather_before(alloc, space, front, back, prefix, children),
-        Entry::After(suffix) => gather_after(alloc, space, front, back, suffix, children),
+        Entry::After(suffix) => gather_after(alloc, space, front, back, suffix, memo, children),
     }
 }
 
@@ -68,16 +73,19 @@ pub(crate) fn expand<S: Space>(
     front: &Layers<S::Set>,
     back: &Layers<S::Set>,
     entry: &Entry<S::Set>,
+    memo: &mut Expansions,
 ) -> Result<Vec<Entry<S::Set>>, SpaceFault>
     requires front { Held (S.view space.old) front.now }
     requires back { Held (S.view space.old) back.now }
     requires entry { EntryOk (S.view space.old) entry.now }
+    requires memo { AreRight (S.view space.old) back.now memo.old }
+    ensures memo { AreRight (S.view space.old) back.now memo.new }
     ensures ok { IfOk result (λ es. Expands (S.view space.old) (S.view space.new) front.now back.now entry.now
         es.items) }
     ensures err { OnErr result (Stays (S.view space.old) (S.view space.new)) }
 {
     let mut children = Children::new(alloc);
-    match gather(alloc, space, front, back, entry, &mut children) {
+    match gather(alloc, space, front, back, entry, memo, &mut children) {
         Ok(()) => join(space, children),
         Err(fault) => {
             give_back_children(space, &children);

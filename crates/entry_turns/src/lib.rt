@@ -3,9 +3,10 @@
 //! `open_cut` gives the first entry of a cut, and `walk` takes entries from the queue, last in first out, until one
 //! is a plan. A prefix grows backwards out of a set, then a suffix forwards from one state. The suffix keeps that
 //! state's values and no set: its operators are tried on the values, and a layer is asked whether it has the state to
-//! which one leads. Every operator that leads on into a right layer makes a child, so no entry is a dead end; a child
-//! of less cost or a lower ring is taken first, so a plan comes within two turns more than it has operators. Want of
-//! memory leaves what the queue owes, and no set is lost.
+//! which one leads. What leads on from a state is remembered for the suffixes that come to it later (`Expansions`).
+//! Every operator that leads on into a right layer makes a child, so no entry is a dead end; a child of less cost or a
+//! lower ring is taken first, so a plan comes within two turns more than it has operators. Want of memory leaves what
+//! the queue owes, and no set is lost.
 //!
 //! It stands on the layers of `cost_layers` and the laws of `entry_laws`.
 #![tactic(auto)]
@@ -15,6 +16,8 @@ mod before;
 mod children;
 mod entries;
 mod expand;
+mod expansions;
+mod moves;
 mod opening;
 mod states;
 mod turns;
@@ -22,6 +25,7 @@ mod walking;
 mod ways;
 
 pub use entries::{Entry, Prefix, Suffix, give_back};
+pub use expansions::Expansions;
 pub use opening::open_cut;
 pub use turns::turn;
 pub use walking::walk;

@@ -17,11 +17,13 @@ ghost use Rattle.space_api.specs.Frames.{Stays};
 ghost use Rattle.space_api.specs.Owned.{Trades};
 ghost use Rattle.cost_layers.specs.Layers.{Held};
 ghost use Rattle.entry_turns.specs.Entries.{EntryOk, Makes, SetIn, AreDistinct};
+ghost use Rattle.entry_turns.specs.Expansions.{AreRight};
 ghost use Rattle.entry_turns.specs.Grown.{Expands};
 ghost use Rattle.entry_turns.specs.Turned.{IsDone, Starts, Begun, BeginsToo, begun_entries, Follows, IsQueue, Turns, Replaces};
 
 use crate::entries::{Prefix, Suffix, give_back, give_back_entries, into_operators};
 use crate::expand::expand;
+use crate::expansions::Expansions;
 use crate::states::{is_goal, reached, values_of};
 use crate::ways::first_ring;
 use cost_layers::Layers;
@@ -138,17 +140,20 @@ fn follow<S: Space>(
     front: &Layers<S::Set>,
     back: &Layers<S::Set>,
     entry: &Entry<S::Set>,
+    memo: &mut Expansions,
 ) -> Result<Next<S::Set>, SpaceFault>
     requires front { Held (S.view space.old) front.now }
     requires back { Held (S.view space.old) back.now }
     requires entry { EntryOk (S.view space.old) entry.now }
+    requires memo { AreRight (S.view space.old) back.now memo.old }
+    ensures memo { AreRight (S.view space.old) back.now memo.new }
     ensures ok { IfOk result (λ next. Follows (S.view space.old) (S.view space.new) front.now back.now
         entry.now next.entries.items next.done) }
     ensures err { OnErr result (Stays (S.view space.old) (S.view space.new)) }
 {
     let done = is_done(alloc, space, entry)?;
     let begun = begin_if_whole(alloc, space, back, entry)?;
-    let made = expand(alloc, space, front, back, entry)?;
+    let made = expand(alloc, space, front, back, entry, memo)?;
     let entries = with_begun(space, made, begun)?;
     Ok(Next { entries, done })
 }
@@ -201,11 +206,13 @@ pub fn turn<S: Space>(
     front: &Layers<S::Set>,
     back: &Layers<S::Set>,
     queue: &mut Vec<Entry<S::Set>>,
+    memo: &mut Expansions,
 ) -> Result<Option<Vec<u32>>, SpaceFault>
     requires front { Held (S.view space.old) front.now }
     requires back { Held (S.view space.old) back.now }
     requires queue { IsQueue (S.view space.old) queue.old.items }
     requires some { 0 < length queue.old.items }
+    requires memo { AreRight (S.view space.old) back.now memo.old }
     ensures queue { IsQueue (S.view space.new) queue.new.items }
     ensures trades { Trades (S.view space.old) (S.view space.new) (SetIn queue.old.items) (SetIn queue.new.items) }
     ensures ok { IfOk result (λ o. MatchOption o (Turns (S.view space.old) (S.view space.new) front.now
@@ -213,8 +220,9 @@ pub fn turn<S: Space>(
         front.now back.now queue.old.items queue.new.items (Some p.items))) }
     ensures stays { OnErr result (Stays (S.view space.old) (S.view space.new)) }
     ensures err { OnErr result (queue.new.items ≡ queue.old.items) }
+    ensures memo { AreRight (S.view space.old) back.now memo.new }
 {
     let last = queue.len() - 1;
-    let next = follow(alloc, space, front, back, &queue[last])?;
+    let next = follow(alloc, space, front, back, &queue[last], memo)?;
     replace_last(space, queue, next)
 }

@@ -6,10 +6,12 @@ ghost use Rattle.space_api.specs.Owned.{Trades};
 ghost use Rattle.cost_layers.specs.Layers.{Held, known_of};
 ghost use Rattle.plan_cuts.specs.declared.Cut.{Cut};
 ghost use Rattle.entry_turns.specs.Entries.{SetIn, RightSides};
+ghost use Rattle.entry_turns.specs.Expansions.{AreRight};
 ghost use Rattle.entry_turns.specs.Turned.{IsQueue};
 ghost use Rattle.entry_turns.specs.Walked.{AreApart, IsLawful, OwesOn, GaveFrom};
 
 use crate::entries::Entry;
+use crate::expansions::Expansions;
 use crate::turns::turn;
 use cost_layers::Layers;
 use lazy_plans::Steps;
@@ -27,6 +29,7 @@ pub fn walk<S: Space, L: Ledger>(
     back: &Layers<S::Set>,
     cost: u64,
     queue: &mut Vec<Entry<S::Set>>,
+    memo: &mut Expansions,
     steps: &mut Steps<L>,
 ) -> Result<Vec<u32>, SpaceFault>
     requires front { Held (S.view space.old) front.now }
@@ -37,10 +40,12 @@ pub fn walk<S: Space, L: Ledger>(
     requires some { 0 < length queue.old.items }
     requires front_apart { AreApart queue.old.items front.now }
     requires back_apart { AreApart queue.old.items back.now }
+    requires memo { AreRight (S.view space.old) back.now memo.old }
     requires lawful { (undrawn : Cut → Bool) × IsLawful (S.view space.old) front.now back.now cost
         queue.old.items undrawn }
     ensures queue { IsQueue (S.view space.new) queue.new.items }
     ensures trades { Trades (S.view space.old) (S.view space.new) (SetIn queue.old.items) (SetIn queue.new.items) }
+    ensures memo { AreRight (S.view space.new) back.now memo.new }
     ensures gave { IfOk result (λ p. GaveFrom (S.view space.old) (S.view space.new) front.now back.now cost
         queue.old.items queue.new.items p.items) }
     ensures steps { IfOk result (λ p. steps.new ≤ steps.old + length p.items + 2) }
@@ -49,7 +54,7 @@ pub fn walk<S: Space, L: Ledger>(
 {
     'turns: loop {
         steps.tick();
-        match turn(alloc, space, front, back, queue)? {
+        match turn(alloc, space, front, back, queue, memo)? {
             Some(plan) => return Ok(plan),
             None => {}
         }

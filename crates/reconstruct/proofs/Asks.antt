@@ -10,7 +10,11 @@ use Rattle.lazy_plans.specs.Law.{Turned, Ended, Last, last_of}
 use Rattle.lazy_plans.specs.declared.stop.Stop.{Stop}
 use Rattle.lazy_plans.specs.declared.stop.Stop.TheVariants.{Memory}
 use Rattle.lazy_plans.proofs.Given.{ended_by}
+use Rattle.entry_turns.specs.Expansions.{IsEmpty, AreRight}
 use Rattle.entry_turns.specs.declared.entries.Entry.{Entry}
+use Rattle.entry_turns.specs.declared.expansions.Expansions.{Expansions}
+use Rattle.entry_turns.proofs.Remembering.{right_empty}
+use Rattle.entry_turns.proofs.Staying.{right_kept}
 use Rattle.bidirectional.specs.Both.{IsBeneath, IsBoth, IsOwnOf, front_layers, back_layers}
 use Rattle.bidirectional.specs.declared.search.Both.{Both}
 use Rattle.reconstruct.specs.declared.drawing.Place.{Place}
@@ -38,17 +42,17 @@ none_some e = cc
 -- a call of an engine, by what its parts did
 module _ {Set P : Type 0} (most : Option ℕ) (within : Option Set) where
   -- what is told at the end of a call
-  sound_of : (y : System) (x : View Set) (both : Both Set P) (listed : Option Place) (queue : List (Entry Set)) (held : Option (List ℕ)) (ended : Last) (before : List ℕ → Type 0) (r : Result (Option (List ℕ)) Stop)
-      → x.system ≡ y → IsReady x both most within listed queue → IsHeld x.system held ended → Turned y TopK most before (Pending x (back_layers both) listed queue held) r → ended ≡ last_of r → (ended ≡ Some None → IsTidy x) → IsSound x both most within listed queue held ended
-  sound_of y x both listed queue held ended before r sys ready holds turned last room = record {
+  sound_of : (y : System) (x : View Set) (both : Both Set P) (listed : Option Place) (queue : List (Entry Set)) (memo : Expansions) (held : Option (List ℕ)) (ended : Last) (before : List ℕ → Type 0) (r : Result (Option (List ℕ)) Stop)
+      → x.system ≡ y → IsReady x both most within listed queue memo → IsHeld x.system held ended → Turned y TopK most before (Pending x (back_layers both) listed queue held) r → ended ≡ last_of r → (ended ≡ Some None → IsTidy x) → IsSound x both most within listed queue memo held ended
+  sound_of y x both listed queue memo held ended before r sys ready holds turned last room = record {
     ready = ready;
     holds = holds;
     said = subst (λ (z : System). Ended z most (Pending x (back_layers both) listed queue held) ended) (sym sys) (subst (λ (l : Last). Ended y most (Pending x (back_layers both) listed queue held) l) (sym last) (ended_by y TopK most before (Pending x (back_layers both) listed queue held) r turned));
     room = room;
   }
 
-  module _ (v w : View Set) (both both2 : Both Set P) (listed listed2 : Option Place) (queue queue2 : List (Entry Set))
-      (ready : IsReady v both most within listed queue) (t : TradesAll v w both both2 queue queue2) (working : IsWorking w both2 listed2 queue2) (range : InRange most listed2) where
+  module _ (v w : View Set) (both both2 : Both Set P) (listed listed2 : Option Place) (queue queue2 : List (Entry Set)) (memo memo2 : Expansions)
+      (ready : IsReady v both most within listed queue memo) (t : TradesAll v w both both2 queue queue2) (working : IsWorking w both2 listed2 queue2) (range : InRange most listed2) (right : AreRight w (back_layers both2) memo2) where
     abbrev Before : List ℕ → Type 0
     Before = Owes v (back_layers both) listed queue
 
@@ -66,9 +70,10 @@ module _ {Set P : Type 0} (most : Option ℕ) (within : Option Set) where
     ]
 
     -- ready after the parts went on
-    ready_given : IsReady w both2 most within listed2 queue2
+    ready_given : IsReady w both2 most within listed2 queue2 memo2
     ready_given = record {
       working = working;
+      moves = right;
       range = range;
       keeps = keeps_on;
     }
@@ -76,11 +81,11 @@ module _ {Set P : Type 0} (most : Option ℕ) (within : Option Set) where
     law_given : (r : Result (Option (List ℕ)) Stop) → Turned v.system TopK most Before After r → Turned v.system TopK most PendedBefore (Pending w (back_layers both2) listed2 queue2 None) r
     law_given r h = turned_both v.system TopK most Before PendedBefore After (Pending w (back_layers both2) listed2 queue2 None) r (λ q. let p = pends_owed v (back_layers both) listed queue q in (p.1, p.0)) h (λ q. pends_owed w (back_layers both2) listed2 queue2 q)
 
-    pub stopped : (stop : Stop) → Turned v.system TopK most Before After (Err stop) → Answered v w most PendedBefore (Pending w (back_layers both2) listed2 queue2 None) (IsSound w both2 most within listed2 queue2 None (Some (Some stop))) (Some (Some stop)) (Err stop)
+    pub stopped : (stop : Stop) → Turned v.system TopK most Before After (Err stop) → Answered v w most PendedBefore (Pending w (back_layers both2) listed2 queue2 None) (IsSound w both2 most within listed2 queue2 memo2 None (Some (Some stop))) (Some (Some stop)) (Err stop)
     stopped stop h =
         let law = law_given (Err stop) h in
         record {
-          engine = sound_of v.system w both2 listed2 queue2 None (Some (Some stop)) PendedBefore (Err stop) t.system ready_given tt law refl (λ e. absurd (none_left stop e));
+          engine = sound_of v.system w both2 listed2 queue2 memo2 None (Some (Some stop)) PendedBefore (Err stop) t.system ready_given tt law refl (λ e. absurd (none_left stop e));
           system = t.system;
           law = law;
           last = refl;
@@ -89,9 +94,10 @@ module _ {Set P : Type 0} (most : Option ℕ) (within : Option Set) where
 
     -- the space was tidied, or that was refused
     module _ (x : View Set) (s : SetsStay w x) where
-      ready_tidied : IsReady x both2 most within listed2 queue2
+      ready_tidied : IsReady x both2 most within listed2 queue2 memo2
       ready_tidied = record {
         working = record { stands = stays_ends w x both2 s.kept working.stands; at = at_kept w x (IsBeneath both2) (front_layers both2) (back_layers both2) (right_ends w both2 working.stands) s listed2 queue2 working.at };
+        moves = right_kept w x (back_layers both2) memo2 (right_ends w both2 working.stands).back_held s.kept right;
         range = range;
         keeps = λ a h. ready_given.keeps a (s.only a h);
       }
@@ -106,22 +112,22 @@ module _ {Set P : Type 0} (most : Option ℕ) (within : Option Set) where
       law_tidied r h = turned_to v.system TopK most PendedBefore (Pending w (back_layers both2) listed2 queue2 None) (Pending x (back_layers both2) listed2 queue2 None) r (law_given r h)
           (λ q. let a = pends_owed x (back_layers both2) listed2 queue2 q in let b = pends_owed w (back_layers both2) listed2 queue2 q in let o = owes_tidied q in ((λ k. b.1 (o.0 (a.0 k))), (λ k. a.1 (o.1 (b.0 k)))))
 
-      pub tidied_none : IsTidy x → Turned v.system TopK most Before After (Ok None) → Answered v x most PendedBefore (Pending x (back_layers both2) listed2 queue2 None) (IsSound x both2 most within listed2 queue2 None (Some None)) (Some None) (Ok None)
+      pub tidied_none : IsTidy x → Turned v.system TopK most Before After (Ok None) → Answered v x most PendedBefore (Pending x (back_layers both2) listed2 queue2 None) (IsSound x both2 most within listed2 queue2 memo2 None (Some None)) (Some None) (Ok None)
       tidied_none few h =
           let law = law_tidied (Ok None) h in
           record {
-            engine = sound_of v.system x both2 listed2 queue2 None (Some None) PendedBefore (Ok None) system_tidied ready_tidied tt law refl (λ e. few);
+            engine = sound_of v.system x both2 listed2 queue2 memo2 None (Some None) PendedBefore (Ok None) system_tidied ready_tidied tt law refl (λ e. few);
             system = system_tidied;
             law = law;
             last = refl;
             room = few;
           }
 
-      pub tidied_some : (p : List ℕ) → IsTidy x → Turned v.system TopK most Before After (Ok (Some p)) → Answered v x most PendedBefore (Pending x (back_layers both2) listed2 queue2 None) (IsSound x both2 most within listed2 queue2 None None) None (Ok (Some p))
+      pub tidied_some : (p : List ℕ) → IsTidy x → Turned v.system TopK most Before After (Ok (Some p)) → Answered v x most PendedBefore (Pending x (back_layers both2) listed2 queue2 None) (IsSound x both2 most within listed2 queue2 memo2 None None) None (Ok (Some p))
       tidied_some p few h =
           let law = law_tidied (Ok (Some p)) h in
           record {
-            engine = sound_of v.system x both2 listed2 queue2 None None PendedBefore (Ok (Some p)) system_tidied ready_tidied tt law refl (λ e. absurd (none_some e));
+            engine = sound_of v.system x both2 listed2 queue2 memo2 None None PendedBefore (Ok (Some p)) system_tidied ready_tidied tt law refl (λ e. absurd (none_some e));
             system = system_tidied;
             law = law;
             last = refl;
@@ -150,11 +156,11 @@ module _ {Set P : Type 0} (most : Option ℕ) (within : Option Set) where
       held_fine None h = tt
       held_fine (Some p) h = (subst (λ (y : System). IsPlan y p) (sym system_tidied) (owed_plan listed p h.pended), refl)
 
-      pub untidied : (found : Option (List ℕ)) → Turned v.system TopK most Before After (Ok found) → Answered v x most PendedBefore (Pending x (back_layers both2) listed2 queue2 found) (IsSound x both2 most within listed2 queue2 found (Some (Some Memory))) (Some (Some Memory)) (Err Memory)
+      pub untidied : (found : Option (List ℕ)) → Turned v.system TopK most Before After (Ok found) → Answered v x most PendedBefore (Pending x (back_layers both2) listed2 queue2 found) (IsSound x both2 most within listed2 queue2 memo2 found (Some (Some Memory))) (Some (Some Memory)) (Err Memory)
       untidied found h =
           let law = held_law found h in
           record {
-            engine = sound_of v.system x both2 listed2 queue2 found (Some (Some Memory)) PendedBefore (Err Memory) system_tidied ready_tidied (held_fine found h) law refl (λ e. absurd (none_left Memory e));
+            engine = sound_of v.system x both2 listed2 queue2 memo2 found (Some (Some Memory)) PendedBefore (Err Memory) system_tidied ready_tidied (held_fine found h) law refl (λ e. absurd (none_left Memory e));
             system = system_tidied;
             law = law;
             last = refl;
@@ -162,9 +168,9 @@ module _ {Set P : Type 0} (most : Option ℕ) (within : Option Set) where
           }
 
   -- an engine of which nothing was asked yet: no set is valid but those of the search and the one that was handed over
-  pub engine_begins : (u v : View Set) (both : Both Set P) (queue : List (Entry Set)) → IsReadyFor u within → Trades u v (λ a. ⊥) (IsOwnOf both) → IsBoth v both → queue ≡ [] → IsSound v both most within None queue None None
-  engine_begins u v both queue start t stands empty = record {
-    ready = record { working = record { stands = stands; at = empty }; range = tt; keeps = λ a h. elim (t.only a h) [ inl o ↦ inl (inl o) | inr k ↦ kept_first within start a k ] };
+  pub engine_begins : (u v : View Set) (both : Both Set P) (queue : List (Entry Set)) (memo : Expansions) → IsReadyFor u within → Trades u v (λ a. ⊥) (IsOwnOf both) → IsBoth v both → queue ≡ [] → IsEmpty memo → IsSound v both most within None queue memo None None
+  engine_begins u v both queue memo start t stands empty none = record {
+    ready = record { working = record { stands = stands; at = empty }; moves = right_empty v (back_layers both) memo none; range = tt; keeps = λ a h. elim (t.only a h) [ inl o ↦ inl (inl o) | inr k ↦ kept_first within start a k ] };
     holds = tt;
     said = tt;
     room = λ e. absurd (none_some e);

@@ -29,7 +29,7 @@ tells view x p = tells_pending (view x.space) (back_layers x.both) x.listed x.qu
 
 -- what it meets between two calls
 abbrev pub IsEngine : {S P Set : Type 0} → (S → View Set) → TopPlans S P Set → Type 0
-IsEngine view x = IsSound (view x.space) x.both x.most x.within x.listed x.queue.items x.held x.ended
+IsEngine view x = IsSound (view x.space) x.both x.most x.within x.listed x.queue.items x.memo x.held x.ended
 
 -- every valid set stands in a ring or layer, has all states or the useful ones, is an entry's, or was handed over
 abbrev pub KeepsAll : {S P Set : Type 0} → (S → View Set) → TopPlans S P Set → Type 0

@@ -13,6 +13,8 @@ use Rattle.entry_laws.specs.Entries.{places}
 use Rattle.entry_laws.specs.Drawing.{undrawn}
 use Rattle.entry_turns.specs.Entries.{plains}
 use Rattle.entry_turns.specs.declared.entries.Entry.{Entry}
+use Rattle.entry_turns.specs.Expansions.{AreRight}
+use Rattle.entry_turns.specs.declared.expansions.Expansions.{Expansions}
 use Rattle.bidirectional.specs.Both.{IsOwnOf, back_layers}
 use Rattle.bidirectional.specs.declared.search.Both.{Both}
 use Rattle.reconstruct.specs.declared.drawing.Place.{Place}
@@ -47,16 +49,17 @@ IsHeld y (Some p) ended = IsPlan y p × (ended ≡ Some (Some Memory))
 abbrev pub IsKept : {Set P : Type 0} → Both Set P → Option Set → List (Entry Set) → Set → Type 0
 IsKept both within queue a = Keeping (IsOwnOf both) queue a ⊎ (within ≡ Some a)
 
--- the queue and the cuts that are left are lawful, and no set is valid but those that are kept
-pub record IsReady {Set P : Type 0} (v : View Set) (both : Both Set P) (most : Option ℕ) (within : Option Set) (listed : Option Place) (queue : List (Entry Set)) : Type 0 where
+-- the queue and the cuts that are left are lawful, what is remembered is right, and no set is valid but those that are kept
+pub record IsReady {Set P : Type 0} (v : View Set) (both : Both Set P) (most : Option ℕ) (within : Option Set) (listed : Option Place) (queue : List (Entry Set)) (memo : Expansions) : Type 0 where
   pub working : IsWorking v both listed queue
+  pub moves : AreRight v (back_layers both) memo
   pub range : InRange most listed
   pub keeps : (a : Set) → Valid v a → IsKept both within queue a
 
 -- what every engine meets between two calls: it is ready, what was answered last still holds, and where no plan was left the
 -- space is tidy
-pub record IsSound {Set P : Type 0} (v : View Set) (both : Both Set P) (most : Option ℕ) (within : Option Set) (listed : Option Place) (queue : List (Entry Set)) (held : Option (List ℕ)) (ended : Last) : Type 0 where
-  pub ready : IsReady v both most within listed queue
+pub record IsSound {Set P : Type 0} (v : View Set) (both : Both Set P) (most : Option ℕ) (within : Option Set) (listed : Option Place) (queue : List (Entry Set)) (memo : Expansions) (held : Option (List ℕ)) (ended : Last) : Type 0 where
+  pub ready : IsReady v both most within listed queue memo
   pub holds : IsHeld v.system held ended
   pub said : Ended v.system most (Pending v (back_layers both) listed queue held) ended
   pub room : ended ≡ Some None → IsTidy v

@@ -8,6 +8,7 @@ ghost use Rattle.reconstruct.specs.Engine.{IsReadyFor, IsNew};
 
 use crate::engine::TopPlans;
 use bidirectional::{Both, Choose};
+use entry_turns::Expansions;
 use space_api::Space;
 use std::alloc::Global;
 use symk_task::Memory;
@@ -49,6 +50,7 @@ fn begin<S: Space + Drop, P: Choose + Drop>(
         within,
         listed: None,
         queue: Vec::new(alloc),
+        memo: Expansions::new(alloc),
         held: None,
         ended: None,
     })

@@ -2,7 +2,7 @@
 
 use crate::drawing::Place;
 use bidirectional::{Both, Choose};
-use entry_turns::Entry;
+use entry_turns::{Entry, Expansions};
 use lazy_plans::Stop;
 use space_api::Space;
 use std::alloc::Global;
@@ -19,6 +19,8 @@ pub struct TopPlans<S: Space, P: Choose> {
     pub(crate) within: Option<S::Set>,
     pub(crate) listed: Option<Place>,
     pub(crate) queue: Vec<Entry<S::Set>>,
+    /// What leads on from states, of the cost that is listed.
+    pub(crate) memo: Expansions,
     /// A plan that was found when the space could not be tidied.
     pub(crate) held: Option<Plan>,
     /// The answer that ended it: no plan is left, or why it stopped.
@@ -54,6 +56,7 @@ impl<S: Space, P: Choose> TopPlans<S, P> {
             self.most,
             &mut self.listed,
             &mut self.queue,
+            &mut self.memo,
             steps,
         ) {
             Err(stop) => {

@@ -4,6 +4,8 @@ ghost use Rattle.std.specs.Prelude.{◌≡◌, ◌<◌, [], length, IfOk, OnOk};
 ghost use Rattle.space_api.specs.View.{View};
 ghost use Rattle.symk_task.specs.declared.parts.Mode.TheVariants.{TopK};
 ghost use Rattle.lazy_plans.specs.Law.{Turned};
+ghost use Rattle.space_api.specs.Frames.{Kept};
+ghost use Rattle.entry_turns.specs.Expansions.{AreRight};
 ghost use Rattle.bidirectional.specs.Both.{IsBoth, back_layers};
 ghost use Rattle.reconstruct.specs.Going.{cost_at, HasMore};
 ghost use Rattle.reconstruct.specs.Working.{IsWorking, InRange, Owes, Moves, TradesAll, Fills, FewTurns};
@@ -11,7 +13,7 @@ ghost use Rattle.reconstruct.specs.Working.{IsWorking, InRange, Owes, Moves, Tra
 use crate::drawing::{Place, draw};
 use crate::going::{Filled, go_on};
 use bidirectional::{Both, Choose};
-use entry_turns::{Entry, walk};
+use entry_turns::{Entry, Expansions, walk};
 use lazy_plans::{Steps, Stop};
 use space_api::{Space, SpaceFault};
 use std::alloc::Global;
@@ -31,6 +33,7 @@ fn draw_next<S: Space, P: Choose>(
     ensures both { IsBoth (S.view space.new) both.now }
     ensures moves { Moves (S.view space.old) (S.view space.new) both.now both.now listed.old listed.new
         queue.old.items queue.new.items }
+    ensures kept { Kept (S.view space.old) (S.view space.new) }
     ensures cost { cost_at listed.new ≡ cost_at listed.old }
     ensures ok { OnOk result (HasMore queue.new.items listed.new) }
 {
@@ -46,8 +49,8 @@ fn draw_next<S: Space, P: Choose>(
     }
 }
 
-/// Sees to it that an entry stands in the queue: draws the next cut, or goes on to the next cost. Want of memory
-/// leaves what is owed.
+/// Sees to it that an entry stands in the queue: draws the next cut, or goes on to the next cost, of which nothing is
+/// remembered. Want of memory leaves what is owed.
 fn fill<S: Space, P: Choose>(
     alloc: Global,
     space: &mut S,
@@ -55,13 +58,16 @@ fn fill<S: Space, P: Choose>(
     most: Option<u64>,
     listed: &mut Option<Place>,
     queue: &mut Vec<Entry<S::Set>>,
+    memo: &mut Expansions,
 ) -> Result<Filled, SpaceFault>
     requires working { IsWorking (S.view space.old) both.old listed.old queue.old.items }
     requires range { InRange most listed.old }
+    requires memo { AreRight (S.view space.old) (back_layers both.old) memo.old }
     ensures both { IsBoth (S.view space.new) both.new }
     ensures moves { Moves (S.view space.old) (S.view space.new) both.old both.new listed.old listed.new
         queue.old.items queue.new.items }
     ensures range { InRange most listed.new }
+    ensures memo { AreRight (S.view space.new) (back_layers both.new) memo.new }
     ensures ok { IfOk result (Fills (S.view space.old).system most
         (Owes (S.view space.old) (back_layers both.old) listed.old queue.old.items) queue.new.items) }
 {
@@ -72,6 +78,7 @@ fn fill<S: Space, P: Choose>(
     if !queue.is_empty() {
         return Ok(Filled::Ready);
     }
+    memo.clear();
     go_on(alloc, space, both, most, listed, queue)
 }
 
@@ -83,12 +90,15 @@ fn walk_on<S: Space, P: Choose, L: Ledger>(
     most: Option<u64>,
     listed: &Option<Place>,
     queue: &mut Vec<Entry<S::Set>>,
+    memo: &mut Expansions,
     steps: &mut Steps<L>,
 ) -> Result<Option<Plan>, Stop>
     requires working { IsWorking (S.view space.old) both.now listed.now queue.old.items }
     requires range { InRange most listed.now }
     requires some { 0 < length queue.old.items }
+    requires memo { AreRight (S.view space.old) (back_layers both.now) memo.old }
     ensures working { IsWorking (S.view space.new) both.now listed.now queue.new.items }
+    ensures memo { AreRight (S.view space.new) (back_layers both.now) memo.new }
     ensures trades { TradesAll (S.view space.old) (S.view space.new) both.now both.now queue.old.items queue.new.items }
     ensures turned { Turned (S.view space.old).system TopK most
         (Owes (S.view space.old) (back_layers both.now) listed.now queue.old.items)
@@ -105,6 +115,7 @@ fn walk_on<S: Space, P: Choose, L: Ledger>(
                 both.backward_layers(),
                 place.cost,
                 queue,
+                memo,
                 steps,
             ) {
                 Ok(operators) => Ok(Some(Plan::of(operators))),
@@ -122,22 +133,25 @@ pub(crate) fn give<S: Space, P: Choose, L: Ledger>(
     most: Option<u64>,
     listed: &mut Option<Place>,
     queue: &mut Vec<Entry<S::Set>>,
+    memo: &mut Expansions,
     steps: &mut Steps<L>,
 ) -> Result<Option<Plan>, Stop>
     requires working { IsWorking (S.view space.old) both.old listed.old queue.old.items }
     requires range { InRange most listed.old }
+    requires memo { AreRight (S.view space.old) (back_layers both.old) memo.old }
     ensures working { IsWorking (S.view space.new) both.new listed.new queue.new.items }
     ensures range { InRange most listed.new }
+    ensures memo { AreRight (S.view space.new) (back_layers both.new) memo.new }
     ensures trades { TradesAll (S.view space.old) (S.view space.new) both.old both.new queue.old.items queue.new.items }
     ensures turned { Turned (S.view space.old).system TopK most
         (Owes (S.view space.old) (back_layers both.old) listed.old queue.old.items)
         (Owes (S.view space.new) (back_layers both.new) listed.new queue.new.items) result }
     ensures steps { FewTurns steps.old steps.new result }
 {
-    match fill(alloc, space, both, most, listed, queue) {
+    match fill(alloc, space, both, most, listed, queue, memo) {
         Err(_) => Err(Stop::Memory),
         Ok(Filled::Never) => Ok(None),
         Ok(Filled::Beyond) => Err(Stop::CostRange),
-        Ok(Filled::Ready) => walk_on(alloc, space, both, most, listed, queue, steps),
+        Ok(Filled::Ready) => walk_on(alloc, space, both, most, listed, queue, memo, steps),
     }
 }

@@ -1,12 +1,11 @@
-use Rattle.entry_turns.specs.Grown.{IsPut, PutsAfter}
+use Rattle.entry_turns.specs.Grown.{IsPut, PutsBy}
 use Rattle.entry_turns.specs.declared.entries.Entry.TheVariants.{After}
 use Rattle.entry_turns.proofs.Adding.{on_ok}
 use Rattle.entry_turns.proofs.after.put_grown.Goals as goal
 
 pub returns-clause-ok : goal.returns-clause-ok
 returns-clause-ok g c =
-    let v = g.S.Space.view c.args.space.now in
     on_ok c.put_after.result
     (IsPut c.args.suffix.now.cost c.args.suffix.now.ring (After c.in_ok-child.child) c.args.children.now.level.items c.args.children.now.falling.items c.put_after.new.self.level.items c.put_after.new.self.falling.items)
-    (PutsAfter v c.args.back.now c.args.suffix.now c.args.op c.args.w c.args.state c.args.children.now.level.items c.args.children.now.falling.items c.put_after.new.self.level.items c.put_after.new.self.falling.items)
+    (PutsBy c.args.suffix.now c.args.step.now c.args.children.now.level.items c.args.children.now.falling.items c.put_after.new.self.level.items c.put_after.new.self.falling.items)
     (λ h. (c.in_ok-child.child, c.in_ok-child.ensures, h)) c.put_after.ensures.ok

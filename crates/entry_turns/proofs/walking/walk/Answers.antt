@@ -1,7 +1,7 @@
 use Rattle.std.proofs.Common.{arith}
 use Rattle.space_api.proofs.Trading.{trades_trans}
 use Rattle.entry_turns.specs.Walked.{OwesOn}
-use Rattle.entry_turns.proofs.Staying.{held_in, traded}
+use Rattle.entry_turns.proofs.Staying.{held_in, traded, right_there, right_before, right_on}
 use Rattle.entry_turns.proofs.Walks.{walked_first, turn_goes, turn_left, turn_gives, turn_refused, plains_length, err_of, none_traded}
 use Rattle.entry_turns.proofs.walking.walk.Goals as goal
 
@@ -13,6 +13,7 @@ turns-init g c =
       queue = c.requires.queue;
       some = c.requires.some;
       walked = walked_first u c.args.front.now c.args.back.now c.args.cost c.args.queue.now.items c.requires.lawful.0 c.requires.lawful.1;
+      memo = c.requires.memo;
       steps = omega arith;
     }
 
@@ -90,5 +91,21 @@ turns-preserved g c =
       queue = c.in_ok-plan.ensures.queue;
       some = omega (arith, left, plains_length w c.turn.new.queue.items);
       walked = on.0;
+      memo = right_before u v c.args.queue.now.items c.turns.queue.items i.trades c.args.back.now c.requires.back c.requires.back_apart c.turn.new.memo c.in_ok-plan.ensures.memo;
       steps = omega (arith, c.tick.ensures, i.steps, on.2);
     }
+
+pub turn-requires-clause-memo : goal.turn-requires-clause-memo
+turn-requires-clause-memo g c =
+    let view = g.S.Space.view in
+    right_there (view c.args.space.now) (view c.turns.space) c.args.queue.now.items c.turns.queue.items c.turns.invariant.trades c.args.back.now c.requires.back c.requires.back_apart c.turns.memo c.turns.invariant.memo
+
+pub returns-in_err-plan-clause-memo : goal.returns-in_err-plan-clause-memo
+returns-in_err-plan-clause-memo g c =
+    let view = g.S.Space.view in
+    right_on (view c.args.space.now) (view c.turns.space) (view c.turn.new.space) c.args.queue.now.items c.turns.queue.items c.turn.new.queue.items c.turns.invariant.trades c.in_err-plan.ensures.trades c.args.back.now c.requires.back c.requires.back_apart c.turn.new.memo c.in_err-plan.ensures.memo
+
+pub returns-in-Some-clause-memo : goal.returns-in-Some-clause-memo
+returns-in-Some-clause-memo g c =
+    let view = g.S.Space.view in
+    right_on (view c.args.space.now) (view c.turns.space) (view c.turn.new.space) c.args.queue.now.items c.turns.queue.items c.turn.new.queue.items c.turns.invariant.trades c.in_ok-plan.ensures.trades c.args.back.now c.requires.back c.requires.back_apart c.turn.new.memo c.in_ok-plan.ensures.memo

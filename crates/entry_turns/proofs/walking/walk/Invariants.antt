@@ -4,6 +4,7 @@ use Rattle.entry_laws.specs.Entries.{height, weight}
 use Rattle.entry_laws.proofs.Queue.{last_by}
 use Rattle.entry_turns.specs.Entries.{plains, SetIn}
 use Rattle.entry_turns.specs.Turned.{IsQueue}
+use Rattle.entry_turns.specs.Expansions.{AreRight}
 use Rattle.entry_turns.proofs.Walks.{WalkedTo}
 use Rattle.entry_turns.proofs.walking.walk.Given as goal
 
@@ -17,6 +18,7 @@ invariant-turns g l =
       queue : IsQueue v l.queue.items;
       some : 0 < length l.queue.items;
       walked : WalkedTo u l.front l.back l.cost l.fn.queue.items (plains v l.queue.items);
+      memo : AreRight u l.back l.memo;
       steps : l.steps ≤ l.fn.steps + last_by weight (plains v l.queue.items);
     }
 

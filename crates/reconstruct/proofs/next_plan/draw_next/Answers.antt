@@ -1,4 +1,5 @@
 use Rattle.std.proofs.Common.{Some}
+use Rattle.space_api.proofs.Keeping.{kept_refl}
 use Rattle.bidirectional.specs.Both.{IsBeneath, IsOwnOf, front_layers, back_layers}
 use Rattle.bidirectional.proofs.Ends.{valid_ends, owned_ends}
 use Rattle.reconstruct.proofs.Moves.{moved_not, moved_drawn, listing_of}
@@ -30,3 +31,12 @@ returns-else-place-clause-moves g c =
     let z = c.requires.working in
     let at = rw c.in-Some.is at z.at in
     rw c.in-Some.is (moved_not v (IsOwnOf x) (IsBeneath x) (front_layers x) (back_layers x) (Some c.in-Some.place) c.args.queue.now.items (λ a u. valid_ends v x z.stands a (owned_ends x a u)) at)
+
+pub returns-in-None-clause-kept : goal.returns-in-None-clause-kept
+returns-in-None-clause-kept g c = kept_refl (g.S.Space.view c.args.space.now)
+
+pub returns-then-place-clause-kept : goal.returns-then-place-clause-kept
+returns-then-place-clause-kept g c = c.draw.ensures.draws.1.kept
+
+pub returns-else-place-clause-kept : goal.returns-else-place-clause-kept
+returns-else-place-clause-kept g c = kept_refl (g.S.Space.view c.args.space.now)

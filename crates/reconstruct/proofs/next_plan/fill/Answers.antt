@@ -1,6 +1,9 @@
 use Rattle.std.proofs.Common.{rules, ◌≡◌, []}
 use Rattle.bidirectional.specs.Both.{IsBeneath, IsOwnOf, front_layers, back_layers}
 use Rattle.bidirectional.proofs.Ends.{valid_ends, owned_ends}
+use Rattle.entry_turns.proofs.Remembering.{right_empty}
+use Rattle.entry_turns.proofs.Staying.{right_kept}
+use Rattle.reconstruct.proofs.Ends.{right_ends}
 use Rattle.reconstruct.proofs.Moves.{moved_not, went_ok, gone_moved, gone_fits, moved_trans, rest_of, range_same}
 use Rattle.reconstruct.proofs.next_plan.fill.Goals as goal
 
@@ -43,3 +46,20 @@ returns-clause-range g c =
     let view = g.S.Space.view in
     let z = c.go_on.new.both in
     gone_fits (view c.draw_next.new.space) (view c.go_on.new.space) (IsBeneath z) (front_layers z) (back_layers z) c.args.most c.draw_next.new.listed c.go_on.new.listed c.go_on.new.queue.items c.go_on.result (range_same c.args.most c.args.listed.now c.draw_next.new.listed c.draw_next.ensures.cost c.requires.range) c.go_on.ensures.ok c.go_on.ensures.listed
+
+pub returns-in_err-draw_next-clause-memo : goal.returns-in_err-draw_next-clause-memo
+returns-in_err-draw_next-clause-memo g c =
+    let view = g.S.Space.view in
+    let v = view c.args.space.now in
+    let x = c.args.both.now in
+    right_kept v (view c.draw_next.new.space) (back_layers x) c.args.memo.now (right_ends v x c.requires.working.stands).back_held c.draw_next.ensures.kept c.requires.memo
+
+pub returns-then-not-is_empty-2-clause-memo : goal.returns-then-not-is_empty-2-clause-memo
+returns-then-not-is_empty-2-clause-memo g c =
+    let view = g.S.Space.view in
+    let v = view c.args.space.now in
+    let x = c.args.both.now in
+    right_kept v (view c.draw_next.new.space) (back_layers x) c.args.memo.now (right_ends v x c.requires.working.stands).back_held c.draw_next.ensures.kept c.requires.memo
+
+pub returns-clause-memo : goal.returns-clause-memo
+returns-clause-memo g c = right_empty (g.S.Space.view c.go_on.new.space) (back_layers c.go_on.new.both) c.clear.new.self c.clear.ensures

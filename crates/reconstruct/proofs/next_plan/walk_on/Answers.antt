@@ -88,3 +88,12 @@ returns-in-Err-clause-trades g c =
     let x = c.args.both.now in
     let l = listing_some v (IsBeneath x) (front_layers x) (back_layers x) c.in-Some.place c.args.queue.now.items c.requires.some (rw c.in-Some.is at c.requires.working.at) in
     trades_beside (IsOwnOf x) c.walk.ensures.trades (λ a o. let u = owned_ends x a o in (valid_ends v x c.requires.working.stands a u, λ s. l.apart a s u))
+
+pub walk-requires-clause-memo : goal.walk-requires-clause-memo
+walk-requires-clause-memo g c = rw c.backward_layers.ensures.value c.requires.memo
+
+pub returns-in-Ok-clause-memo : goal.returns-in-Ok-clause-memo
+returns-in-Ok-clause-memo g c = rw c.backward_layers.ensures.value at c.walk.ensures.memo
+
+pub returns-in-Err-clause-memo : goal.returns-in-Err-clause-memo
+returns-in-Err-clause-memo g c = rw c.backward_layers.ensures.value at c.walk.ensures.memo

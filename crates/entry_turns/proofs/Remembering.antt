@@ -1,0 +1,44 @@
+-- What is remembered, place by place.
+use Rattle.std.proofs.Common.{◌≡◌, ℕ, ◌<◌, ◌⊎◌, inl, inr, List, length, get_or, Option, Some, refl, sym, ◌∙◌, ap, subst}
+use Rattle.std.specs.List.{Contains}
+use Rattle.std.proofs.lemmas.List.Elements.{All-set, All-contains, All-weaker, All-contains_itself}
+use Rattle.std.proofs.Math.ListN.{set}
+use Rattle.task_system.specs.System.{State}
+use Rattle.space_api.specs.View.{View}
+use Rattle.cost_layers.specs.declared.layers.Layers.{Layers}
+use Rattle.entry_turns.specs.Moves.{AreMoves}
+use Rattle.entry_turns.specs.Expansions.{Remembers, IsEmpty, Forgets, RemembersToo, AreRight}
+use Rattle.entry_turns.specs.declared.moves.Move.{Move}
+use Rattle.entry_turns.specs.declared.expansions.Expansion.{Expansion}
+use Rattle.entry_turns.specs.declared.expansions.Expansions.{Expansions}
+
+some_one : {A : Type 0} (x y : A) → Some x ≡ Some y → x ≡ y
+some_one x y e = cc
+
+-- a place that isn't empty
+pub place_has : (os : List (Option Expansion)) (i : ℕ) (o : Option Expansion) (e : Expansion) → i < length os → o ≡ get_or os i o → o ≡ Some e → Contains os (Some e)
+place_has os i o e lt at is = (i, lt, subst (λ (q : Option Expansion). get_or os i q ≡ q) is (sym at))
+
+-- an expansion was put at a place
+put_in : (os : List (Option Expansion)) (i : ℕ) (e e2 : Expansion) → Contains (set os i (Some e)) (Some e2) → Contains os (Some e2) ⊎ (Some e ≡ Some e2)
+put_in os i e e2 h =
+    All-contains (λ o. Contains os o ⊎ (Some e ≡ o)) (set os i (Some e)) (Some e2)
+    (All-set (λ o. Contains os o ⊎ (Some e ≡ o)) os i (Some e) (inr refl) (All-weaker (Contains os) (λ o. Contains os o ⊎ (Some e ≡ o)) (λ o c. inl c) os (All-contains_itself os))) h
+
+pub puts_place : (x : Expansions) (os : List (Option Expansion)) (i : ℕ) (e : Expansion) → os ≡ set x.places.items i (Some e) → (cost : ℕ) (s : State) (moves : List Move) → (e2 : Expansion) × Contains os (Some e2) × (e2.cost ≡ cost) × (e2.state ≡ s) × (e2.moves.items ≡ moves) → Remembers x cost s moves ⊎ ((e.cost ≡ cost) × (e.state ≡ s) × (e.moves.items ≡ moves))
+puts_place x os i e is cost s moves r =
+    elim (put_in x.places.items i e r.0 (subst (λ (ps : List (Option Expansion)). Contains ps (Some r.0)) is r.1)) [
+      | inl old ↦ inl (r.0, old, r.2, r.3, r.4)
+      | inr same ↦ (let one : e ≡ r.0 = some_one e r.0 same in
+          inr (ap (λ (q : Expansion). q.cost) one ∙ r.2, ap (λ (q : Expansion). q.state) one ∙ r.3, ap (λ (q : Expansion). q.moves.items) one ∙ r.4))
+    ]
+
+pub then_put : (x y z : Expansions) (cost : ℕ) (s : State) (moves : List Move) → Forgets x y → RemembersToo y z cost s moves → RemembersToo x z cost s moves
+then_put x y z cost s moves f too cost2 s2 moves2 r = elim (too cost2 s2 moves2 r) [ inl old ↦ inl (f cost2 s2 moves2 old) | inr new ↦ inr new ]
+
+-- what is remembered stays right
+pub right_empty : {Set : Type 0} (v : View Set) (back : Layers Set) (x : Expansions) → IsEmpty x → AreRight v back x
+right_empty v back x none cost s moves r = absurd (none cost s moves r)
+
+pub right_too : {Set : Type 0} (v : View Set) (back : Layers Set) (x z : Expansions) (cost : ℕ) (s : State) (moves : List Move) → AreRight v back x → AreMoves v back cost s moves → RemembersToo x z cost s moves → AreRight v back z
+right_too v back x z cost s moves right all too cost2 s2 moves2 r = elim (too cost2 s2 moves2 r) [ inl old ↦ right cost2 s2 moves2 old | inr new ↦ rw (sym new.0, sym new.1, sym new.2) all ]

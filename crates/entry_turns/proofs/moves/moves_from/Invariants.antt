@@ -1,0 +1,11 @@
+use Rattle.entry_turns.specs.Ways.{IsWay}
+use Rattle.entry_turns.proofs.Moving.{MovesBelow}
+use Rattle.entry_turns.proofs.moves.moves_from.Given as goal
+
+abbrev pub invariant-operators : goal.invariant-operators
+invariant-operators g l =
+    let v = g.S.Space.view l.space in
+    record {
+      way : IsWay l.back l.cost l.way;
+      found : MovesBelow v l.back l.cost l.state l.op l.moves.items;
+    }

@@ -1,0 +1,149 @@
+//! The moves from a state: the operators that lead on from it, found by the values of its variables.
+
+use symk_task::State;
+
+/// An operator that leads on: to which state, what is left of the cost there, and the first ring that has the state.
+#[derive(Drop)]
+pub(crate) struct Move {
+    pub(crate) op: u32,
+    pub(crate) state: State,
+    pub(crate) cost: u64,
+    pub(crate) ring: u64,
+}
+
+ghost use Rattle.std.specs.Prelude.{◌≡◌, ◌-◌, ◌<◌, ◌≤◌, ◌++◌, Some, IfOk, OnOk, option_to_list};
+ghost use Rattle.task_run.specs.Values.{Valued};
+ghost use Rattle.space_api.specs.View.{View, Valid};
+ghost use Rattle.cost_layers.specs.Layers.{Held, whole_at};
+ghost use Rattle.entry_turns.specs.Ways.{IsReached, IsWay, LandsIn};
+ghost use Rattle.entry_turns.specs.Moves.{FoundMove, AreMoves};
+
+use crate::states::{next_state, values_of};
+use crate::ways::{Way, first_ring, way_after, way_for};
+use cost_layers::Layers;
+use space_api::{Space, SpaceFault};
+use std::alloc::Global;
+use task_run::Closed;
+
+/// The state to which the operator leads. None where it doesn't lead into the layer.
+fn state_after<S: Space>(
+    alloc: Global,
+    space: &S,
+    state: &State,
+    values: &Closed,
+    op: u32,
+    within: S::Set,
+) -> Result<Option<State>, SpaceFault>
+    requires state { IsReached (S.view space.now) state.now }
+    requires valued { Valued (S.view space.now).task state.now values.now }
+    requires within { Valid (S.view space.now) within }
+    requires op { op < (S.view space.now).system.operators }
+    ensures { IfOk result (LandsIn (S.view space.now) state.now op within) }
+{
+    match next_state(alloc, space, op, state, values)? {
+        None => Ok(None),
+        Some(next) => {
+            if space.has(within, &next) {
+                Ok(Some(next))
+            } else {
+                Ok(None)
+            }
+        }
+    }
+}
+
+/// The move by this operator of cost `w`. None where it doesn't lead into the layer.
+fn move_into<S: Space>(
+    alloc: Global,
+    space: &S,
+    back: &Layers<S::Set>,
+    cost: u64,
+    state: &State,
+    values: &Closed,
+    op: u32,
+    w: u64,
+    within: S::Set,
+) -> Result<Option<Move>, SpaceFault>
+    requires back { Held (S.view space.now) back.now }
+    requires state { IsReached (S.view space.now) state.now }
+    requires valued { Valued (S.view space.now).task state.now values.now }
+    requires op { op < (S.view space.now).system.operators }
+    requires cost { w ≡ (S.view space.now).system.cost op }
+    requires fits { w ≤ cost }
+    requires within { whole_at back.now (cost - w) ≡ Some within }
+    ensures { IfOk result (FoundMove (S.view space.now) back.now cost state.now op) }
+{
+    match state_after(alloc, space, state, values, op, within)? {
+        None => Ok(None),
+        Some(next) => {
+            let ring = first_ring(space, back, cost - w, &next);
+            Ok(Some(Move {
+                op,
+                state: next,
+                cost: cost - w,
+                ring,
+            }))
+        }
+    }
+}
+
+/// The move by this operator. None where there is none.
+fn move_by<S: Space>(
+    alloc: Global,
+    space: &S,
+    back: &Layers<S::Set>,
+    cost: u64,
+    state: &State,
+    values: &Closed,
+    way: Way<S::Set>,
+    op: u32,
+) -> Result<Option<Move>, SpaceFault>
+    requires back { Held (S.view space.now) back.now }
+    requires state { IsReached (S.view space.now) state.now }
+    requires valued { Valued (S.view space.now).task state.now values.now }
+    requires op { op < (S.view space.now).system.operators }
+    requires cost { way.cost ≡ (S.view space.now).system.cost op }
+    requires way { IsWay back.now cost way }
+    ensures { IfOk result (FoundMove (S.view space.now) back.now cost state.now op) }
+{
+    match way.layer {
+        None => Ok(None),
+        Some(within) => move_into(
+            alloc, space, back, cost, state, values, op, way.cost, within,
+        ),
+    }
+}
+
+/// Puts the move last, if there is one.
+fn put_move(moves: &mut Vec<Move>, found: Option<Move>) -> Result<(), SpaceFault>
+    ensures { OnOk result (moves.new.items ≡ moves.old.items ++ option_to_list found) }
+{
+    if let Some(step) = found {
+        moves.push(step)?;
+    }
+    Ok(())
+}
+
+/// The moves from a state that operators reach, where so much of the cost is left. They stand in the order of the
+/// operators.
+pub(crate) fn moves_from<S: Space>(
+    alloc: Global,
+    space: &S,
+    back: &Layers<S::Set>,
+    cost: u64,
+    state: &State,
+) -> Result<Vec<Move>, SpaceFault>
+    requires back { Held (S.view space.now) back.now }
+    requires state { IsReached (S.view space.now) state.now }
+    ensures { IfOk result (λ moves. AreMoves (S.view space.now) back.now cost state.now moves.items) }
+{
+    let values = values_of(alloc, space, state)?;
+    let mut moves = Vec::new(alloc);
+    let mut way = way_for(back, cost, 0);
+    'operators: for op in 0..space.operators() {
+        way = way_after(back, cost, way, space.cost_of(op));
+        let found = move_by(alloc, space, back, cost, state, &values, way, op)?;
+        put_move(&mut moves, found)?;
+    }
+    Ok(moves)
+}

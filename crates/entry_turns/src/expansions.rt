@@ -2,7 +2,7 @@
 //!
 //! The suffixes of one cost come to few states, each of them often, and what leads on from a state hangs on what is
 //! left of the cost and on nothing else of the suffix. So the moves of a pair are kept at a place that the pair tells,
-//! in the stead of others.
+//! in the stead of those of another pair.
 
 use crate::moves::Move;
 use std::alloc::Global;
@@ -19,8 +19,8 @@ pub(crate) struct Expansion {
 /// How many places there are at first.
 const FEWEST: usize = 64;
 
-/// How many places there are at most: so many lists of moves take some megabytes, and a cost's plans rarely pass
-/// more pairs.
+/// How many places there are at most, so that what they have stays within tens of megabytes where a state has hundreds
+/// of values.
 const MOST: usize = 16_384;
 
 /// The moves of pairs of a cost and a state. There are no places until the first pair is kept; then they become twice

@@ -1,16 +1,19 @@
 -- What is remembered, place by place.
-use Rattle.std.proofs.Common.{◌≡◌, ℕ, ◌<◌, ◌⊎◌, inl, inr, List, length, get_or, Option, Some, refl, sym, ◌∙◌, ap, subst}
-use Rattle.std.specs.List.{Contains}
-use Rattle.std.proofs.lemmas.List.Elements.{All-set, All-contains, All-weaker, All-contains_itself}
+use Rattle.std.proofs.Common.{◌≡◌, ℕ, ◌<◌, ◌⊎◌, inl, inr, List, [], ◌∷◌, ◌++◌, length, get_or, Option, Some, None, refl, sym, ◌∙◌, ap, subst}
+use Rattle.std.specs.List.{All, Contains}
+use Rattle.std.proofs.lemmas.List.Elements.{All-set, All-contains, All-weaker, All-contains_itself, Contains-append_left, Contains-append_right, Contains-push}
 use Rattle.std.proofs.Math.ListN.{set}
 use Rattle.task_system.specs.System.{State}
 use Rattle.space_api.specs.View.{View}
 use Rattle.cost_layers.specs.declared.layers.Layers.{Layers}
 use Rattle.entry_turns.specs.Moves.{AreMoves}
-use Rattle.entry_turns.specs.Expansions.{Remembers, IsEmpty, Forgets, RemembersToo, AreRight}
+use Rattle.entry_turns.specs.Expansions.{Remembers, IsEmpty, Forgets, RemembersToo, RemembersFrom, IsAmong, AreRight}
 use Rattle.entry_turns.specs.declared.moves.Move.{Move}
 use Rattle.entry_turns.specs.declared.expansions.Expansion.{Expansion}
 use Rattle.entry_turns.specs.declared.expansions.Expansions.{Expansions}
+
+none_some : {A : Type 0} (x : A) → Some x ≡ None → ⊥
+none_some x e = cc
 
 some_one : {A : Type 0} (x y : A) → Some x ≡ Some y → x ≡ y
 some_one x y e = cc
@@ -32,6 +35,40 @@ puts_place x os i e is cost s moves r =
       | inr same ↦ (let one : e ≡ r.0 = some_one e r.0 same in
           inr (ap (λ (q : Expansion). q.cost) one ∙ r.2, ap (λ (q : Expansion). q.state) one ∙ r.3, ap (λ (q : Expansion). q.moves.items) one ∙ r.4))
     ]
+
+-- expansions that are put back one by one, the last first: those so far, and those that are left
+pub record PutsBack (x z : Expansions) (places left : List (Option Expansion)) : Type 0 where
+  pub from : (cost : ℕ) (s : State) (moves : List Move) → Remembers z cost s moves → Remembers x cost s moves ⊎ IsAmong places cost s moves
+  pub within : (o : Option Expansion) → Contains left o → Contains places o
+
+pub back_first : (x : Expansions) (places : List (Option Expansion)) → PutsBack x x places places
+back_first x places = record { from = λ cost s moves r. inl r; within = λ o h. h }
+
+pub back_next : (x y z : Expansions) (places left left2 : List (Option Expansion)) (place : Option Expansion) → left ≡ left2 ++ place ∷ [] → PutsBack x y places left → RemembersFrom y z (place ∷ []) → PutsBack x z places left2
+back_next x y z places left left2 place is b put = record {
+  from = λ cost s moves r. elim (put cost s moves r) [
+    | inl old ↦ b.from cost s moves old
+    | inr one ↦ inr (one.0, b.within (Some one.0) (subst (λ (os : List (Option Expansion)). Contains os (Some one.0)) (sym is) (Contains-append_right left2 (place ∷ []) (Some one.0) one.1)), one.2, one.3, one.4)
+  ];
+  within = λ o h. b.within o (subst (λ (os : List (Option Expansion)). Contains os o) (sym is) (Contains-append_left left2 (place ∷ []) o h));
+}
+
+pub back_all : (x z : Expansions) (places left : List (Option Expansion)) → PutsBack x z places left → RemembersFrom x z places
+back_all x z places left b cost s moves r = b.from cost s moves r
+
+-- the one place has the expansion
+pub one_from : (x z : Expansions) (e : Expansion) (place : Option Expansion) → place ≡ Some e → RemembersToo x z e.cost e.state e.moves.items → RemembersFrom x z (place ∷ [])
+one_from x z e place is too cost s moves r = elim (too cost s moves r) [
+  | inl old ↦ inl old
+  | inr new ↦ inr (e, subst (λ (o : Option Expansion). Contains (o ∷ []) (Some e)) (sym is) (Contains-push [] (Some e)), new.0, new.1, new.2)
+]
+
+-- the places were empty, and what they had before was put back
+pub moved_from : (x y z : Expansions) (places : List (Option Expansion)) → places ≡ x.places.items → All (λ o. o ≡ None) y.places.items → RemembersFrom y z places → Forgets x z
+moved_from x y z places same empty from cost s moves r = elim (from cost s moves r) [
+  | inl old ↦ absurd (none_some old.0 (All-contains (λ o. o ≡ None) y.places.items (Some old.0) empty old.1))
+  | inr among ↦ (among.0, subst (λ (os : List (Option Expansion)). Contains os (Some among.0)) same among.1, among.2, among.3, among.4)
+]
 
 pub then_put : (x y z : Expansions) (cost : ℕ) (s : State) (moves : List Move) → Forgets x y → RemembersToo y z cost s moves → RemembersToo x z cost s moves
 then_put x y z cost s moves f too cost2 s2 moves2 r = elim (too cost2 s2 moves2 r) [ inl old ↦ inl (f cost2 s2 moves2 old) | inr new ↦ inr new ]

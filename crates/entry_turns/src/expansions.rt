@@ -2,10 +2,11 @@
 //!
 //! The suffixes of one cost come to few states, each of them often, and what leads on from a state hangs on what is
 //! left of the cost and on nothing else of the suffix. So the moves of a pair are kept at a place that the pair tells,
-//! in the stead of others.
+//! in the stead of those of another pair.
 
 use crate::moves::Move;
 use std::alloc::Global;
+use std::mem;
 use symk_task::State;
 
 /// The moves from a state where so much of the cost is left.
@@ -19,12 +20,12 @@ pub(crate) struct Expansion {
 /// How many places there are at first.
 const FEWEST: usize = 64;
 
-/// How many places there are at most: so many lists of moves take some megabytes, and a cost's plans rarely pass
-/// more pairs.
+/// How many places there are at most, so that what they have stays within tens of megabytes where a state has hundreds
+/// of values.
 const MOST: usize = 16_384;
 
 /// The moves of pairs of a cost and a state. There are no places until the first pair is kept; then they become twice
-/// as many, up to 16,384, each time that half as many pairs were kept, and what they had is found anew.
+/// as many, up to 16,384, each time that half as many pairs were kept.
 #[derive(Drop)]
 pub struct Expansions {
     pub(crate) places: Vec<Option<Expansion>>,
@@ -33,8 +34,8 @@ pub struct Expansions {
     alloc: Global,
 }
 
-ghost use Rattle.std.specs.Prelude.{◌≡◌, ◌<◌, IsTrue, IfOk, IfSome, None, All};
-ghost use Rattle.entry_turns.specs.Expansions.{IsEmpty, Remembers, Forgets, RemembersToo};
+ghost use Rattle.std.specs.Prelude.{◌≡◌, ◌<◌, ◌∷◌, [], IsTrue, IfOk, IfSome, None, All};
+ghost use Rattle.entry_turns.specs.Expansions.{IsEmpty, Remembers, Forgets, RemembersToo, RemembersFrom};
 
 use symk_task::Memory;
 
@@ -120,20 +121,6 @@ impl Expansions {
         }
     }
 
-    /// Makes more places, if half as many pairs were kept and there is memory for them.
-    fn make_places(&mut self)
-        ensures { Forgets self.old self.new }
-    {
-        let count = self.places.len();
-        if count >= MOST || self.kept < count / 2 {
-            return;
-        }
-        if let Ok(places) = empty_places(self.alloc, more_than(count)) {
-            self.places = places;
-            self.kept = 0;
-        }
-    }
-
     /// Keeps the moves at the pair's place, if there is one.
     fn put(&mut self, cost: u64, state: State, moves: Vec<Move>)
         ensures { RemembersToo self.old self.new cost state moves.items }
@@ -145,6 +132,40 @@ impl Expansions {
         let place = place_of(cost, &state, count);
         self.places[place] = Some(Expansion { cost, state, moves });
         self.kept = self.kept.saturating_add(1);
+    }
+
+    /// Keeps what these places had.
+    fn put_back(&mut self, places: Vec<Option<Expansion>>)
+        ensures { RemembersFrom self.old self.new places.items }
+    {
+        let mut left = places;
+        'places: while let Some(place) = left.pop() {
+            self.put_expansion(place);
+        }
+    }
+
+    /// Keeps the expansion at its pair's place, if there is one.
+    fn put_expansion(&mut self, place: Option<Expansion>)
+        ensures { RemembersFrom self.old self.new (place ∷ []) }
+    {
+        if let Some(Expansion { cost, state, moves }) = place {
+            self.put(cost, state, moves);
+        }
+    }
+
+    /// Makes more places, if half as many pairs were kept and there is memory for them.
+    fn make_places(&mut self)
+        ensures { Forgets self.old self.new }
+    {
+        let count = self.places.len();
+        if count >= MOST || self.kept < count / 2 {
+            return;
+        }
+        if let Ok(places) = empty_places(self.alloc, more_than(count)) {
+            let before = mem::replace(&mut self.places, places);
+            self.kept = 0;
+            self.put_back(before);
+        }
     }
 
     /// Keeps the moves of the pair. Without memory for them nothing more is kept.

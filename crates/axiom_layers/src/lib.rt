@@ -14,8 +14,6 @@ mod conditions;
 mod derived;
 mod facts;
 mod layer;
-#[cfg(test)]
-mod tests;
 
 pub use compiling::compile;
 pub use derived::Derived;

@@ -18,8 +18,6 @@ mod parts;
 mod quantify;
 mod recent;
 mod rename;
-#[cfg(test)]
-mod tests;
 mod waiting;
 
 pub use ops::{CACHE, Ops};

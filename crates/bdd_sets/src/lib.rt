@@ -7,8 +7,6 @@
 
 mod member;
 mod sets;
-#[cfg(test)]
-mod tests;
 mod values;
 
 pub use member::has;

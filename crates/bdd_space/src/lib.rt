@@ -25,7 +25,5 @@ mod queries;
 mod slots;
 mod space;
 mod symbolic;
-#[cfg(test)]
-mod tests;
 
 pub use symbolic::BddSpace;

@@ -12,8 +12,6 @@ mod marks;
 mod node;
 mod rebuild;
 mod table;
-#[cfg(test)]
-mod tests;
 
 pub use marks::mark;
 pub use node::Node;

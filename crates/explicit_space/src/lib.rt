@@ -17,8 +17,6 @@ mod fuse;
 mod members;
 mod states;
 mod steps;
-#[cfg(test)]
-mod tests;
 
 pub use explicit::ExplicitSpace;
 pub use fuse::FuseSpace;

@@ -22,7 +22,5 @@ mod members;
 mod relations;
 mod roots;
 mod single;
-#[cfg(test)]
-mod tests;
 
 pub use relations::OperatorRelations;

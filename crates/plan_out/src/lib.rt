@@ -22,8 +22,6 @@ mod rows;
 mod run;
 mod seen;
 mod steps;
-#[cfg(test)]
-mod tests;
 
 pub use blocks::{Blocks, ReadBlock};
 pub use check::{Checked, Why, check_list};

@@ -18,8 +18,6 @@ mod reading;
 mod rows;
 mod rules;
 mod state;
-#[cfg(test)]
-mod tests;
 mod variables;
 
 pub use fault::{ReadFault, Shape};

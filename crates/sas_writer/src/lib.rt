@@ -13,8 +13,6 @@ mod lines;
 mod operators;
 mod rules;
 mod sections;
-#[cfg(test)]
-mod tests;
 mod variables;
 
 ghost use Rattle.std.specs.Prelude.{◌≡◌, ℕ, ◌++◌, List, IfOk, OnOk};

@@ -15,8 +15,6 @@ mod joining;
 mod merging;
 mod places;
 mod size;
-#[cfg(test)]
-mod tests;
 mod widening;
 
 pub use merging::merge;

@@ -20,8 +20,6 @@ mod effects;
 mod images;
 mod moves;
 mod relations;
-#[cfg(test)]
-mod tests;
 mod touched;
 
 pub use building::relation;

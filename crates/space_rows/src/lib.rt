@@ -1,0 +1,10 @@
+//! Worked rows of both spaces: each call once, and refused calls.
+//!
+//! There is no call: tests stand apart from the crates of which they are, so that those are proved once. It
+//! stands on `explicit_space` and `bdd_space`; `space_agreement` compares the two.
+#![tactic(auto)]
+
+#[cfg(test)]
+mod explicit;
+#[cfg(test)]
+mod symbolic;

@@ -1,9 +1,11 @@
 //! Worked rows of both spaces: each call once, and refused calls.
 //!
 //! There is no call: tests stand apart from the crates of which they are, so that those are proved once. It
-//! stands on `explicit_space` and `bdd_space`; `space_agreement` compares the two.
+//! stands on `explicit_space`, `bdd_space` and `small_tasks`; `space_agreement` compares the two spaces.
 #![tactic(auto)]
 
+#[cfg(test)]
+mod calls;
 #[cfg(test)]
 mod explicit;
 #[cfg(test)]

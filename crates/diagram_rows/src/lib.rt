@@ -1,13 +1,16 @@
-//! Worked rows of decision diagrams: the unique table, the operations, sets of states, and axioms as sets.
+//! Worked rows of decision diagrams: the unique table, the operations, the order of variables, sets of states,
+//! and axioms as sets.
 //!
 //! There is no call: tests stand apart from the crates of which they are, so that those are proved once. It
-//! stands on `bdd_table`, `bdd_ops`, `bdd_sets` and `axiom_layers`.
+//! stands on `bdd_table`, `bdd_ops`, `var_order`, `bdd_sets` and `axiom_layers`.
 #![tactic(auto)]
 
 #[cfg(test)]
 mod axioms;
 #[cfg(test)]
 mod operations;
+#[cfg(test)]
+mod order;
 #[cfg(test)]
 mod sets;
 #[cfg(test)]

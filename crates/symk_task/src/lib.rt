@@ -23,5 +23,3 @@ pub use modes::same;
 pub use parts::{Effect, Fact, Mode, Operator, Rule, TaskParts, Variable};
 pub use task::Task;
 
-#[cfg(test)]
-mod tests;

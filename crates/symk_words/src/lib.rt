@@ -325,5 +325,3 @@ pub fn lawful_words()
     ensures refute { (prog F C : Text) → Plain F → Plain C → texts_asked (refute_words prog F C) ≡ Some (refute F C) }
 {}
 
-#[cfg(test)]
-mod tests;

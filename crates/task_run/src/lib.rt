@@ -15,8 +15,6 @@ mod rule_status;
 mod rules;
 mod run;
 mod steps;
-#[cfg(test)]
-mod tests;
 mod values;
 mod verdict;
 mod work;

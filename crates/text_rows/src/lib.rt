@@ -1,12 +1,14 @@
-//! Worked rows of texts: task files read and written, blocks of plans, and lists checked.
+//! Worked rows of words and texts: task files read and written, blocks of plans, and lists checked.
 //!
 //! There is no call: tests stand apart from the crates of which they are, so that those are proved once. It
-//! stands on `sas_reader`, `sas_writer` and `plan_out`.
+//! stands on `symk_words`, `sas_reader`, `sas_writer` and `plan_out`.
 #![tactic(auto)]
 
 #[cfg(test)]
 mod lists;
 #[cfg(test)]
 mod reading;
+#[cfg(test)]
+mod words;
 #[cfg(test)]
 mod writing;

@@ -9,8 +9,6 @@
 mod block;
 mod order;
 mod ranks;
-#[cfg(test)]
-mod tests;
 
 pub use block::Block;
 pub use order::Order;

@@ -1,6 +1,10 @@
-use crate::*;
+//! Worked rows of tasks.
+
 use std::alloc::Global;
 use std::test::Fail;
+use symk_task::{
+    List, Memory, Mode, Name, Operator, Plan, State, Task, TaskParts, Variable, same, width,
+};
 
 #[test]
 fn copies_are_equal(rt: HostRuntime) -> Result<(), Fail> {

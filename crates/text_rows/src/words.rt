@@ -1,6 +1,7 @@
-// Words that are taken and words that are not.
-use crate::{Asked, WordsFault, read_words};
+//! Worked rows of words: those that are taken, and those that are not.
+
 use std::alloc::{AllocError, Global};
+use symk_words::{Asked, WordsFault, read_words};
 
 // The program's name and the words of a line, cut at each space.
 fn words(alloc: Global, line: &str) -> Result<Vec<String>, AllocError> {

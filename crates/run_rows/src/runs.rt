@@ -3,13 +3,13 @@
 ghost use Rattle.std.specs.Prelude.{◌<◌, length};
 ghost use Rattle.symk_task.specs.Variables.{IsState};
 
-use crate::{Verdict, applies, closed, goal_holds, run_plan, step, successor};
 use std::alloc::Global;
 use std::process::Abort;
 use std::test::Fail;
 use symk_task::{
     Effect, Fact, List, Memory, Name, Operator, Plan, Rule, State, Task, TaskParts, Variable,
 };
+use task_run::{Verdict, applies, closed, goal_holds, run_plan, step, successor};
 
 fn name(alloc: Global) -> Name {
     Name::of(Vec::new(alloc))

@@ -1,11 +1,13 @@
+//! Worked rows of orders of variables.
+
 ghost use Rattle.std.specs.Prelude.{◌≡◌, IfSome};
 ghost use Rattle.var_order.specs.Layout.{width_of};
 
-use crate::*;
 use std::alloc::Global;
 use std::process::Abort;
 use std::test::Fail;
 use symk_task::{List, Memory, Name, State, Task, TaskParts, Variable};
+use var_order::Order;
 
 /// A variable of so many values, a derived one where there is a layer.
 fn variable(alloc: Global, layer: Option<u32>, count: usize) -> Result<Variable, Memory> {

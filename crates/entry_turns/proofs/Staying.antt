@@ -72,12 +72,15 @@ module _ {Set : Type 0} (v w : View Set) (l : Layers Set) (h : Held v l) (f : (a
   }
 
   pub right_same : w.system ≡ v.system → (x : Expansions) → AreRight v l x → AreRight w l x
-  right_same sys x right c s moves r =
-      let all = right c s moves r in
+  right_same sys x right c s moves ends r =
+      let now = right c s moves ends r in
       record {
-        rising = all.rising;
-        each = All-weaker (IsMove v l c s) (IsMove w l c s) (move_same sys c s) moves all.each;
-        others = λ op lt missing. not_same sys c s op (all.others op (subst (λ (y : System). op < y.operators) sys lt) missing);
+        all = record {
+          rising = now.all.rising;
+          each = All-weaker (IsMove v l c s) (IsMove w l c s) (move_same sys c s) moves now.all.each;
+          others = λ op lt missing. not_same sys c s op (now.all.others op (subst (λ (y : System). op < y.operators) sys lt) missing);
+        };
+        end = rw sys now.end;
       }
 
 pub sides_same : {Set : Type 0} (y : System) (v w : View Set) (front back : Layers Set) (f b : ℕ) → member_in w front ≡ member_in v front → member_in w back ≡ member_in v back

@@ -1,5 +1,5 @@
 -- What leads on from a state, where so much of the cost is left.
-use Rattle.std.specs.Prelude.{◌≡◌, ℕ, ◌-◌, ◌^◌, ◌<◌, ◌≤◌, List, map, Option, Some, None}
+use Rattle.std.specs.Prelude.{◌≡◌, ℕ, ◌-◌, ◌^◌, ◌<◌, ◌≤◌, ◌↔◌, IsTrue, Bool, List, map, Option, Some, None}
 use Rattle.std.specs.List.{All, Contains}
 use Rattle.std.specs.List.Sorted.{IsStrictlyIncreasing}
 use Rattle.task_system.specs.System.{State, Leads}
@@ -37,3 +37,12 @@ pub record AreMoves {Set : Type 0} (v : View Set) (back : Layers Set) (cost : �
   pub rising : IsStrictlyIncreasing (ops_of moves)
   pub each : All (IsMove v back cost s) moves
   pub others : (op : ℕ) → op < v.system.operators → ¬ Contains (ops_of moves) op → LeadsNotOn v back cost s op
+
+-- nothing is left to place, and the state is a goal
+abbrev pub IsEnd : {Set : Type 0} → View Set → ℕ → State → Type 0
+IsEnd v cost s = (cost ≡ 0) × IsTrue (v.system.goal s)
+
+-- all that follows of the pair: its moves, and whether a plan ends there
+pub record AreSuccessors {Set : Type 0} (v : View Set) (back : Layers Set) (cost : ℕ) (s : State) (moves : List Move) (ends : Bool) : Type 0 where
+  pub all : AreMoves v back cost s moves
+  pub end : IsTrue ends ↔ IsEnd v cost s

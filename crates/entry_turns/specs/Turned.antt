@@ -1,5 +1,5 @@
 -- What a turn does to the queue.
-use Rattle.std.specs.Prelude.{◌≡◌, ℕ, ◌<◌, ◌^◌, IsTrue, Bool, true, false, List, [], ◌∷◌, ◌++◌, Option, Some, None}
+use Rattle.std.specs.Prelude.{◌≡◌, ℕ, ◌<◌, ◌^◌, Bool, true, false, List, [], ◌∷◌, ◌++◌, Option, Some, None}
 use Rattle.std.specs.List.{AllByRecursion}
 use Rattle.task_system.specs.System.{State, System, Runs}
 use Rattle.space_api.specs.View.{View, Has}
@@ -8,6 +8,7 @@ use Rattle.cost_layers.specs.declared.layers.Layers.{Layers}
 use Rattle.entry_laws.specs.Entries.{Plain, Goes, Gives, Stands}
 use Rattle.entry_turns.specs.Entries.{plain, plains, operators_in, EntryOk, HasSet, AreDistinct, Makes, member_in, RightSides, Ready}
 use Rattle.entry_turns.specs.Ways.{IsFirst}
+use Rattle.entry_turns.specs.Moves.{IsEnd}
 use Rattle.entry_turns.specs.declared.entries.Prefix.{Prefix}
 use Rattle.entry_turns.specs.declared.entries.Suffix.{Suffix}
 use Rattle.entry_turns.specs.declared.entries.Entry.{Entry}
@@ -16,7 +17,7 @@ use Rattle.entry_turns.specs.declared.entries.Entry.TheVariants.{Before, After}
 -- nothing is left to place, and the state is a goal
 abbrev pub IsDone : {Set : Type 0} → View Set → Entry Set → Type 0
 IsDone v (Before e) = ⊥
-IsDone v (After e) = (e.cost ≡ 0) × IsTrue (v.system.goal e.state)
+IsDone v (After e) = IsEnd v e.cost e.state
 
 -- nothing is left before the prefix, and it may begin in the initial state
 abbrev pub Starts : {Set : Type 0} → View Set → Prefix Set → Type 0

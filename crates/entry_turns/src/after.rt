@@ -11,7 +11,7 @@ ghost use Rattle.entry_turns.specs.Grown.{GrownBy, PutsBy, MakesOn, AddsChild, G
 use crate::children::Children;
 use crate::entries::{Entry, Suffix, append};
 use crate::expansions::Expansions;
-use crate::moves::{Move, moves_from};
+use crate::moves::{Move, successors_of};
 use cost_layers::Layers;
 use space_api::{Space, SpaceFault};
 use std::alloc::Global;
@@ -94,7 +94,7 @@ fn add_all<S: Space>(
     Ok(())
 }
 
-/// Finds the moves, adds the children by them, and keeps the moves. After a refusal the children so far are there.
+/// Finds what follows, adds the children by the moves, and keeps it. After a refusal the children so far are there.
 fn find_after<S: Space>(
     alloc: Global,
     space: &S,
@@ -115,9 +115,9 @@ fn find_after<S: Space>(
     ensures ok { OnOk result (Gathers (S.view space.now) (S.view space.now) front.now back.now
         (Entry.After suffix.now) children.new.level.items children.new.falling.items) }
 {
-    let moves = moves_from(alloc, space, back, suffix.cost, &suffix.state)?;
-    add_all(alloc, space, front, back, suffix, &moves, children)?;
-    memo.keep(suffix.cost, &suffix.state, moves);
+    let all = successors_of(alloc, space, back, suffix.cost, &suffix.state)?;
+    add_all(alloc, space, front, back, suffix, &all.moves, children)?;
+    memo.keep(suffix.cost, &suffix.state, all);
     Ok(())
 }
 

@@ -1,20 +1,21 @@
-//! The moves of the pairs of a cost and a state that were expanded last.
+//! The moves of the pairs of a cost and a state that were expanded last, and whether a plan ends there.
 //!
 //! The suffixes of one cost come to few states, each of them often, and what leads on from a state hangs on what is
 //! left of the cost and on nothing else of the suffix. So the moves of a pair are kept at a place that the pair tells,
 //! in the stead of those of another pair.
 
-use crate::moves::Move;
+use crate::moves::{Move, Successors};
 use std::alloc::Global;
 use std::mem;
 use symk_task::State;
 
-/// The moves from a state where so much of the cost is left.
+/// The moves from a state where so much of the cost is left, and whether a plan ends there.
 #[derive(Drop)]
 pub(crate) struct Expansion {
     pub(crate) cost: u64,
     pub(crate) state: State,
     pub(crate) moves: Vec<Move>,
+    pub(crate) ends: bool,
 }
 
 /// How many places there are at first.
@@ -34,8 +35,9 @@ pub struct Expansions {
     alloc: Global,
 }
 
-ghost use Rattle.std.specs.Prelude.{◌≡◌, ◌<◌, ◌∷◌, [], IsTrue, IfOk, IfSome, None, All};
+ghost use Rattle.std.specs.Prelude.{◌≡◌, ◌<◌, ◌∷◌, [], IsTrue, Bool, List, IfOk, IfSome, None, All};
 ghost use Rattle.entry_turns.specs.Expansions.{IsEmpty, Remembers, Forgets, RemembersToo, RemembersFrom};
+ghost use Rattle.entry_turns.specs.declared.moves.Move.{Move};
 
 use symk_task::Memory;
 
@@ -101,9 +103,9 @@ impl Expansions {
         *self = Expansions::new(self.alloc);
     }
 
-    /// The moves of the pair, if they are kept.
-    pub(crate) fn moves_of(&self, cost: u64, state: &State) -> Option<&[Move]>
-        ensures { IfSome result (λ moves. Remembers self.now cost state.now moves.now) }
+    /// The expansion of the pair, if it is kept.
+    fn expansion_of(&self, cost: u64, state: &State) -> Option<&Expansion>
+        ensures { IfSome result (λ e. Remembers self.now cost state.now e.now.moves.items e.now.ends) }
     {
         let count = self.places.len();
         if count == 0 {
@@ -113,7 +115,7 @@ impl Expansions {
             None => None,
             Some(expansion) => {
                 if expansion.is_of(cost, state) {
-                    Some(expansion.moves.as_slice())
+                    Some(expansion)
                 } else {
                     None
                 }
@@ -121,16 +123,36 @@ impl Expansions {
         }
     }
 
-    /// Keeps the moves at the pair's place, if there is one.
-    fn put(&mut self, cost: u64, state: State, moves: Vec<Move>)
-        ensures { RemembersToo self.old self.new cost state moves.items }
+    /// The moves of the pair, if they are kept.
+    pub(crate) fn moves_of(&self, cost: u64, state: &State) -> Option<&[Move]>
+        ensures { IfSome result (λ moves. (ends : Bool) × Remembers self.now cost state.now moves.now ends) }
+    {
+        match self.expansion_of(cost, state) {
+            None => None,
+            Some(expansion) => Some(expansion.moves.as_slice()),
+        }
+    }
+
+    /// Whether a plan ends at the pair, if that is kept.
+    pub(crate) fn ends_of(&self, cost: u64, state: &State) -> Option<bool>
+        ensures { IfSome result (λ ends. (moves : List Move) × Remembers self.now cost state.now moves ends) }
+    {
+        match self.expansion_of(cost, state) {
+            None => None,
+            Some(expansion) => Some(expansion.ends),
+        }
+    }
+
+    /// Keeps the expansion at its pair's place, if there are places.
+    fn put(&mut self, expansion: Expansion)
+        ensures { RemembersToo self.old self.new expansion.cost expansion.state expansion.moves.items expansion.ends }
     {
         let count = self.places.len();
         if count == 0 {
             return;
         }
-        let place = place_of(cost, &state, count);
-        self.places[place] = Some(Expansion { cost, state, moves });
+        let place = place_of(expansion.cost, &expansion.state, count);
+        self.places[place] = Some(expansion);
         self.kept = self.kept.saturating_add(1);
     }
 
@@ -148,8 +170,8 @@ impl Expansions {
     fn put_expansion(&mut self, place: Option<Expansion>)
         ensures { RemembersFrom self.old self.new (place ∷ []) }
     {
-        if let Some(Expansion { cost, state, moves }) = place {
-            self.put(cost, state, moves);
+        if let Some(expansion) = place {
+            self.put(expansion);
         }
     }
 
@@ -168,13 +190,18 @@ impl Expansions {
         }
     }
 
-    /// Keeps the moves of the pair. Without memory for them nothing more is kept.
-    pub(crate) fn keep(&mut self, cost: u64, state: &State, moves: Vec<Move>)
-        ensures { RemembersToo self.old self.new cost state.now moves.items }
+    /// Keeps what follows of the pair. Without memory for it nothing more is kept.
+    pub(crate) fn keep(&mut self, cost: u64, state: &State, all: Successors)
+        ensures { RemembersToo self.old self.new cost state.now all.moves.items all.ends }
     {
         self.make_places();
         if let Ok(copied) = state.copy(self.alloc) {
-            self.put(cost, copied, moves);
+            self.put(Expansion {
+                cost,
+                state: copied,
+                moves: all.moves,
+                ends: all.ends,
+            });
         }
     }
 }

@@ -3,10 +3,10 @@
 //! `open_cut` gives the first entry of a cut, and `walk` takes entries from the queue, last in first out, until one
 //! is a plan. A prefix grows backwards out of a set, then a suffix forwards from one state. The suffix keeps that
 //! state's values and no set: its operators are tried on the values, and a layer is asked whether it has the state to
-//! which one leads. What leads on from a state is remembered for the suffixes that come to it later (`Expansions`).
-//! Every operator that leads on into a right layer makes a child, so no entry is a dead end; a child of less cost or a
-//! lower ring is taken first, so a plan comes within two turns more than it has operators. Want of memory leaves what
-//! the queue owes, and no set is lost.
+//! which one leads. What leads on from a state, and whether a plan ends there, is remembered for the suffixes that
+//! come to it later (`Expansions`). Every operator that leads on into a right layer makes a child, so no entry is a
+//! dead end; a child of less cost or a lower ring is taken first, so a plan comes within two turns more than it has
+//! operators. Want of memory leaves what the queue owes, and no set is lost.
 //!
 //! It stands on the layers of `cost_layers` and the laws of `entry_laws`.
 #![tactic(auto)]

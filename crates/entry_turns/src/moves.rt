@@ -1,4 +1,5 @@
-//! The moves from a state: the operators that lead on from it, found by the values of its variables.
+//! The moves from a state: the operators that lead on from it, found by the values of its variables, which tell as well
+//! whether a plan ends there.
 
 use symk_task::State;
 
@@ -11,14 +12,21 @@ pub(crate) struct Move {
     pub(crate) ring: u64,
 }
 
-ghost use Rattle.std.specs.Prelude.{◌≡◌, ◌-◌, ◌<◌, ◌≤◌, ◌++◌, Some, IfOk, OnOk, option_to_list};
+/// All that follows of a state where so much of the cost is left: the moves, and whether a plan ends there.
+#[derive(Drop)]
+pub(crate) struct Successors {
+    pub(crate) moves: Vec<Move>,
+    pub(crate) ends: bool,
+}
+
+ghost use Rattle.std.specs.Prelude.{◌≡◌, ◌-◌, ◌<◌, ◌≤◌, ◌↔◌, ◌++◌, Some, IsTrue, IfOk, OnOk, option_to_list};
 ghost use Rattle.task_run.specs.Values.{Valued};
 ghost use Rattle.space_api.specs.View.{View, Valid};
 ghost use Rattle.cost_layers.specs.Layers.{Held, whole_at};
 ghost use Rattle.entry_turns.specs.Ways.{IsReached, IsWay, LandsIn};
-ghost use Rattle.entry_turns.specs.Moves.{FoundMove, AreMoves};
+ghost use Rattle.entry_turns.specs.Moves.{FoundMove, AreMoves, IsEnd, AreSuccessors};
 
-use crate::states::{next_state, values_of};
+use crate::states::{is_goal, next_state, values_of};
 use crate::ways::{Way, first_ring, way_after, way_for};
 use cost_layers::Layers;
 use space_api::{Space, SpaceFault};
@@ -124,26 +132,53 @@ fn put_move(moves: &mut Vec<Move>, found: Option<Move>) -> Result<(), SpaceFault
     Ok(())
 }
 
-/// The moves from a state that operators reach, where so much of the cost is left. They stand in the order of the
-/// operators.
-pub(crate) fn moves_from<S: Space>(
+/// The moves from a state that operators reach, all of whose values are known, where so much of the cost is left. They
+/// stand in the order of the operators.
+fn moves_from<S: Space>(
     alloc: Global,
     space: &S,
     back: &Layers<S::Set>,
     cost: u64,
     state: &State,
+    values: &Closed,
 ) -> Result<Vec<Move>, SpaceFault>
     requires back { Held (S.view space.now) back.now }
     requires state { IsReached (S.view space.now) state.now }
+    requires valued { Valued (S.view space.now).task state.now values.now }
     ensures { IfOk result (λ moves. AreMoves (S.view space.now) back.now cost state.now moves.items) }
 {
-    let values = values_of(alloc, space, state)?;
     let mut moves = Vec::new(alloc);
     let mut way = way_for(back, cost, 0);
     'operators: for op in 0..space.operators() {
         way = way_after(back, cost, way, space.cost_of(op));
-        let found = move_by(alloc, space, back, cost, state, &values, way, op)?;
+        let found = move_by(alloc, space, back, cost, state, values, way, op)?;
         put_move(&mut moves, found)?;
     }
     Ok(moves)
+}
+
+/// Nothing is left to place, and the state is a goal.
+fn is_end<S: Space>(space: &S, cost: u64, state: &State, values: &Closed) -> bool
+    requires { Valued (S.view space.now).task state.now values.now }
+    ensures { IsTrue result ↔ IsEnd (S.view space.now) cost state.now }
+{
+    cost == 0 && is_goal(space, state, values)
+}
+
+/// All that follows of a state that operators reach, where so much of the cost is left.
+pub(crate) fn successors_of<S: Space>(
+    alloc: Global,
+    space: &S,
+    back: &Layers<S::Set>,
+    cost: u64,
+    state: &State,
+) -> Result<Successors, SpaceFault>
+    requires back { Held (S.view space.now) back.now }
+    requires state { IsReached (S.view space.now) state.now }
+    ensures { IfOk result (λ all. AreSuccessors (S.view space.now) back.now cost state.now all.moves.items all.ends) }
+{
+    let values = values_of(alloc, space, state)?;
+    let moves = moves_from(alloc, space, back, cost, state, &values)?;
+    let ends = is_end(space, cost, state, &values);
+    Ok(Successors { moves, ends })
 }

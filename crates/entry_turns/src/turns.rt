@@ -17,7 +17,7 @@ ghost use Rattle.space_api.specs.Frames.{Stays};
 ghost use Rattle.space_api.specs.Owned.{Trades};
 ghost use Rattle.cost_layers.specs.Layers.{Held};
 ghost use Rattle.entry_turns.specs.Entries.{EntryOk, Makes, SetIn, AreDistinct};
-ghost use Rattle.entry_turns.specs.Expansions.{AreRight};
+ghost use Rattle.entry_turns.specs.Expansions.{AreRight, TellEnds};
 ghost use Rattle.entry_turns.specs.Grown.{Expands};
 ghost use Rattle.entry_turns.specs.Turned.{IsDone, Starts, Begun, BeginsToo, begun_entries, Follows, IsQueue, Turns, Replaces};
 
@@ -30,26 +30,43 @@ use cost_layers::Layers;
 use space_api::{Space, SpaceFault};
 use std::alloc::{AllocError, Global};
 
-/// Nothing is left to place, and the state is a goal.
-fn ends<S: Space>(alloc: Global, space: &S, suffix: &Suffix) -> Result<bool, SpaceFault>
-    requires { EntryOk (S.view space.now) (Entry.After suffix.now) }
+/// Nothing is left to place, and the state is a goal: as is remembered, or by the state's values.
+fn ends<S: Space>(
+    alloc: Global,
+    space: &S,
+    suffix: &Suffix,
+    memo: &Expansions,
+) -> Result<bool, SpaceFault>
+    requires entry { EntryOk (S.view space.now) (Entry.After suffix.now) }
+    requires memo { TellEnds (S.view space.now) memo.now }
     ensures { IfOk result (λ b. IsTrue b ↔ IsDone (S.view space.now) (Entry.After suffix.now)) }
 {
     if suffix.cost != 0 {
         return Ok(false);
     }
-    let values = values_of(alloc, space, &suffix.state)?;
-    Ok(is_goal(space, &suffix.state, &values))
+    match memo.ends_of(suffix.cost, &suffix.state) {
+        Some(ends) => Ok(ends),
+        None => {
+            let values = values_of(alloc, space, &suffix.state)?;
+            Ok(is_goal(space, &suffix.state, &values))
+        }
+    }
 }
 
 /// Whether the operators of the entry are a plan.
-fn is_done<S: Space>(alloc: Global, space: &S, entry: &Entry<S::Set>) -> Result<bool, SpaceFault>
-    requires { EntryOk (S.view space.now) entry.now }
+fn is_done<S: Space>(
+    alloc: Global,
+    space: &S,
+    entry: &Entry<S::Set>,
+    memo: &Expansions,
+) -> Result<bool, SpaceFault>
+    requires entry { EntryOk (S.view space.now) entry.now }
+    requires memo { TellEnds (S.view space.now) memo.now }
     ensures { IfOk result (λ b. IsTrue b ↔ IsDone (S.view space.now) entry.now) }
 {
     match entry {
         Entry::Before(_) => Ok(false),
-        Entry::After(suffix) => ends(alloc, space, suffix),
+        Entry::After(suffix) => ends(alloc, space, suffix, memo),
     }
 }
 
@@ -151,7 +168,7 @@ fn follow<S: Space>(
         entry.now next.entries.items next.done) }
     ensures err { OnErr result (Stays (S.view space.old) (S.view space.new)) }
 {
-    let done = is_done(alloc, space, entry)?;
+    let done = is_done(alloc, space, entry, memo)?;
     let begun = begin_if_whole(alloc, space, back, entry)?;
     let made = expand(alloc, space, front, back, entry, memo)?;
     let entries = with_begun(space, made, begun)?;

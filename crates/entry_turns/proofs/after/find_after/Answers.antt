@@ -3,4 +3,4 @@ use Rattle.entry_turns.proofs.after.find_after.Goals as goal
 
 pub returns-clause-memo : goal.returns-clause-memo
 returns-clause-memo g c =
-    right_too (g.S.Space.view c.args.space.now) c.args.back.now c.args.memo.now c.keep.new.self c.args.suffix.now.cost c.args.suffix.now.state c.in_ok-moves.moves.items c.requires.memo c.in_ok-moves.ensures c.keep.ensures
+    right_too (g.S.Space.view c.args.space.now) c.args.back.now c.args.memo.now c.keep.new.self c.args.suffix.now.cost c.args.suffix.now.state c.in_ok-all.all.moves.items c.in_ok-all.all.ends c.requires.memo c.in_ok-all.ensures c.keep.ensures

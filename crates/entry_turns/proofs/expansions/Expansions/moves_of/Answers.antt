@@ -1,8 +1,4 @@
-use Rattle.std.proofs.Common.{arith, sym}
-use Rattle.entry_turns.proofs.Remembering.{place_has}
 use Rattle.entry_turns.proofs.expansions.Expansions.moves_of.Goals as goal
 
-pub returns-then-is_of : goal.returns-then-is_of
-returns-then-is_of c =
-    let is = c.is_of.ensures c.if-is_of.true in
-    (c.in-Some.expansion, place_has c.args.self.now.places.items c.place_of.result c.index.result.now c.in-Some.expansion (omega (arith, c.place_of.ensures, c.len-count.ensures)) c.index.ensures c.in-Some.is, is.0, is.1, sym c.as_slice.ensures.value)
+pub returns-in-Some : goal.returns-in-Some
+returns-in-Some c = (c.in-Some.expansion.now.ends, rw c.as_slice.ensures.value c.in-Some.ensures)

@@ -22,4 +22,3 @@ pub use list::{List, Memory, Name, Plan, State};
 pub use modes::same;
 pub use parts::{Effect, Fact, Mode, Operator, Rule, TaskParts, Variable};
 pub use task::Task;
-

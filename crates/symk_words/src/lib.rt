@@ -324,4 +324,3 @@ pub fn lawful_words()
     ensures prove { (prog F : Text) → Plain F → texts_asked (prove_words prog F) ≡ Some (prove F) }
     ensures refute { (prog F C : Text) → Plain F → Plain C → texts_asked (refute_words prog F C) ≡ Some (refute F C) }
 {}
-

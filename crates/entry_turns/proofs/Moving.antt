@@ -6,7 +6,7 @@ use Rattle.std.specs.Option.{option_to_list}
 use Rattle.std.proofs.lemmas.List.{append-nil, map-append, length-map, get_or-map}
 use Rattle.std.proofs.lemmas.List.Elements.{All-push, All-weaker, All-map, Contains-append_left, Contains-push}
 use Rattle.task_system.specs.System.{State, Leads}
-use Rattle.space_api.specs.View.{View, Has}
+use Rattle.space_api.specs.View.{View}
 use Rattle.cost_layers.specs.Layers.{whole_at}
 use Rattle.cost_layers.specs.declared.layers.Layers.{Layers}
 use Rattle.entry_laws.specs.Growing.{MissesNone}
@@ -34,12 +34,6 @@ module _ {Set : Type 0} (v : View Set) (back : Layers Set) (cost : ℕ) (s : Sta
   no_layer none a t le at lead has = none_some a (sym (subst (λ (n : ℕ). whole_at back (cost - n) ≡ None) is (none (omega (arith, is, le)))) ∙ at)
 
   module _ (within : Set) (at : whole_at back (cost - x) ≡ Some within) where
-    -- it leads elsewhere
-    pub no_landing : LandsIn v s op within None → LeadsNotOn v back cost s op
-    no_landing none a t le here lead has =
-        let same : a ≡ within = some_one a within (sym here ∙ subst (λ (n : ℕ). whole_at back (cost - n) ≡ Some within) is at) in
-        none t lead (subst (λ (z : Set). Has v z t) same has)
-
     pub landing : (t : State) (ring : ℕ) (m : Move) → op < v.system.operators → x ≤ cost → LandsIn v s op within (Some t) → IsFirst v back (cost - x) t ring → ring < 2 ^ 64 → m.op ≡ op → m.state ≡ t → m.cost ≡ cost - x → m.ring ≡ ring → IsMove v back cost s m
     landing t ring m number le lands first small op_is state_is cost_is ring_is = record {
       number = subst (λ (k : ℕ). k < v.system.operators) (sym op_is) number;

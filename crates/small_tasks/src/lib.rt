@@ -1,13 +1,19 @@
 //! Small tasks, for tests.
 //!
-//! Each call makes the task that its definition in `specs/Tasks.antt` states, and it fits. The files of the same
-//! names under `examples/` state the same tasks. It stands on `symk_task`.
+//! Each call of `tasks.rt` makes the task that its definition in `specs/Tasks.antt` states, and it fits. The files of
+//! the same names under `examples/` state the same tasks. All else that a test wants it states as a `Draft`, of which
+//! `specs/Drafts.antt` says the task. It stands on `symk_task`.
 #![tactic(auto)]
 
+mod drafts;
 mod parts;
 mod stating;
 mod tasks;
 
+pub use drafts::{
+    Draft, EffectDraft, OperatorDraft, RuleDraft, VariableDraft, drafted, drafted_parts, stated,
+};
+pub use parts::{fact, name, none, one, two};
 pub use tasks::{
     axioms, conditional_effects, goal_at_start, later_effect_reaches, later_effect_undoes,
     near_and_far, no_operator, no_plan, one_switch, past_64_bits, same_name_twice, switch_and_back,

@@ -3,181 +3,92 @@
 ghost use Rattle.std.specs.Prelude.{◌<◌, length};
 ghost use Rattle.symk_task.specs.Variables.{IsState};
 
+use small_tasks::{
+    Draft, EffectDraft, OperatorDraft, RuleDraft, VariableDraft, conditional_effects, drafted,
+    later_effect_reaches, later_effect_undoes, one_switch,
+};
 use std::alloc::Global;
 use std::process::Abort;
 use std::test::Fail;
-use symk_task::{
-    Effect, Fact, List, Memory, Name, Operator, Plan, Rule, State, Task, TaskParts, Variable,
-};
+use symk_task::{Plan, State, Task};
 use task_run::{Verdict, applies, closed, goal_holds, run_plan, step, successor};
 
-fn name(alloc: Global) -> Name {
-    Name::of(Vec::new(alloc))
-}
+/// The operator that changes the first variable from its first value to its second.
+const ON: OperatorDraft = OperatorDraft {
+    name: b"",
+    effects: &[EffectDraft {
+        conds: &[],
+        var: 0,
+        pre: Some(0),
+        post: 1,
+    }],
+    cost: 1,
+};
 
-fn facts(alloc: Global, rows: &[(u32, u32)]) -> Result<List<Fact>, Memory> {
-    let mut facts = Vec::new(alloc);
-    for row in rows {
-        facts.push(Fact {
-            var: row.0,
-            val: row.1,
-        })?;
-    }
-    Ok(List::of(facts))
-}
+/// A base variable with two values.
+const BASE: VariableDraft = VariableDraft {
+    layer: None,
+    values: 2,
+};
 
-/// Variables with two values.
-fn variables(alloc: Global, layers: &[Option<u32>]) -> Result<List<Variable>, Memory> {
-    let mut variables = Vec::new(alloc);
-    for layer in layers {
-        let mut values = List::of(Vec::new(alloc));
-        values.push(name(alloc))?;
-        values.push(name(alloc))?;
-        variables.push(Variable {
-            name: name(alloc),
-            layer: *layer,
-            values,
-        })?;
-    }
-    Ok(List::of(variables))
-}
+/// A derived variable of the first layer.
+const DERIVED: VariableDraft = VariableDraft {
+    layer: Some(0),
+    values: 2,
+};
 
-/// Effects by their conditions, variable, value before, and value after.
-type EffectRow<'a> = (&'a [(u32, u32)], u32, Option<u32>, u32);
-
-fn effects(alloc: Global, rows: &[EffectRow]) -> Result<List<Effect>, Memory> {
-    let mut effects = Vec::new(alloc);
-    for row in rows {
-        let conds = facts(alloc, row.0)?;
-        effects.push(Effect {
-            conds,
-            var: row.1,
-            pre: row.2,
-            post: row.3,
-        })?;
-    }
-    Ok(List::of(effects))
-}
-
-/// One operator of cost 1 without prevail facts.
-fn operators(alloc: Global, rows: &[EffectRow]) -> Result<List<Operator>, Memory> {
-    let mut operators = List::of(Vec::new(alloc));
-    let effects = effects(alloc, rows)?;
-    operators.push(Operator {
-        name: name(alloc),
-        prevail: List::of(Vec::new(alloc)),
-        effects,
-        cost: 1,
-    })?;
-    Ok(operators)
-}
-
-/// Rules by their conditions, variable and new value.
-type RuleRow<'a> = (&'a [(u32, u32)], u32, u32);
-
-fn rules(alloc: Global, rows: &[RuleRow]) -> Result<List<Rule>, Memory> {
-    let mut rules = Vec::new(alloc);
-    for row in rows {
-        let conds = facts(alloc, row.0)?;
-        rules.push(Rule {
-            conds,
-            var: row.1,
-            new: row.2,
-        })?;
-    }
-    Ok(List::of(rules))
-}
-
-/// What a task states: metric 0, and one operator.
-struct Rows<'a> {
-    layers: &'a [Option<u32>],
-    initial: &'a [u32],
-    goal: &'a [(u32, u32)],
-    effects: &'a [EffectRow<'a>],
-    rules: &'a [RuleRow<'a>],
-}
-
-fn parts(alloc: Global, rows: &Rows) -> Result<TaskParts, Memory> {
-    let mut parts = TaskParts {
-        metric: 0,
-        variables: List::of(Vec::new(alloc)),
-        mutexes: List::of(Vec::new(alloc)),
-        initial: List::of(Vec::new(alloc)),
-        goal: List::of(Vec::new(alloc)),
-        operators: List::of(Vec::new(alloc)),
-        rules: List::of(Vec::new(alloc)),
-    };
-    parts.variables = variables(alloc, rows.layers)?;
-    parts.initial = List::of(Vec::from_slice(alloc, rows.initial)?);
-    parts.goal = facts(alloc, rows.goal)?;
-    parts.operators = operators(alloc, rows.effects)?;
-    parts.rules = rules(alloc, rows.rules)?;
-    Ok(parts)
-}
-
-fn task(rt: &impl Abort, alloc: Global, rows: &Rows) -> Result<Task, Memory> {
-    let parts = parts(alloc, rows)?;
-    assert!(rt; parts.fits());
-    Ok(Task::of(parts))
-}
-
-/// One base variable; the operator switches it on, which is the goal.
-const SWITCH: Rows = Rows {
-    layers: &[None],
-    initial: &[0],
-    goal: &[(0, 1)],
-    effects: &[(&[], 0, Some(0), 1)],
-    rules: &[],
+/// A derived variable of the next layer.
+const NEXT: VariableDraft = VariableDraft {
+    layer: Some(1),
+    values: 2,
 };
 
 /// The second of three derived variables follows from the first, which follows from the base variable, and the third,
 /// of the next layer, from the second at its default value.
-const CHAIN: Rows = Rows {
-    layers: &[None, Some(0), Some(0), Some(1)],
+const CHAIN: Draft = Draft {
+    metric: 0,
+    variables: &[BASE, DERIVED, DERIVED, NEXT],
     initial: &[0, 0, 0, 0],
     goal: &[(2, 1)],
-    effects: &[(&[], 0, Some(0), 1)],
-    rules: &[(&[(1, 1)], 2, 1), (&[(0, 1)], 1, 1), (&[(2, 0)], 3, 1)],
+    operators: &[ON],
+    rules: &[
+        RuleDraft {
+            conds: &[(1, 1)],
+            var: 2,
+            new: 1,
+        },
+        RuleDraft {
+            conds: &[(0, 1)],
+            var: 1,
+            new: 1,
+        },
+        RuleDraft {
+            conds: &[(2, 0)],
+            var: 3,
+            new: 1,
+        },
+    ],
 };
 
 /// A rule without conditions leads to the default value.
-const TO_DEFAULT: Rows = Rows {
-    layers: &[None, Some(0)],
+const TO_DEFAULT: Draft = Draft {
+    metric: 0,
+    variables: &[BASE, DERIVED],
     initial: &[0, 0],
     goal: &[(1, 1)],
-    effects: &[(&[], 0, Some(0), 1)],
-    rules: &[(&[(0, 1)], 1, 1), (&[], 1, 0)],
-};
-
-/// The operator exchanges two variables.
-const EXCHANGE: Rows = Rows {
-    layers: &[None, None],
-    initial: &[1, 0],
-    goal: &[(0, 0), (1, 1)],
-    effects: &[
-        (&[(1, 0)], 0, None, 0),
-        (&[(1, 1)], 0, None, 1),
-        (&[(0, 0)], 1, None, 0),
-        (&[(0, 1)], 1, None, 1),
+    operators: &[ON],
+    rules: &[
+        RuleDraft {
+            conds: &[(0, 1)],
+            var: 1,
+            new: 1,
+        },
+        RuleDraft {
+            conds: &[],
+            var: 1,
+            new: 0,
+        },
     ],
-    rules: &[],
-};
-
-/// The operator changes one variable twice.
-const ON_THEN_OFF: Rows = Rows {
-    layers: &[None],
-    initial: &[0],
-    goal: &[(0, 1)],
-    effects: &[(&[], 0, None, 1), (&[], 0, None, 0)],
-    rules: &[],
-};
-
-const OFF_THEN_ON: Rows = Rows {
-    layers: &[None],
-    initial: &[0],
-    goal: &[(0, 1)],
-    effects: &[(&[], 0, None, 0), (&[], 0, None, 1)],
-    rules: &[],
 };
 
 fn check_closed(
@@ -213,28 +124,56 @@ fn check_next(
 fn check_values(
     rt: &impl Abort,
     alloc: Global,
-    rows: &Rows,
+    task: &Task,
     before: &[u32],
     after: &[u32],
 ) -> Result<(), Fail> {
-    let task = task(rt, alloc, rows)?;
     assert_eq!(rt; task.operators(), 1);
     let start = task.start(alloc)?;
-    check_closed(rt, alloc, &task, &start, before)?;
-    check_next(rt, alloc, &task, &start, after)
+    check_closed(rt, alloc, task, &start, before)?;
+    check_next(rt, alloc, task, &start, after)
+}
+
+/// The same of the task of a draft.
+fn check_draft(
+    rt: &impl Abort,
+    alloc: Global,
+    draft: &Draft<'_>,
+    before: &[u32],
+    after: &[u32],
+) -> Result<(), Fail> {
+    let task = drafted(alloc, draft)?.expect(rt, "the draft fits");
+    check_values(rt, alloc, &task, before, after)
 }
 
 #[test]
 fn derived_values_follow_the_rules(rt: HostRuntime) -> Result<(), Fail> {
-    check_values(&rt, rt.alloc(), &CHAIN, &[0, 0, 0, 1], &[1, 1, 1, 0])?;
-    check_values(&rt, rt.alloc(), &TO_DEFAULT, &[0, 0], &[1, 1])
+    check_draft(&rt, rt.alloc(), &CHAIN, &[0, 0, 0, 1], &[1, 1, 1, 0])?;
+    check_draft(&rt, rt.alloc(), &TO_DEFAULT, &[0, 0], &[1, 1])
+}
+
+/// Two variables are exchanged.
+fn check_exchange(rt: &impl Abort, alloc: Global) -> Result<(), Fail> {
+    let task = conditional_effects(alloc)?;
+    check_values(rt, alloc, &task, &[1, 0], &[0, 1])
+}
+
+/// The operator changes one variable twice.
+fn check_on_then_off(rt: &impl Abort, alloc: Global) -> Result<(), Fail> {
+    let task = later_effect_undoes(alloc)?;
+    check_values(rt, alloc, &task, &[0], &[0])
+}
+
+fn check_off_then_on(rt: &impl Abort, alloc: Global) -> Result<(), Fail> {
+    let task = later_effect_reaches(alloc)?;
+    check_values(rt, alloc, &task, &[0], &[1])
 }
 
 #[test]
 fn effects_see_the_old_state(rt: HostRuntime) -> Result<(), Fail> {
-    check_values(&rt, rt.alloc(), &EXCHANGE, &[1, 0], &[0, 1])?;
-    check_values(&rt, rt.alloc(), &ON_THEN_OFF, &[0], &[0])?;
-    check_values(&rt, rt.alloc(), &OFF_THEN_ON, &[0], &[1])
+    check_exchange(&rt, rt.alloc())?;
+    check_on_then_off(&rt, rt.alloc())?;
+    check_off_then_on(&rt, rt.alloc())
 }
 
 fn check_answers(
@@ -253,17 +192,30 @@ fn check_answers(
     Ok(())
 }
 
+/// The operator applies in the first state alone, and the goal holds in the next one.
+fn check_states(rt: &impl Abort, alloc: Global, task: &Task) -> Result<(), Fail> {
+    assert_eq!(rt; task.operators(), 1);
+    let off = task.start(alloc)?;
+    check_answers(rt, alloc, task, &off, true, false)?;
+    check_on(rt, alloc, task, &off)
+}
+
+/// The state after the operator.
+fn check_on(rt: &impl Abort, alloc: Global, task: &Task, off: &State) -> Result<(), Fail>
+    requires task { 0 < length task.now.operators }
+    requires state { IsState task.now off.now }
+{
+    let answer = applies(alloc, task, 0, off)?;
+    assert!(rt; answer);
+    let on = successor(alloc, task, 0, off)?;
+    assert_eq!(rt; on.as_slice(), [1].as_slice());
+    check_answers(rt, alloc, task, &on, false, true)
+}
+
 #[test]
 fn one_state_is_asked(rt: HostRuntime) -> Result<(), Fail> {
-    let task = task(&rt, rt.alloc(), &SWITCH)?;
-    assert_eq!(rt; task.operators(), 1);
-    let off = task.start(rt.alloc())?;
-    check_answers(&rt, rt.alloc(), &task, &off, true, false)?;
-    let answer = applies(rt.alloc(), &task, 0, &off)?;
-    assert!(rt; answer);
-    let on = successor(rt.alloc(), &task, 0, &off)?;
-    assert_eq!(rt; on.as_slice(), [1].as_slice());
-    check_answers(&rt, rt.alloc(), &task, &on, false, true)
+    let task = one_switch(rt.alloc())?;
+    check_states(&rt, rt.alloc(), &task)
 }
 
 fn check_run(
@@ -278,18 +230,21 @@ fn check_run(
     Ok(())
 }
 
-#[test]
-fn plans_are_run(rt: HostRuntime) -> Result<(), Fail> {
-    let alloc = rt.alloc();
-    let task = task(&rt, alloc, &SWITCH)?;
-    check_run(&rt, alloc, &task, &[0], Verdict::Reaches { cost: 1 })?;
-    check_run(&rt, alloc, &task, &[0, 0], Verdict::StopsAt { step: 2 })?;
-    check_run(&rt, alloc, &task, &[], Verdict::MissesGoal)?;
+fn check_runs(rt: &impl Abort, alloc: Global, task: &Task) -> Result<(), Fail> {
+    check_run(rt, alloc, task, &[0], Verdict::Reaches { cost: 1 })?;
+    check_run(rt, alloc, task, &[0, 0], Verdict::StopsAt { step: 2 })?;
+    check_run(rt, alloc, task, &[], Verdict::MissesGoal)?;
     check_run(
-        &rt,
+        rt,
         alloc,
-        &task,
+        task,
         &[0, 7],
         Verdict::NoSuchOperator { step: 2 },
     )
+}
+
+#[test]
+fn plans_are_run(rt: HostRuntime) -> Result<(), Fail> {
+    let task = one_switch(rt.alloc())?;
+    check_runs(&rt, rt.alloc(), &task)
 }

@@ -2,7 +2,7 @@
 //! and axioms as sets.
 //!
 //! There is no call: tests stand apart from the crates of which they are, so that those are proved once. It
-//! stands on `bdd_table`, `bdd_ops`, `var_order`, `bdd_sets` and `axiom_layers`.
+//! stands on `bdd_table`, `bdd_ops`, `var_order`, `bdd_sets`, `axiom_layers` and `small_tasks`.
 #![tactic(auto)]
 
 #[cfg(test)]

@@ -5,15 +5,14 @@ ghost use Rattle.std.specs.Prelude.{◌<◌};
 use bdd_ops::Ops;
 use bdd_table::{FALSE, Id, TRUE, Table, TableFault};
 use std::alloc::Global;
+use std::process::Abort;
 use std::test::Fail;
 
 fn ops(alloc: Global) -> Result<Ops, TableFault> {
     Ops::new(Table::new(alloc)?, 100)
 }
 
-#[test]
-fn quantifies(rt: HostRuntime) -> Result<(), Fail> {
-    let mut ops = ops(rt.alloc())?;
+fn check_quantified(rt: &impl Abort, ops: &mut Ops) -> Result<(), TableFault> {
     let p = ops.literal(0, true)?;
     let q = ops.literal(1, true)?;
     let both = ops.conj(p, q)?;
@@ -29,8 +28,13 @@ fn quantifies(rt: HostRuntime) -> Result<(), Fail> {
 }
 
 #[test]
-fn combines(rt: HostRuntime) -> Result<(), Fail> {
+fn quantifies(rt: HostRuntime) -> Result<(), Fail> {
     let mut ops = ops(rt.alloc())?;
+    check_quantified(&rt, &mut ops)?;
+    Ok(())
+}
+
+fn check_combined(rt: &impl Abort, ops: &mut Ops) -> Result<(), TableFault> {
     let p = ops.literal(0, true)?;
     let not_p = ops.neg(p)?;
     let either = ops.disj(p, not_p)?;
@@ -44,6 +48,13 @@ fn combines(rt: HostRuntime) -> Result<(), Fail> {
     Ok(())
 }
 
+#[test]
+fn combines(rt: HostRuntime) -> Result<(), Fail> {
+    let mut ops = ops(rt.alloc())?;
+    check_combined(&rt, &mut ops)?;
+    Ok(())
+}
+
 /// The level, renamed to another.
 fn renamed_literal(ops: &mut Ops, from: u32, to: u32) -> Result<Id, TableFault>
     requires from { from < 4294967295 }
@@ -53,20 +64,23 @@ fn renamed_literal(ops: &mut Ops, from: u32, to: u32) -> Result<Id, TableFault>
     ops.rename(literal, &[(from, to)])
 }
 
-#[test]
-fn renames(rt: HostRuntime) -> Result<(), Fail> {
-    let mut ops = ops(rt.alloc())?;
+fn check_renamed(rt: &impl Abort, ops: &mut Ops) -> Result<(), TableFault> {
     let q = ops.literal(1, true)?;
-    let renamed = renamed_literal(&mut ops, 0, 1)?;
+    let renamed = renamed_literal(ops, 0, 1)?;
     assert_eq!(rt; renamed, q);
-    let again = renamed_literal(&mut ops, 0, 1)?;
+    let again = renamed_literal(ops, 0, 1)?;
     assert_eq!(rt; again, q);
     Ok(())
 }
 
 #[test]
-fn collects(rt: HostRuntime) -> Result<(), Fail> {
+fn renames(rt: HostRuntime) -> Result<(), Fail> {
     let mut ops = ops(rt.alloc())?;
+    check_renamed(&rt, &mut ops)?;
+    Ok(())
+}
+
+fn check_collected(rt: &impl Abort, ops: &mut Ops) -> Result<(), TableFault> {
     let p = ops.literal(0, true)?;
     let q = ops.literal(1, true)?;
     let both = ops.conj(p, q)?;
@@ -76,5 +90,12 @@ fn collects(rt: HostRuntime) -> Result<(), Fail> {
     let again = ops.literal(1, true)?;
     assert_eq!(rt; again, 2);
     assert_eq!(rt; ops.table().held(), 2);
+    Ok(())
+}
+
+#[test]
+fn collects(rt: HostRuntime) -> Result<(), Fail> {
+    let mut ops = ops(rt.alloc())?;
+    check_collected(&rt, &mut ops)?;
     Ok(())
 }

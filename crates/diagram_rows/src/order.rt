@@ -3,56 +3,60 @@
 ghost use Rattle.std.specs.Prelude.{◌≡◌, IfSome};
 ghost use Rattle.var_order.specs.Layout.{width_of};
 
+use small_tasks::{Draft, VariableDraft, drafted};
 use std::alloc::Global;
 use std::process::Abort;
 use std::test::Fail;
-use symk_task::{List, Memory, Name, State, Task, TaskParts, Variable};
+use symk_task::{Memory, State};
 use var_order::Order;
 
-/// A variable of so many values, a derived one where there is a layer.
-fn variable(alloc: Global, layer: Option<u32>, count: usize) -> Result<Variable, Memory> {
-    let mut values = List::of(Vec::new(alloc));
-    for _ in 0..count {
-        values.push(Name::of(b"v".to_vec(alloc)?))?;
-    }
-    let name = Name::of(b"x".to_vec(alloc)?);
-    Ok(Variable {
-        name,
-        layer,
-        values,
-    })
-}
+/// A base variable of one value.
+pub const ONE: VariableDraft = VariableDraft {
+    layer: None,
+    values: 1,
+};
 
-/// The task of these variables, with nothing to do.
-fn parts(alloc: Global, variables: List<Variable>) -> Result<TaskParts, Memory> {
-    let mut initial = List::of(Vec::new(alloc));
-    for _ in 0..variables.len() {
-        initial.push(0)?;
-    }
-    Ok(TaskParts {
-        metric: 1,
-        variables,
-        mutexes: List::of(Vec::new(alloc)),
-        initial,
-        goal: List::of(Vec::new(alloc)),
-        operators: List::of(Vec::new(alloc)),
-        rules: List::of(Vec::new(alloc)),
-    })
-}
+/// A base variable of two values.
+pub const TWO: VariableDraft = VariableDraft {
+    layer: None,
+    values: 2,
+};
 
-/// The order of variables of so many values, those with a layer being derived.
-fn order_of(
+/// A base variable of three values.
+pub const THREE: VariableDraft = VariableDraft {
+    layer: None,
+    values: 3,
+};
+
+/// A base variable of five values.
+const FIVE: VariableDraft = VariableDraft {
+    layer: None,
+    values: 5,
+};
+
+/// A derived variable.
+pub const DERIVED: VariableDraft = VariableDraft {
+    layer: Some(0),
+    values: 2,
+};
+
+/// The order of the variables of a task that are 0 at first, with nothing to do.
+pub fn order_of(
     rt: &impl Abort,
     alloc: Global,
-    shapes: &[(Option<u32>, usize)],
+    variables: &[VariableDraft],
+    initial: &[u32],
 ) -> Result<Order, Memory> {
-    let mut variables = List::of(Vec::new(alloc));
-    for (layer, count) in shapes {
-        variables.push(variable(alloc, *layer, *count)?)?;
-    }
-    let parts = parts(alloc, variables)?;
-    assert!(rt; parts.fits());
-    Order::of(alloc, &Task::of(parts))
+    let draft = Draft {
+        metric: 1,
+        variables,
+        initial,
+        goal: &[],
+        operators: &[],
+        rules: &[],
+    };
+    let task = drafted(alloc, &draft)?.expect(rt, "the draft fits");
+    Order::of(alloc, &task)
 }
 
 /// How many bits the variable has, if it is a base variable.
@@ -84,37 +88,51 @@ fn bit_of(order: &Order, state: &State, place: u32) -> Option<bool> {
     }
 }
 
+fn check_three(rt: &impl Abort, order: &Order) {
+    assert_eq!(rt; order.bits(), 2);
+    assert_eq!(rt; width(order, 0), Some(2));
+    assert_eq!(rt; place(order, 0, 1), Some((1, 2, 3)));
+}
+
 #[test]
 fn one_variable_of_three_values(rt: HostRuntime) -> Result<(), Fail> {
-    let order = order_of(&rt, rt.alloc(), &[(None, 3)])?;
-    assert_eq!(rt; order.bits(), 2);
-    assert_eq!(rt; width(&order, 0), Some(2));
-    assert_eq!(rt; place(&order, 0, 1), Some((1, 2, 3)));
+    let order = order_of(&rt, rt.alloc(), &[THREE], &[0])?;
+    check_three(&rt, &order);
     Ok(())
+}
+
+fn check_many(rt: &impl Abort, order: &Order) {
+    assert_eq!(rt; order.bits(), 4);
+    assert_eq!(rt; width(order, 0), Some(0));
+    assert_eq!(rt; width(order, 1), Some(3));
+    assert_eq!(rt; width(order, 2), None);
+    assert_eq!(rt; width(order, 4), Some(1));
+    assert_eq!(rt; place(order, 4, 0), Some((3, 6, 7)));
+    assert_eq!(rt; place(order, 1, 2), Some((2, 4, 5)));
+    assert_eq!(rt; order.slot(4), Some(3));
+    assert_eq!(rt; order.blocks().len(), 4);
 }
 
 #[test]
 fn variables_of_one_value_and_derived_ones(rt: HostRuntime) -> Result<(), Fail> {
-    let shapes = [(None, 1), (None, 5), (Some(0), 2), (None, 1), (None, 2)];
-    let order = order_of(&rt, rt.alloc(), &shapes)?;
-    assert_eq!(rt; order.bits(), 4);
-    assert_eq!(rt; width(&order, 0), Some(0));
-    assert_eq!(rt; width(&order, 1), Some(3));
-    assert_eq!(rt; width(&order, 2), None);
-    assert_eq!(rt; width(&order, 4), Some(1));
-    assert_eq!(rt; place(&order, 4, 0), Some((3, 6, 7)));
-    assert_eq!(rt; place(&order, 1, 2), Some((2, 4, 5)));
-    assert_eq!(rt; order.slot(4), Some(3));
-    assert_eq!(rt; order.blocks().len(), 4);
+    let variables = [ONE, FIVE, DERIVED, ONE, TWO];
+    let order = order_of(&rt, rt.alloc(), &variables, &[0, 0, 0, 0, 0])?;
+    check_many(&rt, &order);
+    Ok(())
+}
+
+fn check_bits(rt: &impl Abort, alloc: Global, order: &Order) -> Result<(), Memory> {
+    let state = State::of([4, 1].to_vec(alloc)?);
+    for (place, bit) in [(0, true), (1, false), (2, false), (3, true)] {
+        assert_eq!(rt; bit_of(order, &state, place), Some(bit));
+    }
     Ok(())
 }
 
 #[test]
 fn bits_of_a_state(rt: HostRuntime) -> Result<(), Fail> {
-    let order = order_of(&rt, rt.alloc(), &[(None, 5), (Some(0), 2), (None, 2)])?;
-    let state = State::of([4, 1].to_vec(rt.alloc())?);
-    for (place, bit) in [(0, true), (1, false), (2, false), (3, true)] {
-        assert_eq!(rt; bit_of(&order, &state, place), Some(bit));
-    }
+    let variables = [FIVE, DERIVED, TWO];
+    let order = order_of(&rt, rt.alloc(), &variables, &[0, 0, 0])?;
+    check_bits(&rt, rt.alloc(), &order)?;
     Ok(())
 }

@@ -1,60 +1,20 @@
 //! Worked rows of sets of states.
 
-ghost use Rattle.std.specs.Prelude.{◌<◌, length};
+ghost use Rattle.std.specs.Prelude.{◌<◌, length, IfOk};
 
+use crate::order::{DERIVED, ONE, THREE, TWO, order_of};
 use bdd_ops::Ops;
 use bdd_sets::{fact_set, has, next_fact_set, state_set, valid_set};
 use bdd_table::{Id, TRUE, Table};
 use std::alloc::Global;
 use std::process::Abort;
 use std::test::Fail;
-use symk_task::{Fact, List, Memory, Name, State, Task, TaskParts, Variable};
+use symk_task::{Fact, Memory, State};
 use var_order::Order;
 
-/// A variable of so many values, a derived one where there is a layer.
-fn variable(alloc: Global, layer: Option<u32>, count: usize) -> Result<Variable, Memory> {
-    let mut values = List::of(Vec::new(alloc));
-    for _ in 0..count {
-        values.push(Name::of(b"v".to_vec(alloc)?))?;
-    }
-    let name = Name::of(b"x".to_vec(alloc)?);
-    Ok(Variable {
-        name,
-        layer,
-        values,
-    })
-}
-
-/// The task of these variables, with nothing to do.
-fn parts(alloc: Global, variables: List<Variable>) -> Result<TaskParts, Memory> {
-    let mut initial = List::of(Vec::new(alloc));
-    for _ in 0..variables.len() {
-        initial.push(0)?;
-    }
-    Ok(TaskParts {
-        metric: 1,
-        variables,
-        mutexes: List::of(Vec::new(alloc)),
-        initial,
-        goal: List::of(Vec::new(alloc)),
-        operators: List::of(Vec::new(alloc)),
-        rules: List::of(Vec::new(alloc)),
-    })
-}
-
-/// The order of variables of so many values, those with a layer being derived.
-fn order_of(
-    rt: &impl Abort,
-    alloc: Global,
-    shapes: &[(Option<u32>, usize)],
-) -> Result<Order, Memory> {
-    let mut variables = List::of(Vec::new(alloc));
-    for (layer, count) in shapes {
-        variables.push(variable(alloc, *layer, *count)?)?;
-    }
-    let parts = parts(alloc, variables)?;
-    assert!(rt; parts.fits());
-    Order::of(alloc, &Task::of(parts))
+/// The order of a variable of three values and a derived one.
+fn three(rt: &impl Abort, alloc: Global) -> Result<Order, Memory> {
+    order_of(rt, alloc, &[THREE, DERIVED], &[0, 0])
 }
 
 /// Whether the set has the state of these values.
@@ -84,55 +44,104 @@ fn no_diagrams(alloc: Global) -> Result<Ops, Memory> {
     Ops::new(Table::new(alloc)?, 100)
 }
 
-#[test]
-fn a_fact(rt: HostRuntime) -> Result<(), Fail> {
-    let alloc = rt.alloc();
-    let order = order_of(&rt, alloc, &[(None, 3), (Some(0), 2)])?;
-    let mut ops = no_diagrams(alloc)?;
+fn check_fact(rt: &impl Abort, alloc: Global, order: &Order, ops: &mut Ops) -> Result<(), Memory> {
     assert!(rt; order.slot(0).is_some());
-    let set = fact_set(&mut ops, &order, Fact { var: 0, val: 2 })?;
-    assert!(rt; has_values(&rt, alloc, &ops, &order, set, &[2])?);
-    assert!(rt; !has_values(&rt, alloc, &ops, &order, set, &[1])?);
+    let set = fact_set(ops, order, Fact { var: 0, val: 2 })?;
+    assert!(rt; has_values(rt, alloc, ops, order, set, &[2])?);
+    assert!(rt; !has_values(rt, alloc, ops, order, set, &[1])?);
     Ok(())
 }
 
-#[test]
-fn all_states(rt: HostRuntime) -> Result<(), Fail> {
-    let alloc = rt.alloc();
-    let order = order_of(&rt, alloc, &[(None, 3), (Some(0), 2)])?;
+/// The same over diagrams of its own.
+fn with_fact(rt: &impl Abort, alloc: Global, order: &Order) -> Result<(), Memory> {
     let mut ops = no_diagrams(alloc)?;
-    let set = valid_set(&mut ops, &order)?;
+    check_fact(rt, alloc, order, &mut ops)
+}
+
+#[test]
+fn a_fact(rt: HostRuntime) -> Result<(), Fail> {
+    let order = three(&rt, rt.alloc())?;
+    with_fact(&rt, rt.alloc(), &order)?;
+    Ok(())
+}
+
+fn check_all(rt: &impl Abort, alloc: Global, order: &Order, ops: &mut Ops) -> Result<(), Memory> {
+    let set = valid_set(ops, order)?;
     for value in 0..3 {
-        assert!(rt; has_values(&rt, alloc, &ops, &order, set, &[value])?);
+        assert!(rt; has_values(rt, alloc, ops, order, set, &[value])?);
     }
     assert_ne!(rt; set, TRUE);
     Ok(())
 }
 
-#[test]
-fn one_state(rt: HostRuntime) -> Result<(), Fail> {
-    let alloc = rt.alloc();
-    let order = order_of(&rt, alloc, &[(None, 3), (Some(0), 2)])?;
+/// The same over diagrams of its own.
+fn with_all(rt: &impl Abort, alloc: Global, order: &Order) -> Result<(), Memory> {
     let mut ops = no_diagrams(alloc)?;
-    let only = state(&rt, alloc, &order, &[1])?;
+    check_all(rt, alloc, order, &mut ops)
+}
+
+#[test]
+fn all_states(rt: HostRuntime) -> Result<(), Fail> {
+    let order = three(&rt, rt.alloc())?;
+    with_all(&rt, rt.alloc(), &order)?;
+    Ok(())
+}
+
+/// The set of the state of these values.
+fn set_of(
+    rt: &impl Abort,
+    alloc: Global,
+    order: &Order,
+    ops: &mut Ops,
+    values: &[u32],
+) -> Result<Id, Memory>
+    ensures { IfOk result (λ id. id < length ops.new) }
+{
+    let only = state(rt, alloc, order, values)?;
     assert!(rt; order.is_state(&only));
-    let set = state_set(&mut ops, &order, &only)?;
+    state_set(ops, order, &only)
+}
+
+fn check_one(rt: &impl Abort, alloc: Global, order: &Order, ops: &mut Ops) -> Result<(), Memory> {
+    let set = set_of(rt, alloc, order, ops, &[1])?;
     for value in 0..3 {
         assert_eq!(rt;
-            has_values(&rt, alloc, &ops, &order, set, &[value])?,
+            has_values(rt, alloc, ops, order, set, &[value])?,
             value == 1
         );
     }
     Ok(())
 }
 
+/// The same over diagrams of its own.
+fn with_one(rt: &impl Abort, alloc: Global, order: &Order) -> Result<(), Memory> {
+    let mut ops = no_diagrams(alloc)?;
+    check_one(rt, alloc, order, &mut ops)
+}
+
+#[test]
+fn one_state(rt: HostRuntime) -> Result<(), Fail> {
+    let order = three(&rt, rt.alloc())?;
+    with_one(&rt, rt.alloc(), &order)?;
+    Ok(())
+}
+
+fn check_next(rt: &impl Abort, order: &Order, ops: &mut Ops) -> Result<(), Memory> {
+    assert!(rt; order.slot(1).is_some());
+    let next = next_fact_set(ops, order, Fact { var: 1, val: 1 })?;
+    assert_eq!(rt; next, ops.literal(1, true)?);
+    Ok(())
+}
+
+/// The same over diagrams of its own.
+fn with_next(rt: &impl Abort, alloc: Global, order: &Order) -> Result<(), Memory> {
+    let mut ops = no_diagrams(alloc)?;
+    check_next(rt, order, &mut ops)
+}
+
 #[test]
 fn the_next_state(rt: HostRuntime) -> Result<(), Fail> {
-    let alloc = rt.alloc();
-    let order = order_of(&rt, alloc, &[(None, 1), (None, 2)])?;
-    let mut ops = no_diagrams(alloc)?;
-    assert!(rt; order.slot(1).is_some());
-    let next = next_fact_set(&mut ops, &order, Fact { var: 1, val: 1 })?;
-    assert_eq!(rt; next, ops.literal(1, true)?);
+    let order = order_of(&rt, rt.alloc(), &[ONE, TWO], &[0, 0])?;
+    with_next(&rt, rt.alloc(), &order)?;
     Ok(())
 }

@@ -1,6 +1,7 @@
 //! Worked rows.
 
 use bdd_table::{FALSE, Id, TRUE, Table};
+use std::process::Abort;
 use std::test::Fail;
 
 /// The node, if its children are there and on later levels.
@@ -22,16 +23,20 @@ fn collect(table: &mut Table, root: Id) -> Result<Id, Fail> {
     Ok(roots[0])
 }
 
+fn check_names(rt: &impl Abort, table: &mut Table) -> Result<(), Fail> {
+    assert_eq!(rt; node(table, 0, FALSE, TRUE)?, 2);
+    assert_eq!(rt; node(table, 0, FALSE, TRUE)?, 2);
+    assert_eq!(rt; node(table, 1, TRUE, TRUE)?, TRUE);
+    assert_eq!(rt; node(table, 1, FALSE, TRUE)?, 3);
+    assert_eq!(rt; node(table, 2, FALSE, TRUE)?, 4);
+    assert_eq!(rt; table.held(), 3);
+    Ok(())
+}
+
 #[test]
 fn names_each_node_once(rt: HostRuntime) -> Result<(), Fail> {
     let mut table = Table::new(rt.alloc())?;
-    assert_eq!(rt; node(&mut table, 0, FALSE, TRUE)?, 2);
-    assert_eq!(rt; node(&mut table, 0, FALSE, TRUE)?, 2);
-    assert_eq!(rt; node(&mut table, 1, TRUE, TRUE)?, TRUE);
-    assert_eq!(rt; node(&mut table, 1, FALSE, TRUE)?, 3);
-    assert_eq!(rt; node(&mut table, 2, FALSE, TRUE)?, 4);
-    assert_eq!(rt; table.held(), 3);
-    Ok(())
+    check_names(&rt, &mut table)
 }
 
 /// The level and the children, if the Id is known.
@@ -42,30 +47,38 @@ fn parts(table: &Table, id: Id) -> Result<(u32, Id, Id), Fail> {
     Ok((table.level(id), table.lo(id), table.hi(id)))
 }
 
+fn check_root(rt: &impl Abort, table: &mut Table) -> Result<(), Fail> {
+    node(table, 0, FALSE, TRUE)?;
+    node(table, 1, FALSE, TRUE)?;
+    node(table, 2, FALSE, TRUE)?;
+    assert_eq!(rt; collect(table, 3)?, 2);
+    assert_eq!(rt; table.held(), 1);
+    assert_eq!(rt; parts(table, 2)?, (1, FALSE, TRUE));
+    assert_eq!(rt; node(table, 2, FALSE, TRUE)?, 3);
+    Ok(())
+}
+
 #[test]
 fn keeps_what_the_root_reaches(rt: HostRuntime) -> Result<(), Fail> {
     let mut table = Table::new(rt.alloc())?;
-    node(&mut table, 0, FALSE, TRUE)?;
-    node(&mut table, 1, FALSE, TRUE)?;
-    node(&mut table, 2, FALSE, TRUE)?;
-    assert_eq!(rt; collect(&mut table, 3)?, 2);
-    assert_eq!(rt; table.held(), 1);
-    assert_eq!(rt; parts(&table, 2)?, (1, FALSE, TRUE));
-    assert_eq!(rt; node(&mut table, 2, FALSE, TRUE)?, 3);
+    check_root(&rt, &mut table)
+}
+
+fn check_children(rt: &impl Abort, table: &mut Table) -> Result<(), Fail> {
+    node(table, 5, TRUE, FALSE)?;
+    let below = node(table, 4, FALSE, TRUE)?;
+    let above = node(table, 3, TRUE, below)?;
+    node(table, 2, FALSE, above)?;
+    assert_eq!(rt; collect(table, above)?, 3);
+    assert_eq!(rt; table.held(), 2);
+    assert_eq!(rt; parts(table, 3)?, (3, TRUE, 2));
+    assert_eq!(rt; parts(table, 2)?, (4, FALSE, TRUE));
+    assert!(rt; table.same(FALSE, FALSE) && !table.same(FALSE, TRUE));
     Ok(())
 }
 
 #[test]
 fn keeps_the_children_of_a_root(rt: HostRuntime) -> Result<(), Fail> {
     let mut table = Table::new(rt.alloc())?;
-    node(&mut table, 5, TRUE, FALSE)?;
-    let below = node(&mut table, 4, FALSE, TRUE)?;
-    let above = node(&mut table, 3, TRUE, below)?;
-    node(&mut table, 2, FALSE, above)?;
-    assert_eq!(rt; collect(&mut table, above)?, 3);
-    assert_eq!(rt; table.held(), 2);
-    assert_eq!(rt; parts(&table, 3)?, (3, TRUE, 2));
-    assert_eq!(rt; parts(&table, 2)?, (4, FALSE, TRUE));
-    assert!(rt; table.same(FALSE, FALSE) && !table.same(FALSE, TRUE));
-    Ok(())
+    check_children(&rt, &mut table)
 }

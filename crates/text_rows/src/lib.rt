@@ -1,7 +1,7 @@
 //! Worked rows of words and texts: task files read and written, blocks of plans, and lists checked.
 //!
 //! There is no call: tests stand apart from the crates of which they are, so that those are proved once. It
-//! stands on `symk_words`, `sas_reader`, `sas_writer` and `plan_out`.
+//! stands on `symk_words`, `sas_reader`, `sas_writer`, `plan_out` and `small_tasks`.
 #![tactic(auto)]
 
 #[cfg(test)]

@@ -1,87 +1,14 @@
 //! Worked rows.
 
 use plan_out::{Blocks, Checked, End, PlansFault, Why, block, check_list, end_line, read_plans};
-use std::alloc::Global;
-use std::test::Fail;
-use symk_task::{
-    Effect, Fact, List, Memory, Mode, Name, Operator, Plan, Task, TaskParts, Variable,
+use small_tasks::{
+    Draft, EffectDraft, OperatorDraft, VariableDraft, drafted, one_switch, past_64_bits,
+    switch_and_back,
 };
-
-/// One operator as name, variable, value before, value after, cost.
-type Row<'a> = (&'a str, u32, u32, u32, u64);
-
-fn name(alloc: Global, text: &str) -> Result<Name, Memory> {
-    Ok(Name::of(Vec::from_slice(alloc, text.as_bytes())?))
-}
-
-fn small(number: usize) -> u32 {
-    u32::try_from(number).unwrap_or(u32::MAX)
-}
-
-/// A base variable with so many values.
-fn variable(alloc: Global, values: usize) -> Result<Variable, Memory> {
-    let mut names = Vec::new(alloc);
-    for _ in 0..values {
-        names.push(name(alloc, "value")?)?;
-    }
-    Ok(Variable {
-        name: name(alloc, "variable")?,
-        layer: None,
-        values: List::of(names),
-    })
-}
-
-fn operator(alloc: Global, (text, var, pre, post, cost): Row<'_>) -> Result<Operator, Memory> {
-    let effect = Effect {
-        conds: List::of(Vec::new(alloc)),
-        var,
-        pre: Some(pre),
-        post,
-    };
-    Ok(Operator {
-        name: name(alloc, text)?,
-        prevail: List::of(Vec::new(alloc)),
-        effects: List::of(vec![in alloc; effect]?),
-        cost,
-    })
-}
-
-/// A task whose variables have so many values, are 0 at first, and are to have their last.
-fn task(
-    alloc: Global,
-    metric: u8,
-    values: &[usize],
-    rows: &[Row<'_>],
-) -> Result<TaskParts, Memory> {
-    let mut variables = Vec::new(alloc);
-    let mut initial = Vec::new(alloc);
-    let mut goal = Vec::new(alloc);
-    for i in 0..values.len() {
-        variables.push(variable(alloc, values[i])?)?;
-        initial.push(0)?;
-        goal.push(Fact {
-            var: small(i),
-            val: small(values[i]).saturating_sub(1),
-        })?;
-    }
-    let mut operators = Vec::new(alloc);
-    for row in rows {
-        operators.push(operator(alloc, *row)?)?;
-    }
-    Ok(TaskParts {
-        metric,
-        variables: List::of(variables),
-        mutexes: List::of(Vec::new(alloc)),
-        initial: List::of(initial),
-        goal: List::of(goal),
-        operators: List::of(operators),
-        rules: List::of(Vec::new(alloc)),
-    })
-}
-
-const ON: Row<'static> = ("switch-on", 0, 0, 1, 1);
-
-const OFF: Row<'static> = ("switch-off", 0, 1, 0, 1);
+use std::alloc::Global;
+use std::process::Abort;
+use std::test::Fail;
+use symk_task::{Memory, Mode, Plan, Task};
 
 /// The text of one block.
 const ONE: &str = "; plan 1\n; ops 0\n(switch-on)\n; cost = 1 (unit cost)\n";
@@ -90,16 +17,16 @@ const ONE: &str = "; plan 1\n; ops 0\n(switch-on)\n; cost = 1 (unit cost)\n";
 const THREE: &str =
     "; plan 1\n; ops 0\n(switch-on)\n; cost = 1 (unit cost)\n; plan 2\n; ops 0 1 0\n(switch-on)\n(switch-off)\n(switch-on)\n; cost = 3 (unit cost)\n; plan 3\n; ops 0 1 0 1 0\n(switch-on)\n(switch-off)\n(switch-on)\n(switch-off)\n(switch-on)\n; cost = 5 (unit cost)\n; reached 3\n";
 
-#[test]
-fn prints_a_block_and_each_end(rt: HostRuntime) -> Result<(), Fail> {
-    let alloc = rt.alloc();
-    let parts = task(alloc, 0, &[2], &[ON])?;
-    assert!(rt; parts.fits());
-    let task = Task::of(parts);
+/// The block of the plan that switches on.
+fn check_block(rt: &impl Abort, alloc: Global, task: &Task) -> Result<(), Memory> {
     let plan = Plan::of(vec![in alloc; 0]?);
     assert!(rt; task.operators() == 1);
     assert!(rt; task.plan_cost(&plan) == 1);
-    assert_eq!(rt; block(alloc, &task, 1, &plan)?.as_slice(), ONE.as_bytes());
+    assert_eq!(rt; block(alloc, task, 1, &plan)?.as_slice(), ONE.as_bytes());
+    Ok(())
+}
+
+fn check_ends(rt: &impl Abort, alloc: Global) -> Result<(), Memory> {
     for (end, want) in [
         (End::Reached { n: 20 }, "; reached 20\n"),
         (End::Exhausted { n: 1 }, "; exhausted 1\n"),
@@ -109,6 +36,14 @@ fn prints_a_block_and_each_end(rt: HostRuntime) -> Result<(), Fail> {
     ] {
         assert_eq!(rt; end_line(alloc, end)?.as_slice(), want.as_bytes());
     }
+    Ok(())
+}
+
+#[test]
+fn prints_a_block_and_each_end(rt: HostRuntime) -> Result<(), Fail> {
+    let task = one_switch(rt.alloc())?;
+    check_block(&rt, rt.alloc(), &task)?;
+    check_ends(&rt, rt.alloc())?;
     Ok(())
 }
 
@@ -135,22 +70,26 @@ fn read(alloc: Global, text: &[u8]) -> Result<Result<usize, u64>, Memory> {
     }
 }
 
+/// What is read of the first lines of the three plans: whole blocks, or that the line after the last offends.
+fn wanted(lines: usize) -> Result<usize, u64> {
+    match lines {
+        0 => Ok(0),
+        4 => Ok(1),
+        10 => Ok(2),
+        18 | 19 => Ok(3),
+        _ => Err((lines as u64).saturating_add(1)),
+    }
+}
+
 #[test]
 fn names_the_line_after_the_last_of_a_text_that_is_cut_within_a_block(
     rt: HostRuntime,
 ) -> Result<(), Fail> {
     let alloc = rt.alloc();
     for n in 0..20 {
-        let want = match n {
-            0 => Ok(0),
-            4 => Ok(1),
-            10 => Ok(2),
-            18 | 19 => Ok(3),
-            _ => Err(n as u64 + 1),
-        };
         assert_eq!(rt;
             read(alloc, first_lines(THREE.as_bytes(), n))?,
-            want,
+            wanted(n),
             "{n} lines"
         );
     }
@@ -194,121 +133,202 @@ fn check(alloc: Global, task: &Task, mode: Mode, text: &str) -> Result<Checked, 
     Ok(check_list(alloc, task, mode, &blocks)?)
 }
 
-fn bad(plan: u64, why: Why) -> Checked {
-    Checked::Bad { plan, why }
-}
+/// A mode, a text of plans, and what a check of it says.
+type Row<'a> = (Mode, &'a str, Checked);
 
-#[test]
-fn gives_each_reason_on_a_switch(rt: HostRuntime) -> Result<(), Fail> {
-    let alloc = rt.alloc();
-    let parts = task(alloc, 0, &[2], &[ON, OFF])?;
-    assert!(rt; parts.fits());
-    let task = Task::of(parts);
-    for (mode, text, want) in [
-        (Mode::TopK, "", Checked::Good { n: 0 }),
-        (Mode::TopK, ONE, Checked::Good { n: 1 }),
-        (Mode::TopK, THREE, Checked::Good { n: 3 }),
-        (
-            Mode::TopK,
-            "; plan 1\n; ops 0 2\n(x)\n(x)\n; cost = 2 (unit cost)\n",
-            bad(1, Why::NoSuchOperator { step: 2 }),
-        ),
-        (
-            Mode::TopK,
-            "; plan 1\n; ops 1\n(switch-on)\n; cost = 1 (unit cost)\n",
-            bad(1, Why::WrongName { step: 1 }),
-        ),
-        (
-            Mode::TopK,
-            "; plan 1\n; ops 0 0\n(switch-on)\n(switch-on)\n; cost = 2 (unit cost)\n",
-            bad(1, Why::StopsAt { step: 2 }),
-        ),
-        (
-            Mode::TopK,
-            "; plan 1\n; ops\n; cost = 0 (unit cost)\n",
-            bad(1, Why::MissesGoal),
-        ),
-        (
-            Mode::TopK,
-            "; plan 1\n; ops 0\n(switch-on)\n; cost = 2 (unit cost)\n",
-            bad(1, Why::WrongCost { cost: 1 }),
-        ),
-        (
-            Mode::TopK,
-            "; plan 1\n; ops 0\n(switch-on)\n; cost = 1 (general cost)\n",
-            bad(1, Why::WrongCost { cost: 1 }),
-        ),
-        (
-            Mode::TopK,
-            "; plan 1\n; ops 0\n(switch-on)\n; cost = 1 (unit cost)\n; plan 2\n; ops 0\n(switch-on)\n; cost = 1 (unit cost)\n",
-            bad(2, Why::Repeats { earlier: 1 }),
-        ),
-        (
-            Mode::TopK,
-            "; plan 1\n; ops 0 1 0\n(switch-on)\n(switch-off)\n(switch-on)\n; cost = 3 (unit cost)\n; plan 2\n; ops 0\n(switch-on)\n; cost = 1 (unit cost)\n",
-            bad(2, Why::Cheaper),
-        ),
-        (Mode::Loopless, THREE, bad(2, Why::Loops { step: 2 })),
-    ] {
-        assert_eq!(rt; check(alloc, &task, mode, text)?, want, "{text}");
+fn check_rows(
+    rt: &impl Abort,
+    alloc: Global,
+    task: &Task,
+    rows: &[Row<'_>],
+) -> Result<(), PlansFault> {
+    for (mode, text, want) in rows {
+        assert_eq!(rt; check(alloc, task, *mode, text)?, *want, "{text}");
     }
     Ok(())
 }
+
+/// What is said of texts for the switch that goes on and off.
+const OF_A_SWITCH: [Row<'static>; 12] = [
+    (Mode::TopK, "", Checked::Good { n: 0 }),
+    (Mode::TopK, ONE, Checked::Good { n: 1 }),
+    (Mode::TopK, THREE, Checked::Good { n: 3 }),
+    (
+        Mode::TopK,
+        "; plan 1\n; ops 0 2\n(x)\n(x)\n; cost = 2 (unit cost)\n",
+        Checked::Bad {
+            plan: 1,
+            why: Why::NoSuchOperator { step: 2 },
+        },
+    ),
+    (
+        Mode::TopK,
+        "; plan 1\n; ops 1\n(switch-on)\n; cost = 1 (unit cost)\n",
+        Checked::Bad {
+            plan: 1,
+            why: Why::WrongName { step: 1 },
+        },
+    ),
+    (
+        Mode::TopK,
+        "; plan 1\n; ops 0 0\n(switch-on)\n(switch-on)\n; cost = 2 (unit cost)\n",
+        Checked::Bad {
+            plan: 1,
+            why: Why::StopsAt { step: 2 },
+        },
+    ),
+    (
+        Mode::TopK,
+        "; plan 1\n; ops\n; cost = 0 (unit cost)\n",
+        Checked::Bad {
+            plan: 1,
+            why: Why::MissesGoal,
+        },
+    ),
+    (
+        Mode::TopK,
+        "; plan 1\n; ops 0\n(switch-on)\n; cost = 2 (unit cost)\n",
+        Checked::Bad {
+            plan: 1,
+            why: Why::WrongCost { cost: 1 },
+        },
+    ),
+    (
+        Mode::TopK,
+        "; plan 1\n; ops 0\n(switch-on)\n; cost = 1 (general cost)\n",
+        Checked::Bad {
+            plan: 1,
+            why: Why::WrongCost { cost: 1 },
+        },
+    ),
+    (
+        Mode::TopK,
+        "; plan 1\n; ops 0\n(switch-on)\n; cost = 1 (unit cost)\n; plan 2\n; ops 0\n(switch-on)\n; cost = 1 (unit cost)\n",
+        Checked::Bad {
+            plan: 2,
+            why: Why::Repeats { earlier: 1 },
+        },
+    ),
+    (
+        Mode::TopK,
+        "; plan 1\n; ops 0 1 0\n(switch-on)\n(switch-off)\n(switch-on)\n; cost = 3 (unit cost)\n; plan 2\n; ops 0\n(switch-on)\n; cost = 1 (unit cost)\n",
+        Checked::Bad {
+            plan: 2,
+            why: Why::Cheaper,
+        },
+    ),
+    (
+        Mode::Loopless,
+        THREE,
+        Checked::Bad {
+            plan: 2,
+            why: Why::Loops { step: 2 },
+        },
+    ),
+];
+
+#[test]
+fn gives_each_reason_on_a_switch(rt: HostRuntime) -> Result<(), Fail> {
+    let task = switch_and_back(rt.alloc())?;
+    check_rows(&rt, rt.alloc(), &task, &OF_A_SWITCH)?;
+    Ok(())
+}
+
+/// A switch.
+const SWITCH: VariableDraft = VariableDraft {
+    layer: None,
+    values: 2,
+};
+
+/// Two switches, an operator for each that turns it on, and one that leaves the second as it is.
+const TWO_SWITCHES: Draft = Draft {
+    metric: 0,
+    variables: &[SWITCH, SWITCH],
+    initial: &[0, 0],
+    goal: &[(0, 1), (1, 1)],
+    operators: &[
+        OperatorDraft {
+            name: b"a-on",
+            effects: &[EffectDraft {
+                conds: &[],
+                var: 0,
+                pre: Some(0),
+                post: 1,
+            }],
+            cost: 1,
+        },
+        OperatorDraft {
+            name: b"b-on",
+            effects: &[EffectDraft {
+                conds: &[],
+                var: 1,
+                pre: Some(0),
+                post: 1,
+            }],
+            cost: 1,
+        },
+        OperatorDraft {
+            name: b"b-stays",
+            effects: &[EffectDraft {
+                conds: &[],
+                var: 1,
+                pre: Some(1),
+                post: 1,
+            }],
+            cost: 1,
+        },
+    ],
+    rules: &[],
+};
 
 /// Two plans of two switches, in both orders.
 const BOTH_ORDERS: &str =
     "; plan 1\n; ops 0 1\n(a-on)\n(b-on)\n; cost = 2 (unit cost)\n; plan 2\n; ops 1 0\n(b-on)\n(a-on)\n; cost = 2 (unit cost)\n";
 
+/// What is said of texts for the two switches.
+const OF_TWO_SWITCHES: [Row<'static>; 4] = [
+    (Mode::TopK, BOTH_ORDERS, Checked::Good { n: 2 }),
+    (Mode::Loopless, BOTH_ORDERS, Checked::Good { n: 2 }),
+    (
+        Mode::Unordered,
+        BOTH_ORDERS,
+        Checked::Bad {
+            plan: 2,
+            why: Why::Repeats { earlier: 1 },
+        },
+    ),
+    (
+        Mode::Loopless,
+        "; plan 1\n; ops 0 1 2 2\n(a-on)\n(b-on)\n(b-stays)\n(b-stays)\n; cost = 4 (unit cost)\n",
+        Checked::Bad {
+            plan: 1,
+            why: Why::Loops { step: 3 },
+        },
+    ),
+];
+
 #[test]
 fn tells_modes_apart_on_two_switches(rt: HostRuntime) -> Result<(), Fail> {
-    let alloc = rt.alloc();
-    let parts = task(
-        alloc,
-        0,
-        &[2, 2],
-        &[
-            ("a-on", 0, 0, 1, 1),
-            ("b-on", 1, 0, 1, 1),
-            ("b-stays", 1, 1, 1, 1),
-        ],
-    )?;
-    assert!(rt; parts.fits());
-    let task = Task::of(parts);
-    for (mode, text, want) in [
-        (Mode::TopK, BOTH_ORDERS, Checked::Good { n: 2 }),
-        (Mode::Loopless, BOTH_ORDERS, Checked::Good { n: 2 }),
-        (
-            Mode::Unordered,
-            BOTH_ORDERS,
-            bad(2, Why::Repeats { earlier: 1 }),
-        ),
-        (
-            Mode::Loopless,
-            "; plan 1\n; ops 0 1 2 2\n(a-on)\n(b-on)\n(b-stays)\n(b-stays)\n; cost = 4 (unit cost)\n",
-            bad(1, Why::Loops { step: 3 }),
-        ),
-    ] {
-        assert_eq!(rt; check(alloc, &task, mode, text)?, want, "{text}");
-    }
+    let task = drafted(rt.alloc(), &TWO_SWITCHES)?.expect(&rt, "the draft fits");
+    check_rows(&rt, rt.alloc(), &task, &OF_TWO_SWITCHES)?;
     Ok(())
 }
 
+/// A cost that no block can state.
+const PAST_64_BITS: [Row<'static>; 1] = [(
+    Mode::TopK,
+    "; plan 1\n; ops 0 1\n(big)\n(one)\n; cost = 18446744073709551615 (general cost)\n",
+    Checked::Bad {
+        plan: 1,
+        why: Why::WrongCost {
+            cost: u64::MAX as u128 + 1,
+        },
+    },
+)];
+
 #[test]
 fn counts_costs_past_64_bits(rt: HostRuntime) -> Result<(), Fail> {
-    let alloc = rt.alloc();
-    let parts = task(
-        alloc,
-        1,
-        &[3],
-        &[("big", 0, 0, 1, u64::MAX), ("one", 0, 1, 2, 1)],
-    )?;
-    assert!(rt; parts.fits());
-    let task = Task::of(parts);
-    let text = "; plan 1\n; ops 0 1\n(big)\n(one)\n; cost = 18446744073709551615 (general cost)\n";
-    let cost = u128::from(u64::MAX) + 1;
-    assert_eq!(rt;
-        check(alloc, &task, Mode::TopK, text)?,
-        bad(1, Why::WrongCost { cost })
-    );
+    let task = past_64_bits(rt.alloc())?;
+    check_rows(&rt, rt.alloc(), &task, &PAST_64_BITS)?;
     Ok(())
 }

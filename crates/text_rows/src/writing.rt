@@ -1,109 +1,86 @@
 //! Worked rows.
 
 use sas_writer::write_task;
+use small_tasks::{fact, name, none, one, one_switch, stated, two};
 use std::alloc::Global;
+use std::process::Abort;
 use std::test::Fail;
-use symk_task::{Effect, Fact, List, Memory, Name, Operator, Rule, Task, TaskParts, Variable};
-
-fn name(alloc: Global, text: &str) -> Result<Name, Memory> {
-    Ok(Name::of(Vec::from_slice(alloc, text.as_bytes())?))
-}
-
-fn facts(alloc: Global, facts: &[(u32, u32)]) -> Result<List<Fact>, Memory> {
-    let mut list = List::of(Vec::new(alloc));
-    for (var, val) in facts {
-        list.push(Fact {
-            var: *var,
-            val: *val,
-        })?;
-    }
-    Ok(list)
-}
+use symk_task::{Effect, Fact, List, Memory, Operator, Rule, Task, TaskParts, Variable};
 
 fn variable(
     alloc: Global,
-    text: &str,
+    called: &[u8],
     layer: Option<u32>,
-    first: &str,
-    second: &str,
+    first: &[u8],
+    second: &[u8],
 ) -> Result<Variable, Memory> {
     Ok(Variable {
-        name: name(alloc, text)?,
+        name: name(alloc, called)?,
         layer,
-        values: List::of(vec![in alloc; name(alloc, first)?, name(alloc, second)?]?),
+        values: two(alloc, name(alloc, first)?, name(alloc, second)?)?,
     })
 }
 
-fn effect(
-    alloc: Global,
-    conds: &[(u32, u32)],
-    pre: Option<u32>,
-    post: u32,
-) -> Result<Effect, Memory> {
-    Ok(Effect {
-        conds: facts(alloc, conds)?,
+fn variables(alloc: Global) -> Result<List<Variable>, Memory> {
+    two(
+        alloc,
+        variable(alloc, b"x", None, b"", b"x1")?,
+        variable(alloc, b"d", Some(7), b"no", b"yes")?,
+    )
+}
+
+fn effect(conds: List<Fact>, pre: Option<u32>, post: u32) -> Effect {
+    Effect {
+        conds,
         var: 0,
         pre,
         post,
+    }
+}
+
+fn effects(alloc: Global) -> Result<List<Effect>, Memory> {
+    let conds = two(alloc, fact(0, 0), fact(1, 0))?;
+    two(
+        alloc,
+        effect(conds, None, 1),
+        effect(none(alloc), Some(1), 0),
+    )
+}
+
+fn flip(alloc: Global) -> Result<Operator, Memory> {
+    Ok(Operator {
+        name: name(alloc, b"flip\r")?,
+        prevail: one(alloc, fact(1, 0))?,
+        effects: effects(alloc)?,
+        cost: u64::MAX,
     })
 }
 
-/// One switch, and an operator that switches it on.
-fn switch(alloc: Global) -> Result<TaskParts, Memory> {
-    let on = Operator {
-        name: name(alloc, "switch-on")?,
-        prevail: facts(alloc, &[])?,
-        effects: List::of(vec![in alloc; effect(alloc, &[], Some(0), 1)?]?),
-        cost: 1,
-    };
-    Ok(TaskParts {
-        metric: 0,
-        variables: List::of(vec![in alloc; variable(alloc, "var0", None, "off", "on")?]?),
-        mutexes: List::of(Vec::new(alloc)),
-        initial: List::of(vec![in alloc; 0]?),
-        goal: facts(alloc, &[(0, 1)])?,
-        operators: List::of(vec![in alloc; on]?),
-        rules: List::of(Vec::new(alloc)),
+fn raise(alloc: Global) -> Result<Rule, Memory> {
+    Ok(Rule {
+        conds: one(alloc, fact(0, 1))?,
+        var: 1,
+        new: 1,
     })
 }
 
 /// A task with something in each section, a name that ends with CR, and costs that the metric leaves out.
 fn full(alloc: Global) -> Result<TaskParts, Memory> {
-    let flip = Operator {
-        name: name(alloc, "flip\r")?,
-        prevail: facts(alloc, &[(1, 0)])?,
-        effects: List::of(vec![in alloc;
-            effect(alloc, &[(0, 0), (1, 0)], None, 1)?,
-            effect(alloc, &[], Some(1), 0)?,
-        ]?),
-        cost: u64::MAX,
-    };
-    let raise = Rule {
-        conds: facts(alloc, &[(0, 1)])?,
-        var: 1,
-        new: 1,
-    };
     Ok(TaskParts {
         metric: 0,
-        variables: List::of(vec![in alloc;
-            variable(alloc, "x", None, "", "x1")?,
-            variable(alloc, "d", Some(7), "no", "yes")?,
-        ]?),
-        mutexes: List::of(vec![in alloc; facts(alloc, &[(0, 0), (0, 1)])?]?),
-        initial: List::of(vec![in alloc; 0, 0]?),
-        goal: facts(alloc, &[(1, 1)])?,
-        operators: List::of(vec![in alloc; flip]?),
-        rules: List::of(vec![in alloc; raise]?),
+        variables: variables(alloc)?,
+        mutexes: one(alloc, two(alloc, fact(0, 0), fact(0, 1))?)?,
+        initial: two(alloc, 0, 0)?,
+        goal: one(alloc, fact(1, 1))?,
+        operators: one(alloc, flip(alloc)?)?,
+        rules: one(alloc, raise(alloc)?)?,
     })
 }
 
-/// What is written of a task, where the parts fit.
-fn written(alloc: Global, parts: TaskParts) -> Result<Option<Vec<u8>>, Memory> {
-    if parts.fits() {
-        Ok(Some(write_task(alloc, &Task::of(parts))?))
-    } else {
-        Ok(None)
-    }
+fn check_text(rt: &impl Abort, alloc: Global, task: &Task, text: &str) -> Result<(), Memory> {
+    let bytes = write_task(alloc, task)?;
+    assert!(rt; bytes.as_slice() == text.as_bytes());
+    Ok(())
 }
 
 const SWITCH: &str =
@@ -114,16 +91,14 @@ const FULL: &str =
 
 #[test]
 fn writes_the_lines_of_a_switch(rt: HostRuntime) -> Result<(), Fail> {
-    let alloc = rt.alloc();
-    let bytes = written(alloc, switch(alloc)?)?;
-    assert!(rt; bytes.is_some_and(|bytes| bytes.as_slice() == SWITCH.as_bytes()));
+    let task = one_switch(rt.alloc())?;
+    check_text(&rt, rt.alloc(), &task, SWITCH)?;
     Ok(())
 }
 
 #[test]
 fn writes_the_lines_of_each_section(rt: HostRuntime) -> Result<(), Fail> {
-    let alloc = rt.alloc();
-    let bytes = written(alloc, full(alloc)?)?;
-    assert!(rt; bytes.is_some_and(|bytes| bytes.as_slice() == FULL.as_bytes()));
+    let task = stated(full(rt.alloc())?).expect(&rt, "the parts fit");
+    check_text(&rt, rt.alloc(), &task, FULL)?;
     Ok(())
 }

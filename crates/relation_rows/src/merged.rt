@@ -6,87 +6,52 @@ ghost use Rattle.var_order.specs.Layout.{IsOrderOf};
 ghost use Rattle.transitions.specs.Relations.{IsSet};
 ghost use Rattle.trans_merge.specs.Merging.{IsRelation};
 
+use crate::sets::{no_diagrams, states, task_of};
 use axiom_layers::compile;
 use bdd_ops::Ops;
-use bdd_sets::state_set;
-use bdd_table::{FALSE, Id, Table};
+use bdd_table::{FALSE, Id};
+use small_tasks::{Draft, EffectDraft, OperatorDraft, VariableDraft};
 use std::alloc::Global;
 use std::process::Abort;
 use std::test::Fail;
-use symk_task::{Effect, Fact, List, Memory, Name, Operator, State, Task, TaskParts, Variable};
+use symk_task::{Memory, Task};
 use trans_merge::merge;
 use transitions::{Relation, image, relation};
 use var_order::Order;
 
-fn name(alloc: Global) -> Name {
-    Name::of(Vec::new(alloc))
-}
-
-/// The one variable.
-fn variables(alloc: Global) -> Result<List<Variable>, Memory> {
-    let mut values = List::of(Vec::new(alloc));
-    for _ in 0..3 {
-        values.push(name(alloc))?;
-    }
-    let mut variables = List::of(Vec::new(alloc));
-    variables.push(Variable {
-        name: name(alloc),
-        layer: None,
-        values,
-    })?;
-    Ok(variables)
-}
-
-/// The operator of cost 1 from one value to another.
-fn step(alloc: Global, pre: u32, post: u32) -> Result<Operator, Memory> {
-    let mut effects = List::of(Vec::new(alloc));
-    effects.push(Effect {
-        conds: List::of(Vec::new(alloc)),
-        var: 0,
-        pre: Some(pre),
-        post,
-    })?;
-    Ok(Operator {
-        name: name(alloc),
-        prevail: List::of(Vec::new(alloc)),
-        effects,
-        cost: 1,
-    })
-}
-
-fn operators(alloc: Global) -> Result<List<Operator>, Memory> {
-    let mut operators = List::of(Vec::new(alloc));
-    operators.push(step(alloc, 0, 1)?)?;
-    operators.push(step(alloc, 1, 2)?)?;
-    Ok(operators)
-}
-
-fn parts(alloc: Global) -> Result<TaskParts, Memory> {
-    let mut initial = List::of(Vec::new(alloc));
-    initial.push(0)?;
-    let mut goal = List::of(Vec::new(alloc));
-    goal.push(Fact { var: 0, val: 2 })?;
-    Ok(TaskParts {
-        metric: 1,
-        variables: variables(alloc)?,
-        mutexes: List::of(Vec::new(alloc)),
-        initial,
-        goal,
-        operators: operators(alloc)?,
-        rules: List::of(Vec::new(alloc)),
-    })
-}
-
 /// The operators lead from the first value to the second, and from there to the third.
-fn line(rt: &impl Abort, alloc: Global) -> Result<Task, Memory>
-    ensures { IfOk result (λ task. length task.operators ≡ 2) }
-{
-    let parts = parts(alloc)?;
-    assert!(rt; parts.fits());
-    let task = Task::of(parts);
-    assert_eq!(rt; task.operators(), 2);
-    Ok(task)
-}
+const LINE: Draft = Draft {
+    metric: 1,
+    variables: &[VariableDraft {
+        layer: None,
+        values: 3,
+    }],
+    initial: &[0],
+    goal: &[(0, 2)],
+    operators: &[
+        OperatorDraft {
+            name: b"",
+            effects: &[EffectDraft {
+                conds: &[],
+                var: 0,
+                pre: Some(0),
+                post: 1,
+            }],
+            cost: 1,
+        },
+        OperatorDraft {
+            name: b"",
+            effects: &[EffectDraft {
+                conds: &[],
+                var: 0,
+                pre: Some(1),
+                post: 2,
+            }],
+            cost: 1,
+        },
+    ],
+    rules: &[],
+};
 
 /// The relations of both operators.
 fn members(
@@ -106,43 +71,6 @@ fn members(
     members.push(first)?;
     members.push(second)?;
     Ok(members)
-}
-
-/// The set of the state with this value.
-fn state(
-    rt: &impl Abort,
-    alloc: Global,
-    order: &Order,
-    ops: &mut Ops,
-    value: u32,
-) -> Result<Id, Memory>
-    ensures known { IfOk result (λ id. id < length ops.new) }
-    ensures states { IfOk result (λ id. IsSet order.now (means ops.new id)) }
-    ensures kept { Keeps ops.old ops.new }
-{
-    let mut values = Vec::new(alloc);
-    values.push(value)?;
-    let state = State::of(values);
-    assert!(rt; order.is_state(&state));
-    state_set(ops, order, &state)
-}
-
-/// The set of the two states with these values.
-fn states(
-    rt: &impl Abort,
-    alloc: Global,
-    order: &Order,
-    ops: &mut Ops,
-    values: (u32, u32),
-) -> Result<Id, Memory>
-    ensures known { IfOk result (λ id. id < length ops.new) }
-    ensures states { IfOk result (λ id. IsSet order.now (means ops.new id)) }
-    ensures kept { Keeps ops.old ops.new }
-{
-    let _ = order.blocks();
-    let first = state(rt, alloc, order, ops, values.0)?;
-    let second = state(rt, alloc, order, ops, values.1)?;
-    ops.disj(first, second)
 }
 
 /// The union of the images of the set by the relations.
@@ -174,18 +102,36 @@ fn check_merged(
     let (bound, count) = row;
     let results = merge(alloc, order, ops, members, bound)?;
     assert_eq!(rt; results.len(), count);
-    let from = states(rt, alloc, order, ops, (0, 1))?;
+    let from = states(rt, alloc, order, ops, (&[0], &[1]))?;
     let to = images(ops, order, &results, from)?;
-    assert_eq!(rt; to, states(rt, alloc, order, ops, (1, 2))?);
+    assert_eq!(rt; to, states(rt, alloc, order, ops, (&[1], &[2]))?);
     Ok(())
 }
 
+fn check_order(
+    rt: &impl Abort,
+    alloc: Global,
+    task: &Task,
+    order: &Order,
+    row: (u64, usize),
+) -> Result<(), Fail>
+    requires order { IsOrderOf task.now order.now }
+    requires operators { length task.now.operators ≡ 2 }
+{
+    let mut ops = no_diagrams(alloc)?;
+    let members = members(alloc, task, order, &mut ops)?;
+    check_merged(rt, alloc, order, &mut ops, members, row)
+}
+
+fn check_task(rt: &impl Abort, alloc: Global, task: &Task, row: (u64, usize)) -> Result<(), Fail> {
+    assert_eq!(rt; task.operators(), 2);
+    let order = Order::of(alloc, task)?;
+    check_order(rt, alloc, task, &order, row)
+}
+
 fn check(rt: &impl Abort, alloc: Global, row: (u64, usize)) -> Result<(), Fail> {
-    let task = line(rt, alloc)?;
-    let order = Order::of(alloc, &task)?;
-    let mut ops = Ops::new(Table::new(alloc)?, 100)?;
-    let members = members(alloc, &task, &order, &mut ops)?;
-    check_merged(rt, alloc, &order, &mut ops, members, row)
+    let task = task_of(rt, alloc, &LINE)?;
+    check_task(rt, alloc, &task, row)
 }
 
 #[test]
@@ -198,12 +144,21 @@ fn each_by_itself(rt: HostRuntime) -> Result<(), Fail> {
     check(&rt, rt.alloc(), (0, 2))
 }
 
+fn check_nothing(rt: &impl Abort, alloc: Global, order: &Order) -> Result<(), Memory> {
+    let mut ops = no_diagrams(alloc)?;
+    let results = merge(alloc, order, &mut ops, Vec::new(alloc), 1000)?;
+    assert!(rt; results.is_empty());
+    Ok(())
+}
+
+fn check_no_members(rt: &impl Abort, alloc: Global, task: &Task) -> Result<(), Memory> {
+    let order = Order::of(alloc, task)?;
+    check_nothing(rt, alloc, &order)
+}
+
 #[test]
 fn nothing(rt: HostRuntime) -> Result<(), Fail> {
-    let alloc = rt.alloc();
-    let order = Order::of(alloc, &line(&rt, alloc)?)?;
-    let mut ops = Ops::new(Table::new(alloc)?, 100)?;
-    let results = merge(alloc, &order, &mut ops, Vec::new(alloc), 1000)?;
-    assert!(rt; results.is_empty());
+    let task = task_of(&rt, rt.alloc(), &LINE)?;
+    check_no_members(&rt, rt.alloc(), &task)?;
     Ok(())
 }

@@ -7,82 +7,61 @@ ghost use Rattle.var_order.specs.Layout.{IsOrderOf};
 ghost use Rattle.transitions.specs.Relations.{IsSet};
 ghost use Rattle.operator_relations.specs.Relations.{AreRelationsOf};
 
+use crate::sets::{no_diagrams, states, task_of};
 use axiom_layers::compile;
 use bdd_ops::Ops;
-use bdd_sets::state_set;
-use bdd_table::{FALSE, Id, Table, TableFault};
+use bdd_table::{FALSE, Id, TableFault};
 use operator_relations::OperatorRelations;
+use small_tasks::{Draft, EffectDraft, OperatorDraft, VariableDraft};
 use std::alloc::Global;
 use std::process::Abort;
 use std::test::Fail;
-use symk_task::{Effect, Fact, List, Memory, Name, Operator, State, Task, TaskParts, Variable};
+use symk_task::{Memory, Task};
 use var_order::Order;
 
-fn name(alloc: Global) -> Name {
-    Name::of(Vec::new(alloc))
-}
-
-/// The one variable.
-fn variables(alloc: Global) -> Result<List<Variable>, Memory> {
-    let mut values = List::of(Vec::new(alloc));
-    for _ in 0..3 {
-        values.push(name(alloc))?;
-    }
-    let mut variables = List::of(Vec::new(alloc));
-    variables.push(Variable {
-        name: name(alloc),
+/// The operators of cost 1 lead to the next value, and that of cost 2 from the last to the first.
+const RING: Draft = Draft {
+    metric: 1,
+    variables: &[VariableDraft {
         layer: None,
-        values,
-    })?;
-    Ok(variables)
-}
-
-/// The operator of this cost from one value to another.
-fn step(alloc: Global, pre: u32, post: u32, cost: u64) -> Result<Operator, Memory> {
-    let mut effects = List::of(Vec::new(alloc));
-    effects.push(Effect {
-        conds: List::of(Vec::new(alloc)),
-        var: 0,
-        pre: Some(pre),
-        post,
-    })?;
-    Ok(Operator {
-        name: name(alloc),
-        prevail: List::of(Vec::new(alloc)),
-        effects,
-        cost,
-    })
-}
-
-fn operators(alloc: Global) -> Result<List<Operator>, Memory> {
-    let mut operators = List::of(Vec::new(alloc));
-    operators.push(step(alloc, 0, 1, 1)?)?;
-    operators.push(step(alloc, 1, 2, 1)?)?;
-    operators.push(step(alloc, 2, 0, 2)?)?;
-    Ok(operators)
-}
-
-fn parts(alloc: Global) -> Result<TaskParts, Memory> {
-    let mut initial = List::of(Vec::new(alloc));
-    initial.push(0)?;
-    let mut goal = List::of(Vec::new(alloc));
-    goal.push(Fact { var: 0, val: 2 })?;
-    Ok(TaskParts {
-        metric: 1,
-        variables: variables(alloc)?,
-        mutexes: List::of(Vec::new(alloc)),
-        initial,
-        goal,
-        operators: operators(alloc)?,
-        rules: List::of(Vec::new(alloc)),
-    })
-}
-
-fn ring(rt: &impl Abort, alloc: Global) -> Result<Task, Memory> {
-    let parts = parts(alloc)?;
-    assert!(rt; parts.fits());
-    Ok(Task::of(parts))
-}
+        values: 3,
+    }],
+    initial: &[0],
+    goal: &[(0, 2)],
+    operators: &[
+        OperatorDraft {
+            name: b"",
+            effects: &[EffectDraft {
+                conds: &[],
+                var: 0,
+                pre: Some(0),
+                post: 1,
+            }],
+            cost: 1,
+        },
+        OperatorDraft {
+            name: b"",
+            effects: &[EffectDraft {
+                conds: &[],
+                var: 0,
+                pre: Some(1),
+                post: 2,
+            }],
+            cost: 1,
+        },
+        OperatorDraft {
+            name: b"",
+            effects: &[EffectDraft {
+                conds: &[],
+                var: 0,
+                pre: Some(2),
+                post: 0,
+            }],
+            cost: 2,
+        },
+    ],
+    rules: &[],
+};
 
 /// The relations of the task, joined up to so many nodes.
 fn relations_of(
@@ -97,43 +76,6 @@ fn relations_of(
 {
     let derived = compile(alloc, task, order, ops)?;
     OperatorRelations::of(alloc, task, order, ops, &derived, bound)
-}
-
-/// The set of the state with this value.
-fn state(
-    rt: &impl Abort,
-    alloc: Global,
-    order: &Order,
-    ops: &mut Ops,
-    value: u32,
-) -> Result<Id, Memory>
-    ensures known { IfOk result (λ id. id < length ops.new) }
-    ensures states { IfOk result (λ id. IsSet order.now (means ops.new id)) }
-    ensures kept { Keeps ops.old ops.new }
-{
-    let mut values = Vec::new(alloc);
-    values.push(value)?;
-    let state = State::of(values);
-    assert!(rt; order.is_state(&state));
-    state_set(ops, order, &state)
-}
-
-/// The set of the two states with these values.
-fn states(
-    rt: &impl Abort,
-    alloc: Global,
-    order: &Order,
-    ops: &mut Ops,
-    values: (u32, u32),
-) -> Result<Id, Memory>
-    ensures known { IfOk result (λ id. id < length ops.new) }
-    ensures states { IfOk result (λ id. IsSet order.now (means ops.new id)) }
-    ensures kept { Keeps ops.old ops.new }
-{
-    let _ = order.blocks();
-    let first = state(rt, alloc, order, ops, values.0)?;
-    let second = state(rt, alloc, order, ops, values.1)?;
-    ops.disj(first, second)
 }
 
 /// What can be asked of a set: its image or preimage, by an operator or by a cost.
@@ -217,7 +159,7 @@ fn expected(
     ensures kept { Keeps ops.old ops.new }
 {
     match answer {
-        Some(values) => states(rt, alloc, order, ops, values),
+        Some(values) => states(rt, alloc, order, ops, (&[values.0], &[values.1])),
         None => Ok(FALSE),
     }
 }
@@ -234,7 +176,7 @@ fn check_row(
     requires { AreRelationsOf task.now order.now ops.old relations.now }
     ensures { Keeps ops.old ops.new }
 {
-    let set = states(rt, alloc, order, ops, row.set)?;
+    let set = states(rt, alloc, order, ops, (&[row.set.0], &[row.set.1]))?;
     let found = ask(rt, task, order, ops, relations, &row.question, set)?;
     assert_eq!(rt; found, expected(rt, alloc, order, ops, row.answer)?);
     Ok(())
@@ -313,11 +255,27 @@ fn check_relations(
     check_answers(rt, alloc, task, order, ops, &mut relations)
 }
 
+fn check_order(
+    rt: &impl Abort,
+    alloc: Global,
+    task: &Task,
+    order: &Order,
+    row: (u64, usize),
+) -> Result<(), Fail>
+    requires { IsOrderOf task.now order.now }
+{
+    let mut ops = no_diagrams(alloc)?;
+    check_relations(rt, alloc, task, order, &mut ops, row)
+}
+
+fn check_task(rt: &impl Abort, alloc: Global, task: &Task, row: (u64, usize)) -> Result<(), Fail> {
+    let order = Order::of(alloc, task)?;
+    check_order(rt, alloc, task, &order, row)
+}
+
 fn check(rt: &impl Abort, alloc: Global, row: (u64, usize)) -> Result<(), Fail> {
-    let task = ring(rt, alloc)?;
-    let order = Order::of(alloc, &task)?;
-    let mut ops = Ops::new(Table::new(alloc)?, 100)?;
-    check_relations(rt, alloc, &task, &order, &mut ops, row)
+    let task = task_of(rt, alloc, &RING)?;
+    check_task(rt, alloc, &task, row)
 }
 
 /// Three operators and one relation for each cost.

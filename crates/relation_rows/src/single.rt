@@ -1,155 +1,30 @@
 //! Worked rows.
 
-ghost use Rattle.std.specs.Prelude.{◌<◌, length, IfOk};
-ghost use Rattle.bdd_table.specs.Diagram.{means, Keeps};
+ghost use Rattle.std.specs.Prelude.{◌<◌, length};
+ghost use Rattle.bdd_table.specs.Diagram.{means};
 ghost use Rattle.var_order.specs.Layout.{IsOrderOf};
 ghost use Rattle.transitions.specs.Relations.{IsSet};
 
+use crate::sets::{no_diagrams, state, states, task_of};
 use axiom_layers::compile;
 use bdd_ops::Ops;
-use bdd_sets::state_set;
-use bdd_table::{Id, Table};
+use bdd_table::Id;
+use small_tasks::{Draft, EffectDraft, OperatorDraft, VariableDraft};
 use std::alloc::Global;
 use std::process::Abort;
 use std::test::Fail;
-use symk_task::{Effect, Fact, List, Memory, Name, Operator, State, Task, TaskParts, Variable};
+use symk_task::{Memory, Task};
 use transitions::{image, preimage, relation};
 use var_order::Order;
 
-fn name(alloc: Global) -> Name {
-    Name::of(Vec::new(alloc))
-}
-
-fn facts(alloc: Global, rows: &[(u32, u32)]) -> Result<List<Fact>, Memory> {
-    let mut facts = Vec::new(alloc);
-    for row in rows {
-        facts.push(Fact {
-            var: row.0,
-            val: row.1,
-        })?;
-    }
-    Ok(List::of(facts))
-}
-
-/// The names of so many values.
-fn values(alloc: Global, count: usize) -> Result<List<Name>, Memory> {
-    let mut values = Vec::new(alloc);
-    for _ in 0..count {
-        values.push(name(alloc))?;
-    }
-    Ok(List::of(values))
-}
-
-/// Variables with so many values.
-fn variables(alloc: Global, counts: &[usize]) -> Result<List<Variable>, Memory> {
-    let mut variables = Vec::new(alloc);
-    for count in counts {
-        let values = values(alloc, *count)?;
-        variables.push(Variable {
-            name: name(alloc),
-            layer: None,
-            values,
-        })?;
-    }
-    Ok(List::of(variables))
-}
-
-/// Effects by their conditions, variable, value before, and value after.
-type EffectRow<'a> = (&'a [(u32, u32)], u32, Option<u32>, u32);
-
-fn effects(alloc: Global, rows: &[EffectRow]) -> Result<List<Effect>, Memory> {
-    let mut effects = Vec::new(alloc);
-    for row in rows {
-        let conds = facts(alloc, row.0)?;
-        effects.push(Effect {
-            conds,
-            var: row.1,
-            pre: row.2,
-            post: row.3,
-        })?;
-    }
-    Ok(List::of(effects))
-}
-
-/// One operator of cost 1 without prevail facts.
-fn operators(alloc: Global, rows: &[EffectRow]) -> Result<List<Operator>, Memory> {
-    let mut operators = List::of(Vec::new(alloc));
-    let effects = effects(alloc, rows)?;
-    operators.push(Operator {
-        name: name(alloc),
-        prevail: List::of(Vec::new(alloc)),
-        effects,
-        cost: 1,
-    })?;
-    Ok(operators)
-}
-
-/// The numbers of values of the variables, the effects of the operator, and the places that it touches. It leads from
-/// the states of the two lists of values to that of one, and to this from those of two.
+/// A task of one operator, and the places that it touches. It leads from the states of the two lists of values to that
+/// of one, and to this from those of two.
 struct Row<'a> {
-    counts: &'a [usize],
-    effects: &'a [EffectRow<'a>],
+    draft: Draft<'a>,
     touched: &'a [u32],
     from: (&'a [u32], &'a [u32]),
     to: &'a [u32],
     back: (&'a [u32], &'a [u32]),
-}
-
-fn parts(alloc: Global, row: &Row) -> Result<TaskParts, Memory> {
-    let mut parts = TaskParts {
-        metric: 0,
-        variables: List::of(Vec::new(alloc)),
-        mutexes: List::of(Vec::new(alloc)),
-        initial: List::of(Vec::new(alloc)),
-        goal: List::of(Vec::new(alloc)),
-        operators: List::of(Vec::new(alloc)),
-        rules: List::of(Vec::new(alloc)),
-    };
-    parts.variables = variables(alloc, row.counts)?;
-    parts.initial = List::of(Vec::from_slice(alloc, row.to)?);
-    parts.goal = facts(alloc, &[(0, 1)])?;
-    parts.operators = operators(alloc, row.effects)?;
-    Ok(parts)
-}
-
-fn task(rt: &impl Abort, alloc: Global, row: &Row) -> Result<Task, Memory> {
-    let parts = parts(alloc, row)?;
-    assert!(rt; parts.fits());
-    Ok(Task::of(parts))
-}
-
-/// The set of the state.
-fn state(
-    rt: &impl Abort,
-    alloc: Global,
-    order: &Order,
-    ops: &mut Ops,
-    values: &[u32],
-) -> Result<Id, Memory>
-    ensures known { IfOk result (λ id. id < length ops.new) }
-    ensures states { IfOk result (λ id. IsSet order.now (means ops.new id)) }
-    ensures kept { Keeps ops.old ops.new }
-{
-    let state = State::of(Vec::from_slice(alloc, values)?);
-    assert!(rt; order.is_state(&state));
-    state_set(ops, order, &state)
-}
-
-/// The set of the two states.
-fn states(
-    rt: &impl Abort,
-    alloc: Global,
-    order: &Order,
-    ops: &mut Ops,
-    values: (&[u32], &[u32]),
-) -> Result<Id, Memory>
-    ensures known { IfOk result (λ id. id < length ops.new) }
-    ensures states { IfOk result (λ id. IsSet order.now (means ops.new id)) }
-{
-    let _ = order.blocks();
-    let first = state(rt, alloc, order, ops, values.0)?;
-    let second = state(rt, alloc, order, ops, values.1)?;
-    ops.disj(first, second)
 }
 
 /// The image of the set by the operator.
@@ -233,20 +108,76 @@ fn check_preimage(
     Ok(())
 }
 
-fn check(rt: &impl Abort, alloc: Global, row: &Row) -> Result<(), Fail> {
-    let task = task(rt, alloc, row)?;
-    assert_eq!(rt; task.operators(), 1);
-    let order = Order::of(alloc, &task)?;
-    let mut ops = Ops::new(Table::new(alloc)?, 100)?;
-    check_touched(rt, alloc, &task, &order, &mut ops, row.touched)?;
-    check_image(rt, alloc, &task, &order, &mut ops, row)?;
-    check_preimage(rt, alloc, &task, &order, &mut ops, row)
+fn check_row(
+    rt: &impl Abort,
+    alloc: Global,
+    task: &Task,
+    order: &Order,
+    ops: &mut Ops,
+    row: &Row,
+) -> Result<(), Fail>
+    requires order { IsOrderOf task.now order.now }
+    requires op { 0 < length task.now.operators }
+{
+    check_touched(rt, alloc, task, order, ops, row.touched)?;
+    check_image(rt, alloc, task, order, ops, row)?;
+    check_preimage(rt, alloc, task, order, ops, row)
 }
+
+fn check_order(
+    rt: &impl Abort,
+    alloc: Global,
+    task: &Task,
+    order: &Order,
+    row: &Row,
+) -> Result<(), Fail>
+    requires order { IsOrderOf task.now order.now }
+    requires op { 0 < length task.now.operators }
+{
+    let mut ops = no_diagrams(alloc)?;
+    check_row(rt, alloc, task, order, &mut ops, row)
+}
+
+fn check_task(rt: &impl Abort, alloc: Global, task: &Task, row: &Row) -> Result<(), Fail> {
+    assert_eq!(rt; task.operators(), 1);
+    let order = Order::of(alloc, task)?;
+    check_order(rt, alloc, task, &order, row)
+}
+
+fn check(rt: &impl Abort, alloc: Global, row: &Row) -> Result<(), Fail> {
+    let task = task_of(rt, alloc, &row.draft)?;
+    check_task(rt, alloc, &task, row)
+}
+
+const TWO: VariableDraft = VariableDraft {
+    layer: None,
+    values: 2,
+};
+
+const THREE: VariableDraft = VariableDraft {
+    layer: None,
+    values: 3,
+};
 
 /// The operator moves a variable with three values from the first to the second, and applies nowhere else.
 const LINE: Row = Row {
-    counts: &[3],
-    effects: &[(&[], 0, Some(0), 1)],
+    draft: Draft {
+        metric: 0,
+        variables: &[THREE],
+        initial: &[1],
+        goal: &[(0, 1)],
+        operators: &[OperatorDraft {
+            name: b"",
+            effects: &[EffectDraft {
+                conds: &[],
+                var: 0,
+                pre: Some(0),
+                post: 1,
+            }],
+            cost: 1,
+        }],
+        rules: &[],
+    },
     touched: &[0, 1],
     from: (&[0], &[1]),
     to: &[1],
@@ -255,13 +186,43 @@ const LINE: Row = Row {
 
 /// The operator exchanges two variables.
 const EXCHANGE: Row = Row {
-    counts: &[2, 2],
-    effects: &[
-        (&[(1, 0)], 0, None, 0),
-        (&[(1, 1)], 0, None, 1),
-        (&[(0, 0)], 1, None, 0),
-        (&[(0, 1)], 1, None, 1),
-    ],
+    draft: Draft {
+        metric: 0,
+        variables: &[TWO, TWO],
+        initial: &[1, 0],
+        goal: &[(0, 1)],
+        operators: &[OperatorDraft {
+            name: b"",
+            effects: &[
+                EffectDraft {
+                    conds: &[(1, 0)],
+                    var: 0,
+                    pre: None,
+                    post: 0,
+                },
+                EffectDraft {
+                    conds: &[(1, 1)],
+                    var: 0,
+                    pre: None,
+                    post: 1,
+                },
+                EffectDraft {
+                    conds: &[(0, 0)],
+                    var: 1,
+                    pre: None,
+                    post: 0,
+                },
+                EffectDraft {
+                    conds: &[(0, 1)],
+                    var: 1,
+                    pre: None,
+                    post: 1,
+                },
+            ],
+            cost: 1,
+        }],
+        rules: &[],
+    },
     touched: &[0, 1],
     from: (&[0, 1], &[0, 1]),
     to: &[1, 0],
@@ -270,8 +231,31 @@ const EXCHANGE: Row = Row {
 
 /// The operator changes one variable twice.
 const ON_THEN_OFF: Row = Row {
-    counts: &[2],
-    effects: &[(&[], 0, None, 1), (&[], 0, None, 0)],
+    draft: Draft {
+        metric: 0,
+        variables: &[TWO],
+        initial: &[0],
+        goal: &[(0, 1)],
+        operators: &[OperatorDraft {
+            name: b"",
+            effects: &[
+                EffectDraft {
+                    conds: &[],
+                    var: 0,
+                    pre: None,
+                    post: 1,
+                },
+                EffectDraft {
+                    conds: &[],
+                    var: 0,
+                    pre: None,
+                    post: 0,
+                },
+            ],
+            cost: 1,
+        }],
+        rules: &[],
+    },
     touched: &[0],
     from: (&[0], &[1]),
     to: &[0],

@@ -2,7 +2,7 @@ use Rattle.std.proofs.Common.{◌||◌, refl}
 use Rattle.bdd_table.specs.Diagram.{means}
 use Rattle.bdd_table.proofs.Adding.{ok_by}
 use Rattle.transitions.proofs.Using.{set_by, set_alike}
-use Rattle.relation_rows.proofs.merged.states.Goals as goal
+use Rattle.relation_rows.proofs.sets.states.Goals as goal
 
 pub returns-clause-states : goal.returns-clause-states
 returns-clause-states g c =

@@ -6,13 +6,20 @@ use bidirectional::{Choice, Choose, Lighter};
 /// How many steps one side takes in a row before the other has one, where the side isn't asked for.
 const PATIENCE: u32 = 1000;
 
+/// How much work the steps are together, by the space's count, before it matters which side's are light: some
+/// hundredths of a second.
+const TRIFLE: u64 = 1 << 16;
+
 /// A choice by which no side waits for ever: one type for all directions, so that there is one engine.
 ///
 /// A light side, or one that is known below a low cost, could go on cost by cost for ever where the other would soon
-/// be shut.
+/// be shut. While the steps are a trifle together they count as equally light: so the sides meet in the middle of the
+/// plans, where little work is to be saved by the choice, and much for each plan that is listed.
 #[derive(Clone, Copy, Debug)]
 pub struct Patient {
     choice: Choice,
+    // How much work the steps so far were, up to the range.
+    spent: u64,
     // The side of the last step, and how many it has taken in a row.
     forward: bool,
     steps: u32,
@@ -29,6 +36,7 @@ impl Patient {
         };
         Patient {
             choice,
+            spent: 0,
             forward: false,
             steps: 0,
         }
@@ -52,7 +60,9 @@ impl Choose for Patient {
     }
 
     fn note_step(&mut self, forward: bool, work: u64) {
-        self.choice.note_step(forward, work);
+        let counted = if self.spent < TRIFLE { 0 } else { work };
+        self.spent = self.spent.saturating_add(work);
+        self.choice.note_step(forward, counted);
         if self.forward != forward {
             self.forward = forward;
             self.steps = 0;

@@ -60,8 +60,8 @@ impl Choose for Patient {
     }
 
     fn note_step(&mut self, forward: bool, work: u64) {
-        let counted = if self.spent < TRIFLE { 0 } else { work };
         self.spent = self.spent.saturating_add(work);
+        let counted = if self.spent < TRIFLE { 0 } else { work };
         self.choice.note_step(forward, counted);
         if self.forward != forward {
             self.forward = forward;

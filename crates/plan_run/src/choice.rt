@@ -8,7 +8,7 @@ const PATIENCE: u32 = 1000;
 
 /// How much work the steps are together, by the space's count, before it matters which side's are light: some
 /// hundredths of a second.
-const TRIFLE: u64 = 1 << 16;
+const TRIFLE: u64 = 1 << 18;
 
 /// A choice by which no side waits for ever: one type for all directions, so that there is one engine.
 ///

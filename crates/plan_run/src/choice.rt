@@ -26,7 +26,7 @@ pub struct Patient {
 }
 
 impl Patient {
-    /// The choice of a direction. The program's own is the side whose last step made less.
+    /// The choice of a direction. The program's own is the side whose last step was less work, once that matters.
     pub fn of(direction: Direction) -> Patient {
         let choice = match direction {
             Direction::Auto => Choice::Lighter(Lighter::new()),

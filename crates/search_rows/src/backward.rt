@@ -13,6 +13,7 @@ use space_api::{Space, SpaceFault};
 use std::alloc::Global;
 use std::process::Abort;
 use std::test::Fail;
+use symk_task::Task;
 
 fn begin<S: Space>(alloc: Global, space: &mut S, kind: Kind) -> Result<Backward<S::Set>, SpaceFault>
     ensures { IfOk result (IsBackward (S.view space.new)) }
@@ -98,13 +99,17 @@ fn holds_once_each<S: Space + Drop>(
     once_each(rt, alloc, &mut space)
 }
 
+fn both_hold_once_each(rt: &impl Abort, alloc: Global, task: &Task) -> Result<(), SpaceFault> {
+    holds_once_each(rt, alloc, ExplicitSpace::of(alloc, task)?)?;
+    holds_once_each(rt, alloc, BddSpace::of(alloc, task)?)
+}
+
 #[test]
 fn kept_once_each_state_stands_at_its_least_cost_and_the_search_closes(
     rt: HostRuntime,
 ) -> Result<(), Fail> {
     let task = switch_and_back(rt.alloc())?;
-    holds_once_each(&rt, rt.alloc(), ExplicitSpace::of(rt.alloc(), &task)?)?;
-    holds_once_each(&rt, rt.alloc(), BddSpace::of(rt.alloc(), &task)?)?;
+    both_hold_once_each(&rt, rt.alloc(), &task)?;
     Ok(())
 }
 
@@ -133,10 +138,19 @@ fn each_time<S: Space>(rt: &impl Abort, alloc: Global, space: &mut S) -> Result<
     Ok(())
 }
 
+fn holds_each_time<S: Space + Drop>(
+    rt: &impl Abort,
+    alloc: Global,
+    space: S,
+) -> Result<(), SpaceFault> {
+    let mut space = space;
+    each_time(rt, alloc, &mut space)
+}
+
 #[test]
 fn kept_each_time_the_goal_states_come_back_until_all_are_cut(rt: HostRuntime) -> Result<(), Fail> {
     let task = no_plan(rt.alloc())?;
-    each_time(&rt, rt.alloc(), &mut ExplicitSpace::of(rt.alloc(), &task)?)?;
+    holds_each_time(&rt, rt.alloc(), ExplicitSpace::of(rt.alloc(), &task)?)?;
     Ok(())
 }
 

@@ -13,6 +13,7 @@ use space_api::{Space, SpaceFault};
 use std::alloc::Global;
 use std::process::Abort;
 use std::test::Fail;
+use symk_task::Task;
 
 fn begin<S: Space>(alloc: Global, space: &mut S) -> Result<Forward<S::Set>, SpaceFault>
     ensures { IfOk result (IsForward (S.view space.new)) }
@@ -85,13 +86,17 @@ fn has_two_layers<S: Space + Drop>(
     two_layers(rt, alloc, &mut space)
 }
 
+fn both_have_two_layers(rt: &impl Abort, alloc: Global, task: &Task) -> Result<(), SpaceFault> {
+    has_two_layers(rt, alloc, ExplicitSpace::of(alloc, task)?)?;
+    has_two_layers(rt, alloc, BddSpace::of(alloc, task)?)
+}
+
 #[test]
 fn each_layer_has_what_its_cost_reaches_and_an_empty_one_closes(
     rt: HostRuntime,
 ) -> Result<(), Fail> {
     let task = zero_costs(rt.alloc())?;
-    has_two_layers(&rt, rt.alloc(), ExplicitSpace::of(rt.alloc(), &task)?)?;
-    has_two_layers(&rt, rt.alloc(), BddSpace::of(rt.alloc(), &task)?)?;
+    both_have_two_layers(&rt, rt.alloc(), &task)?;
     Ok(())
 }
 
@@ -125,12 +130,21 @@ fn is_beyond<S: Space>(
     Ok(forward.layers().beyond())
 }
 
+fn is_beyond_unless_cut<S: Space + Drop>(
+    rt: &impl Abort,
+    alloc: Global,
+    space: S,
+) -> Result<(), SpaceFault> {
+    let mut space = space;
+    assert!(rt; !is_beyond(rt, alloc, &mut space, true)?);
+    assert!(rt; is_beyond(rt, alloc, &mut space, false)?);
+    Ok(())
+}
+
 #[test]
 fn a_cost_past_the_range_is_marked_unless_its_states_were_cut(rt: HostRuntime) -> Result<(), Fail> {
     let task = past_64_bits(rt.alloc())?;
-    let mut space = ExplicitSpace::of(rt.alloc(), &task)?;
-    assert!(rt; !is_beyond(&rt, rt.alloc(), &mut space, true)?);
-    assert!(rt; is_beyond(&rt, rt.alloc(), &mut space, false)?);
+    is_beyond_unless_cut(&rt, rt.alloc(), ExplicitSpace::of(rt.alloc(), &task)?)?;
     Ok(())
 }
 

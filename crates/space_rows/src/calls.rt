@@ -5,6 +5,7 @@ ghost use Rattle.std.specs.Prelude.{◌≡◌, IfOk};
 ghost use Rattle.space_api.specs.View.{Valid};
 ghost use Rattle.space_api.specs.Frames.{Kept, Stays};
 
+use explicit_space::FuseSpace;
 use space_api::{Space, SpaceFault};
 use std::alloc::Global;
 use std::process::Abort;
@@ -170,11 +171,32 @@ pub fn tried<S: Space + Drop>(rt: &impl Abort, space: S) -> Result<u64, SpaceFau
 }
 
 /// Whether the space is tidied, and how many nodes it then holds and needed last.
-pub fn tidied<S: Space>(space: &mut S) -> (bool, usize, usize)
+fn tidied<S: Space>(space: &mut S) -> (bool, usize, usize)
     ensures stays { Stays (S.view space.old) (S.view space.new) }
     ensures held { result.1 ≡ (S.view space.new).held }
     ensures last { result.2 ≡ (S.view space.new).last }
 {
     let tidied = space.tidy().is_ok();
     (tidied, space.held(), space.last())
+}
+
+/// A space of single states holds no node, is tidied, and has its set after it.
+pub fn holds_no_node<S: Space + Drop>(rt: &impl Abort, space: S) -> Result<(), SpaceFault> {
+    let mut space = space;
+    let init = space.init()?;
+    assert_eq!(rt; space.held(), 0);
+    assert_eq!(rt; space.last(), 0);
+    assert_eq!(rt; tidied(&mut space), (true, 0, 0));
+    assert!(rt; space.has_init(init));
+    Ok(())
+}
+
+/// With one call left the space is tidied, and with none left neither that nor a set is given.
+pub fn tidied_once<S: Space + Drop>(rt: &impl Abort, space: S) -> Result<(), SpaceFault> {
+    let mut fuse = FuseSpace::new(space, 1);
+    assert_eq!(rt; tidied(&mut fuse), (true, 0, 0));
+    assert!(rt; fuse.left == 0);
+    assert_eq!(rt; tidied(&mut fuse), (false, 0, 0));
+    assert!(rt; fuse.init().is_err());
+    Ok(())
 }

@@ -5,8 +5,8 @@
 #![tactic(auto)]
 
 #[cfg(test)]
+mod both;
+#[cfg(test)]
 mod calls;
 #[cfg(test)]
 mod explicit;
-#[cfg(test)]
-mod symbolic;

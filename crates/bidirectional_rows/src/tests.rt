@@ -126,17 +126,16 @@ fn are_cuts(row: Row, cuts: &[Cut]) -> bool {
     }
 }
 
+/// Whether the row is met over the space.
+fn is_met_over(alloc: Global, diagrams: bool, row: Row) -> Result<bool, Memory> {
+    let task = task_of(alloc, row.task)?;
+    let found = settles(alloc, diagrams, &task, row.choose, row.most, row.cost)?;
+    Ok(are_cuts(row, &found.first) && are_cuts(row, &found.all))
+}
+
 /// Whether the row is met over each space.
 fn is_met(alloc: Global, row: Row) -> Result<bool, Memory> {
-    let task = task_of(alloc, row.task)?;
-    let sets = settles(alloc, false, &task, row.choose, row.most, row.cost)?;
-    let diagrams = settles(alloc, true, &task, row.choose, row.most, row.cost)?;
-    Ok(
-        are_cuts(row, &sets.first)
-            && are_cuts(row, &sets.all)
-            && are_cuts(row, &diagrams.first)
-            && are_cuts(row, &diagrams.all),
-    )
+    Ok(is_met_over(alloc, false, row)? && is_met_over(alloc, true, row)?)
 }
 
 /// Rows of the switch, once costs up to 5 are settled.

@@ -7,7 +7,7 @@
 //! states against the space over decision diagrams on 200 such tasks, and on more of them the calls that
 //! `agree` doesn't draw: the states where a fact holds, and the operators that lead into a set and on from it.
 //! It stands on `space_api` for what a space is, on `task_draws` for numbers that are drawn, and, for its tests
-//! alone, on `explicit_space` and `bdd_space`.
+//! alone, on `explicit_space`, `bdd_space` and `small_tasks`.
 #![tactic(auto)]
 
 mod agreeing;

@@ -5,6 +5,7 @@ mod facts;
 use crate::agree;
 use bdd_space::BddSpace;
 use explicit_space::ExplicitSpace;
+use small_tasks::stated;
 use std::alloc::Global;
 use std::test::Fail;
 use symk_task::{List, Memory, Operator, Task, TaskParts};
@@ -37,9 +38,28 @@ fn has_conditions(parts: &TaskParts) -> bool {
     false
 }
 
+/// What is found of a task that a seed draws.
+#[derive(Clone, Copy)]
+struct Findings {
+    agrees: bool,
+    has_rules: bool,
+    has_conditions: bool,
+}
+
+/// What is found of the task that the seed draws, where it draws one.
+fn look_at(alloc: Global, seed: u64) -> Result<Option<Findings>, Memory> {
+    match random_task(alloc, seed)? {
+        Some(task) => Ok(Some(Findings {
+            agrees: agrees(alloc, &task, &task, seed)?,
+            has_rules: !task.parts().rules.is_empty(),
+            has_conditions: has_conditions(task.parts()),
+        })),
+        None => Ok(None),
+    }
+}
+
 #[test]
 fn both_spaces_agree_on_two_hundred_tasks(rt: HostRuntime) -> Result<(), Fail> {
-    let alloc = rt.alloc();
     let mut tried = 0_u32;
     let mut with_rules = 0_u32;
     let mut with_conditions = 0_u32;
@@ -47,15 +67,11 @@ fn both_spaces_agree_on_two_hundred_tasks(rt: HostRuntime) -> Result<(), Fail> {
         if tried == 200 {
             break;
         }
-        if let Some(task) = random_task(alloc, seed)? {
-            assert!(rt; agrees(alloc, &task, &task, seed)?);
+        if let Some(found) = look_at(rt.alloc(), seed)? {
+            assert!(rt; found.agrees);
             tried = tried.saturating_add(1);
-            if !task.parts().rules.is_empty() {
-                with_rules = with_rules.saturating_add(1);
-            }
-            if has_conditions(task.parts()) {
-                with_conditions = with_conditions.saturating_add(1);
-            }
+            with_rules = with_rules.saturating_add(u32::from(found.has_rules));
+            with_conditions = with_conditions.saturating_add(u32::from(found.has_conditions));
         }
     }
     assert_eq!(rt; tried, 200);
@@ -78,14 +94,18 @@ fn without_rules(alloc: Global, seed: u64) -> Result<TaskParts, Memory> {
     Ok(parts)
 }
 
+/// Whether the task that the seed draws, where it draws one, is told from this one.
+fn differs(alloc: Global, seed: u64, changed: &Task) -> Result<bool, Memory> {
+    match random_task(alloc, seed)? {
+        Some(task) => Ok(!agrees(alloc, &task, changed, seed)?),
+        None => Ok(false),
+    }
+}
+
 /// Whether the task that the seed draws and that of the parts are told from one another.
 fn is_told(alloc: Global, seed: u64, parts: TaskParts) -> Result<bool, Memory> {
-    if !parts.fits() {
-        return Ok(false);
-    }
-    let changed = Task::of(parts);
-    match random_task(alloc, seed)? {
-        Some(task) => Ok(!agrees(alloc, &task, &changed, seed)?),
+    match stated(parts) {
+        Some(changed) => differs(alloc, seed, &changed),
         None => Ok(false),
     }
 }

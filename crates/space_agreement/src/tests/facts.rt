@@ -7,10 +7,11 @@ ghost use Rattle.space_api.specs.Frames.{Kept};
 
 use bdd_space::BddSpace;
 use explicit_space::ExplicitSpace;
+use small_tasks::{Draft, EffectDraft, OperatorDraft, VariableDraft, drafted};
 use space_api::{Space, SpaceFault};
 use std::alloc::Global;
 use std::test::Fail;
-use symk_task::{Effect, Fact, List, Memory, Name, Operator, Task, TaskParts, Variable};
+use symk_task::{Fact, Memory, Task};
 use task_draws::{Random, random_task};
 
 /// Whether the task has this variable and it is not derived.
@@ -134,76 +135,69 @@ fn agrees_on(alloc: Global, task: &Task, fact: Fact) -> Result<bool, Memory>
     are_alike(alloc, explicit, diagrams, fact)
 }
 
+/// Whether the two spaces of the task that the seed draws are alike about a fact, where it draws one of a base variable.
+fn drawn_agrees(alloc: Global, seed: u64) -> Result<Option<bool>, Memory> {
+    let mut random = Random::of(seed);
+    let fact = Fact {
+        var: random.below(4),
+        val: random.below(3),
+    };
+    match random_task(alloc, seed)? {
+        Some(task) if is_base(&task, fact.var) => Ok(Some(agrees_on(alloc, &task, fact)?)),
+        _ => Ok(None),
+    }
+}
+
 #[test]
 fn both_spaces_agree_on_the_states_of_a_fact_and_on_their_operators(
     rt: HostRuntime,
 ) -> Result<(), Fail> {
-    let alloc = rt.alloc();
     let mut tried = 0_u32;
     for seed in 0..200 {
-        let mut random = Random::of(seed);
-        let fact = Fact {
-            var: random.below(4),
-            val: random.below(3),
-        };
-        if let Some(task) = random_task(alloc, seed)? {
-            if is_base(&task, fact.var) {
-                assert!(rt; agrees_on(alloc, &task, fact)?);
-                tried = tried.saturating_add(1);
-            }
+        if let Some(agrees) = drawn_agrees(rt.alloc(), seed)? {
+            assert!(rt; agrees);
+            tried = tried.saturating_add(1);
         }
     }
     assert!(rt; tried >= 50);
     Ok(())
 }
 
-/// A variable that is off or on, without names.
-fn lamp(alloc: Global) -> Result<Variable, Memory> {
-    let mut values = List::of(Vec::new(alloc));
-    values.push(Name::of(Vec::new(alloc)))?;
-    values.push(Name::of(Vec::new(alloc)))?;
-    Ok(Variable {
-        name: Name::of(Vec::new(alloc)),
-        layer: None,
-        values,
-    })
-}
+/// A variable that is off or on.
+const LAMP: VariableDraft = VariableDraft {
+    layer: None,
+    values: 2,
+};
 
-/// The variable gets the second value where it has the first.
-fn change(alloc: Global, var: u32, pre: u32, post: u32) -> Effect {
-    Effect {
-        conds: List::of(Vec::new(alloc)),
-        var,
-        pre: Some(pre),
-        post,
-    }
-}
+/// The first lamp is turned off.
+const FIRST_OFF: EffectDraft<'static> = EffectDraft {
+    conds: &[],
+    var: 0,
+    pre: Some(1),
+    post: 0,
+};
+
+/// The second lamp is turned on.
+const SECOND_ON: EffectDraft<'static> = EffectDraft {
+    conds: &[],
+    var: 1,
+    pre: Some(0),
+    post: 1,
+};
 
 /// The first of two lamps is on, the second is to be, and an operator turns the first off and the second on.
-fn moved(alloc: Global) -> Result<TaskParts, Memory> {
-    let mut variables = List::of(Vec::new(alloc));
-    variables.push(lamp(alloc)?)?;
-    variables.push(lamp(alloc)?)?;
-    let mut effects = List::of(Vec::new(alloc));
-    effects.push(change(alloc, 0, 1, 0))?;
-    effects.push(change(alloc, 1, 0, 1))?;
-    let mut operators = List::of(Vec::new(alloc));
-    operators.push(Operator {
-        name: Name::of(Vec::new(alloc)),
-        prevail: List::of(Vec::new(alloc)),
-        effects,
+const MOVED: Draft<'static> = Draft {
+    metric: 0,
+    variables: &[LAMP, LAMP],
+    initial: &[1, 0],
+    goal: &[(1, 1)],
+    operators: &[OperatorDraft {
+        name: b"",
+        effects: &[FIRST_OFF, SECOND_ON],
         cost: 1,
-    })?;
-    Ok(TaskParts {
-        metric: 0,
-        variables,
-        mutexes: List::of(Vec::new(alloc)),
-        initial: List::of([1, 0].to_vec(alloc)?),
-        goal: List::of([Fact { var: 1, val: 1 }].to_vec(alloc)?),
-        operators,
-        rules: List::of(Vec::new(alloc)),
-    })
-}
+    }],
+    rules: &[],
+};
 
 /// Whether the states in which the first lamp is on are two: the initial one, in which the second is off, and
 /// the one goal state among them.
@@ -227,15 +221,17 @@ fn first_is_on<S: Space + Drop>(space: S) -> Result<bool, SpaceFault>
     )
 }
 
+/// Whether each space of the task, where its first two variables are base ones, has these states.
+fn first_is_on_in_both(alloc: Global, task: &Task) -> Result<bool, SpaceFault> {
+    if !is_base(task, 0) || !is_base(task, 1) {
+        return Ok(false);
+    }
+    Ok(first_is_on(ExplicitSpace::of(alloc, task)?)? && first_is_on(BddSpace::of(alloc, task)?)?)
+}
+
 #[test]
 fn the_first_lamp_is_on_in_the_initial_state_and_in_one_more(rt: HostRuntime) -> Result<(), Fail> {
-    let alloc = rt.alloc();
-    let parts = moved(alloc)?;
-    assert!(rt; parts.fits());
-    let task = Task::of(parts);
-    let has_both = is_base(&task, 0) && is_base(&task, 1);
-    assert!(rt; has_both);
-    assert!(rt; first_is_on(ExplicitSpace::of(alloc, &task)?)?);
-    assert!(rt; first_is_on(BddSpace::of(alloc, &task)?)?);
+    let task = drafted(rt.alloc(), &MOVED)?.expect(&rt, "the draft fits");
+    assert!(rt; first_is_on_in_both(rt.alloc(), &task)?);
     Ok(())
 }

@@ -24,13 +24,18 @@ costs_line many cheapest dearest total =
 unfoldable pub reached_line : ℕ → Bytes
 reached_line many = (codes "end reached " ++ decimal many) ++ codes "\n"
 
+-- the three lines of 20 plans of a task
+abbrev pub lines_of : ℕ → TaskParts → ℕ → ℕ → ℕ → Bytes
+lines_of number task cheapest dearest total =
+    counts_of number task ++ costs_line 20 cheapest dearest total ++ reached_line 20
+
 -- The text is the summary of 20 plans of the task of so many switches.
 pub record Summary (number : ℕ) (out : Bytes) : Type 0 where
   pub cheapest : ℕ
   pub dearest : ℕ
   pub total : ℕ
   pub plans : HasPlans (switches number) cheapest dearest total
-  pub text : out ≡ counts_of number (switches number) ++ costs_line 20 cheapest dearest total ++ reached_line 20
+  pub text : out ≡ lines_of number (switches number) cheapest dearest total
 
 -- a demonstration ends with its summary
 abbrev pub IsSummary : ℕ → Status → Bytes → Type 0

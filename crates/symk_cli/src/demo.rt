@@ -3,7 +3,7 @@
 ghost use Rattle.std.specs.Prelude.{◌≡◌, ◌≤◌, ◌++◌, IfOk, OnOk};
 ghost use Rattle.task_gen.specs.Switches.{switches as switches_task};
 ghost use Rattle.run_status.specs.Ends.{HasCauses, OrFront, Puts};
-ghost use Rattle.symk_cli.specs.Shown.{IsSummary, Summary, counts_line, costs_line, reached_line};
+ghost use Rattle.symk_cli.specs.Shown.{IsSummary, Summary, counts_line, costs_line, lines_of, reached_line};
 
 use crate::pieces::{push_cost_after, push_number_after};
 use plan_run::{Costs, SHOWN, costs_found};
@@ -47,6 +47,12 @@ fn summary(alloc: Global, number: u32) -> Result<Text, Memory>
 {
     let task = task_read_back(alloc, number)?;
     let costs = costs_found(alloc, &task)?;
+    lines(alloc, number, &task, costs)
+}
+
+fn lines(alloc: Global, number: u32, task: &Task, costs: Costs) -> Result<Text, Memory>
+    ensures { IfOk result (λ text. text ≡ lines_of number task.now costs.cheapest costs.dearest costs.total) }
+{
     let parts = task.parts();
     let mut text = Text::new(alloc);
     push_counts(

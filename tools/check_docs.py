@@ -4,8 +4,9 @@
 In the tables of docs/PROVED.md a call is written `crate::name` or `crate::Type::name`, with the labels of its clauses in brackets
 after it; in every page a definition is written `crate/specs/File.antt`, with the names that are meant in brackets after it, and a
 must-fail edit `crate/name`. Links and other paths in backticks must lead to files. The picture and the table of crates in
-docs/ARCHITECTURE.md are compared with crates.txt: each has all crates, and none stands on a higher floor. Each thing that is named
-counts once; what isn't found is printed. The last line is `N passed, N failed`, and the status is 0 where none failed.
+docs/ARCHITECTURE.md are compared with crates.txt: each has all crates, none stands on a higher floor, and what a row says that its crates
+stand on is there. Each thing that is named counts once; what isn't found is printed. The last line is `N passed, N failed`, and the status
+is 0 where none failed.
 """
 import re
 import sys
@@ -117,11 +118,21 @@ def floor_faults():
             yield name, "stands on a higher floor: " + ", ".join(above) if above else None
 
 
+def row_faults():
+    """What each row of the table of docs/ARCHITECTURE.md says that its crates stand on, against crates.txt."""
+    text, stands = (TOP / "docs" / "ARCHITECTURE.md").read_text(encoding="utf-8"), crates_listed()
+    for names, last in re.findall(r"^\| (`\w+`(?:, `\w+`)*) \|.*\| ([^|]*) \|$", text, re.MULTILINE):
+        crates = re.findall(r"`(\w+)`", names)
+        below = {name for crate in crates for name in stands.get(crate, [])}
+        wrong = [name for name in re.findall(r"`(\w+)`", last) if name in stands and name not in below]
+        yield names, "doesn't stand on " + ", ".join(wrong) if wrong else None
+
+
 def counts():
     """How many of the things named were found, and how many not; those are printed."""
     passed, failed = 0, 0
     for page in [*(page for page in PAGES if page.exists()), None]:
-        for name, fault in page_faults(page) if page else floor_faults():
+        for name, fault in page_faults(page) if page else [*floor_faults(), *row_faults()]:
             passed, failed = passed + (fault is None), failed + (fault is not None)
             if fault:
                 print(f"{page.relative_to(TOP) if page else 'docs/ARCHITECTURE.md'}: {name}: {fault}")

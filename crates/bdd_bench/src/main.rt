@@ -40,12 +40,17 @@ fn run(rt: &HostRuntime, work: Work) -> io::Result<()> {
     let cache = (work.cache as usize).max(1).min(1_048_576);
     let table = Table::new(rt.alloc())?;
     let mut ops = Ops::new(table, cache)?;
+    tell(rt, &mut ops, work)
+}
+
+/// Does the work, and says what came of it.
+fn tell(rt: &HostRuntime, ops: &mut Ops, work: Work) -> io::Result<()> {
     let start = Instant::now(rt)?;
-    let made = work.make(&mut ops)?;
+    let made = work.make(ops)?;
     let took = start.elapsed(rt)?.as_micros();
     let all = ops.table().held();
-    let root = known(&ops, made.set);
-    let nodes = of_root(&mut ops, root)?;
+    let root = known(ops, made.set);
+    let nodes = of_root(ops, root)?;
     let (rounds, collected) = (made.rounds, made.collected);
     println!(rt; "rounds {rounds} nodes {nodes}")?;
     eprintln!(rt; "microseconds {took} table {all} collected {collected}")

@@ -50,6 +50,8 @@ fn summary(alloc: Global, number: u32) -> Result<Text, Memory>
     lines(alloc, number, &task, costs)
 }
 
+// The three lines of the task and of what was found for it. The task is lent: where a function owns it, its proof takes
+// far longer.
 fn lines(alloc: Global, number: u32, task: &Task, costs: Costs) -> Result<Text, Memory>
     ensures { IfOk result (λ text. text ≡ lines_of number task.now costs.cheapest costs.dearest costs.total) }
 {

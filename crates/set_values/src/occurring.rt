@@ -104,9 +104,11 @@ impl Places {
     }
 }
 
-/// The values that the variables have in states of the set, marked. The walk goes variable by variable, in the order
-/// of the bits, and follows the bits of each value from each Id that is left below the variables before. So it takes
-/// room in proportion to the nodes of the set, and time in proportion to these times the values of a variable.
+/// The values that the variables have in states of the set, marked, and perhaps others.
+///
+/// The walk goes variable by variable, in the order of the bits, and follows the bits of each value from each Id that
+/// is left below the variables before. So it takes room in proportion to the nodes of the set, and time in proportion
+/// to these times the values of a variable.
 pub fn marks_of(
     alloc: Global,
     table: &Table,

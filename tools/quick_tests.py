@@ -1,0 +1,103 @@
+#!/usr/bin/env python3
+"""quick_tests.py PROGRAM: every test of every crate by rt try, and the README's commands by PROGRAM.
+
+`./symk test` calls it. Where PROGRAM isn't there yet, it is what `./symk` makes of the sources as they stand. Nothing is proved by it, and must-fail edits are not tried: `rt ci` does that. A line tells of each crate, the last
+one is `N passed, N failed`, and the status is 0 where none failed.
+"""
+import os
+import re
+import shutil
+import signal
+import subprocess
+import sys
+import tempfile
+import threading
+import time
+from concurrent.futures import ThreadPoolExecutor
+from pathlib import Path
+
+TOP = Path(__file__).resolve().parent.parent
+# What compiling a crate's tests takes of memory at most, in kB, and the seconds that its tests may take, unoptimised.
+ROOM = 2_500_000
+SECONDS = 300
+# Tests that would take too long without optimisation: the crate, the file, the line that says how many seeds it takes, and the seeds here.
+FEWER = {"list_agreement": ("src/tests.rt", re.compile(r"^(const SEEDS: u64 = )(\d+);$", re.MULTILINE), 20)}
+RESULT = re.compile(r"test result: \w+\. (\d+) passed; (\d+) failed")
+
+
+def tested():
+    """The crates that have tests, those with most sources first."""
+    names = [line.split(":")[0].strip() for line in (TOP / "crates.txt").read_text(encoding="utf-8").splitlines() if ":" in line.split("#")[0]]
+    files = {name: list((TOP / "crates" / name / "src").rglob("*.rt")) for name in names}
+    texts = {name: "".join(it.read_text(encoding="utf-8") for it in files[name]) for name in names}
+    return sorted((it for it in names if "#[test]" in texts[it]), key=lambda it: (it != "symk_cli", it not in FEWER, -len(texts[it])))
+
+
+def lanes():
+    """How many crates are compiled side by side, by processors and free memory."""
+    free = next(int(it.split()[1]) for it in Path("/proc/meminfo").read_text(encoding="ascii").splitlines() if it.startswith("MemAvailable:"))
+    return max(1, min(len(os.sched_getaffinity(0)), free // ROOM))
+
+
+def with_fewer(crate, room):
+    """A copy of the sources in which a crate's test takes fewer seeds, and how many of how many."""
+    name, line, few = FEWER[crate]
+    copy = Path(room, "sources")
+    shutil.copytree(TOP / "crates", copy / "crates", ignore=shutil.ignore_patterns("out", "proofs", "must-fail"))
+    shutil.copyfile(TOP / "crates.txt", copy / "crates.txt")
+    file = copy / "crates" / crate / name
+    text = file.read_text(encoding="utf-8")
+    all_seeds = line.search(text).group(2)
+    file.write_text(line.sub(r"\g<1>%d;" % few, text), encoding="utf-8")
+    return copy, " with %d of its %s seeds" % (few, all_seeds)
+
+
+def without_hints(run):
+    """Ends what rt try runs beside the tests: it looks for names that a check will refuse, which no test needs."""
+    while run.poll() is None:
+        subprocess.run(["pkill", "-P", str(run.pid), "-f", "rattle check"], stderr=subprocess.DEVNULL)
+        time.sleep(0.5)
+
+
+def try_tests(crate):
+    """Runs a crate's tests, says what came of them, and returns how many passed and failed."""
+    began = time.monotonic()
+    with tempfile.TemporaryDirectory(prefix="symk-test-") as room:
+        top, said = with_fewer(crate, room) if crate in FEWER else (TOP, "")
+        how = {"cwd": top / "crates" / crate, "env": {**os.environ, "TMPDIR": room}, "stdin": subprocess.DEVNULL}
+        how.update(stdout=subprocess.PIPE, stderr=subprocess.STDOUT, errors="replace")
+        run = subprocess.Popen(["rt", "try", "--test", "--seconds", str(SECONDS)], **how)
+        threading.Thread(target=without_hints, args=(run,), daemon=True).start()
+        text = run.communicate()[0]
+    found = RESULT.findall(text)
+    passed, failed = (int(found[-1][0]), int(found[-1][1])) if found else (0, 0)
+    failed += run.returncode != 0 and not failed or not found
+    lines = ["%s: %d passed, %d failed%s (%d s)" % (crate, passed, failed, said, time.monotonic() - began)]
+    print("\n".join(text.splitlines()[-20:] + lines if failed else lines), flush=True)
+    return passed, failed
+
+
+def readme(program):
+    """Runs the README's commands by the program, says what came of them, and returns how many passed and failed."""
+    if not Path(program).exists():
+        subprocess.run([str(TOP / "symk"), "demo", "1"], stdout=subprocess.DEVNULL, stderr=subprocess.DEVNULL)
+    words = [sys.executable, "-B", str(TOP / "tools/run_readme.py")]
+    ran = subprocess.run(words, env={**os.environ, "SYMK_PROGRAM": program}, stdout=subprocess.PIPE, errors="replace")
+    lines = ran.stdout.splitlines()
+    found = re.fullmatch(r"(\d+) passed, (\d+) failed", lines[-1] if lines else "")
+    passed, failed = (int(found.group(1)), int(found.group(2))) if found else (0, 1)
+    print("\n".join((lines[:-1] if failed else []) + ["README.md: %d passed, %d failed" % (passed, failed)]), flush=True)
+    return passed, failed
+
+
+def main(program):
+    signal.signal(signal.SIGTERM, lambda number, _: sys.exit(128 + number))
+    with ThreadPoolExecutor(lanes()) as pool:
+        runs = [pool.submit(readme, program)] + [pool.submit(try_tests, it) for it in tested()]
+    passed, failed = (sum(it) for it in zip(*(run.result() for run in runs)))
+    print("%d passed, %d failed" % (passed, failed))
+    return 1 if failed else 0
+
+
+if __name__ == "__main__":
+    sys.exit(main(sys.argv[1]))

@@ -6,7 +6,7 @@ set -eu
 top=$(cd "$(dirname "$0")/.." && pwd)
 work=$(mktemp -d)
 trap 'rm -rf "$work"' EXIT
-"$top/symk" demo 1 >/dev/null # builds the program, where it isn't built
+"$top/symk" build # where it isn't built
 python3 - "$top/.symk/symk" "$top/bench/chained_task.py" "$work" <<'PYTHON'
 import os, subprocess, sys, time
 

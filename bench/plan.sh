@@ -6,12 +6,13 @@
 # Where both list, the costs of the plans and why the list ends must be the same; else the script ends. The time is that of the
 # processor for a whole run, the memory the most that a run had in use. Each line has the medians and the ratio of the times, and `-`
 # for a side that didn't end. The last but one has the tasks that the peer solved and the greatest ratio of memory, the last is
-# `plan tasks N solved S ratio R worst W`: how many tasks there are and how many we solve, and over the tasks that both solve the
-# geometric mean and the greatest of the ratios, our time by the peer's.
+# `plan tasks N solved S ratio R worst W long L worst V`: how many tasks there are and how many we solve; over the tasks that both solve the
+# geometric mean and the greatest of the ratios, our time by the peer's; and the same over the tasks that take both at least a quarter of a
+# second, the peer's start, which is its time for one switch, taken off.
 set -eu
 top=$(cd "$(dirname "$0")/.." && pwd)
 . "$top/bench/buddy.sh"
-"$top/symk" demo 1 >/dev/null # builds the program, where it isn't built
+"$top/symk" build # where it isn't built
 g++ -std=c++17 -O3 -o "$work/peer" "$top/bench/peer/peer.cpp" -lbdd
 g++ -std=c++17 -O3 -o "$work/measure" "$top/bench/measure.cpp"
 python3 - "$top" "$work" "${1:-5}" "${@:2}" <<'PYTHON'
@@ -19,7 +20,7 @@ import math, os, re, resource, statistics, subprocess, sys
 
 top, work, times, sets = sys.argv[1], sys.argv[2], int(sys.argv[3]), sys.argv[4:] or ["main", "large"]
 SIDES = {"symk": os.path.join(top, ".symk", "symk"), "peer": os.path.join(work, "peer")}
-LIMIT, MEMORY = 60, 6_000_000_000
+LIMIT, MEMORY, LONG = 60, 6_000_000_000, 0.25
 COST = re.compile(rb"^; cost = (\d+) ", re.MULTILINE)
 
 
@@ -56,6 +57,10 @@ def listed_tasks():
             yield made, path, k, mode
 
 
+def mean(numbers):
+    return math.exp(statistics.mean(map(math.log, numbers))) if numbers else 0
+
+
 tasks, runs, told, lost = list(listed_tasks()), {}, {}, set()
 for _ in range(times):
     for task in tasks:
@@ -69,7 +74,8 @@ for _ in range(times):
                 runs.setdefault((task, side), []).append(done[1:])
 print("| task | k | mode | plans | first and last cost | symk | peer | ratio | symk MB | peer MB |")
 print("|---|---|---|---|---|---|---|---|---|---|")
-ratios, memory = [], [0]
+start = statistics.median(run("peer", os.path.join(top, "examples", "one-switch.sas"), "1", "topk")[1] for _ in range(max(times, 3)))
+ratios, longs, memory = [], [], [0]
 for task in tasks:
     name, _, k, mode = task
     _, costs = told.get(task, (None, []))
@@ -78,12 +84,14 @@ for task in tasks:
     if len(most) == 2:
         ratios.append(max(most["symk"][0], 1e-3) / max(most["peer"][0], 1e-3))
         memory.append(most["symk"][1] / most["peer"][1])
+        if min(most[side][0] for side in SIDES) >= LONG:
+            longs.append(most["symk"][0] / max(most["peer"][0] - start, 1e-3))
         ratio = f"{ratios[-1]:.2f}"
     shown = [[f"{most[side][i]:.{2 - 2 * i}f}" if side in most else "-" for side in SIDES] for i in (0, 1)]
     ends = f"{costs[0]}, {costs[-1]}" if costs else "-"
     print("| " + " | ".join([name, k, mode, str(len(costs)), ends, *shown[0], ratio, *shown[1]]) + " |")
 solved = {side: sum((task, side) not in lost for task in tasks) for side in SIDES}
-mean = math.exp(statistics.mean(map(math.log, ratios))) if ratios else 0
 print(f"peer solved {solved['peer']} greatest ratio of memory {max(memory):.2f}")
-print(f"plan tasks {len(tasks)} solved {solved['symk']} ratio {mean:.2f} worst {max(ratios, default=0):.2f}")
+long = f"long {mean(longs):.2f} worst {max(longs, default=0):.2f}"
+print(f"plan tasks {len(tasks)} solved {solved['symk']} ratio {mean(ratios):.2f} worst {max(ratios, default=0):.2f} {long}")
 PYTHON

@@ -10,7 +10,7 @@ set -eu
 top=$(cd "$(dirname "$0")/.." && pwd)
 work=$(mktemp -d)
 trap 'rm -rf "$work"' EXIT
-"$top/symk" demo 1 >/dev/null # builds the program, where it isn't built
+"$top/symk" build # where it isn't built
 g++ -std=c++17 -O3 -o "$work/measure" "$top/bench/measure.cpp"
 python3 - "$top" "$work" "${1:-5}" <<'PYTHON'
 import os, statistics, subprocess, sys

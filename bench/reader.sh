@@ -8,7 +8,7 @@ work=$(mktemp -d)
 trap 'rm -rf "$work"' EXIT
 python3 "$top/bench/large_task.py" "${1:-50}" >"$work/large.sas"
 : >"$work/none.plans"
-"$top/symk" demo 1 >/dev/null # builds the program, where it isn't built
+"$top/symk" build # where it isn't built
 python3 - "$top/.symk/symk" "$work" <<'PYTHON'
 import os, resource, subprocess, sys, time
 

@@ -8,7 +8,7 @@ set -eu
 top=$(cd "$(dirname "$0")/.." && pwd)
 work=$(mktemp -d)
 trap 'rm -rf "$work"' EXIT
-"$top/symk" demo 1 >/dev/null # builds the program, where it isn't built
+"$top/symk" build # where it isn't built
 gcc -O2 -shared -fPIC -o "$work/refused.so" "$top/bench/refused.c"
 python3 - "$top" "$work" <<'PYTHON'
 import os, subprocess, sys

@@ -5,13 +5,15 @@ In the tables of docs/PROVED.md a call is written `crate::name` or `crate::Type:
 after it; in every page a definition is written `crate/specs/File.antt`, with the names that are meant in brackets after it, and a
 must-fail edit `crate/name`. Links and other paths in backticks must lead to files. The picture and the table of crates in
 docs/ARCHITECTURE.md are compared with crates.txt: each has all crates, none stands on a higher floor, and what a row says that its crates
-stand on is there. Each thing that is named counts once; what isn't found is printed. The last line is `N passed, N failed`, and the status
-is 0 where none failed.
+stand on is there; and each crate that crates.txt says that a crate stands on is named in one of its files. The list of what one reads to believe the program, at the end of docs/PROVED.md, is compared with what statement.py reaches.
+Each thing that is named counts once; what isn't found is printed. The last line is `N passed, N failed`, and the status is 0 where none failed.
 """
 import re
 import sys
 from functools import lru_cache
 from pathlib import Path
+
+import statement
 
 TOP = Path(__file__).resolve().parent.parent
 PAGES = [TOP / "README.md", TOP / "CONTRIBUTING.md", *sorted((TOP / "docs").glob("*.md")),
@@ -84,6 +86,17 @@ def page_faults(page):
         yield path, None if (page.parent / path).exists() else "a link to nothing"
 
 
+def edge_faults():
+    """Each crate that a line of crates.txt names against the files of the crate that stands on it: some file has its name."""
+    for line in (TOP / "crates.txt").read_text(encoding="utf-8").splitlines():
+        name, _, below = line.split("#")[0].partition(":")
+        folder = TOP / "crates" / name.strip()
+        files = [it for part in ("src", "specs", "proofs") for it in (folder / part).rglob("*") if it.suffix in (".rt", ".antt")]
+        words = {word for it in files for word in re.findall(r"\w+", it.read_text(encoding="utf-8"))} if below else set()
+        for it in below.split():
+            yield f"{name.strip()} on {it}", None if it in words else "no file of the crate names it: take it out of the line in crates.txt"
+
+
 def crates_listed():
     """The crates of crates.txt, and those of them that each stands on."""
     lines = (TOP / "crates.txt").read_text(encoding="utf-8").splitlines()
@@ -128,14 +141,24 @@ def row_faults():
         yield names, "doesn't stand on " + ", ".join(wrong) if wrong else None
 
 
+def statement_faults():
+    """The list at the end of docs/PROVED.md against the files that the contract of `run` reaches; of src/ it may name the edge too."""
+    text = (TOP / "docs" / "PROVED.md").read_text(encoding="utf-8").split("## What you read to believe the program")[1]
+    named = {it for it in re.findall(r"`(?:crates/)?(\w+/(?:specs|src)/[\w/]+\.(?:antt|rt))`", text)}
+    wanted = {"%s/%s" % place for place in statement.of_run()} | {"symk_cli/src/top.rt"}
+    for name in sorted(named | wanted):
+        is_edge = name in ("symk_cli/src/main.rt", "symk_io/src/host.rt")
+        yield name, "isn't in the list of what one reads" if name not in named else None if name in wanted or is_edge else "isn't reached by the contract of run"
+
+
 def counts():
     """How many of the things named were found, and how many not; those are printed."""
     passed, failed = 0, 0
     for page in [*(page for page in PAGES if page.exists()), None]:
-        for name, fault in page_faults(page) if page else [*floor_faults(), *row_faults()]:
+        for name, fault in page_faults(page) if page else [*floor_faults(), *row_faults(), *edge_faults(), *statement_faults()]:
             passed, failed = passed + (fault is None), failed + (fault is not None)
             if fault:
-                print(f"{page.relative_to(TOP) if page else 'docs/ARCHITECTURE.md'}: {name}: {fault}")
+                print(f"{page.relative_to(TOP) if page else 'docs/'}: {name}: {fault}")
     return passed, failed
 
 

@@ -24,6 +24,9 @@ const SHORT: u32 = 8;
 
 const LONG: u32 = 40;
 
+/// How many tasks are drawn.
+const SEEDS: u64 = 300;
+
 /// The list of so many plans over the sets, where it is good.
 fn priced(
     alloc: Global,
@@ -134,7 +137,7 @@ fn seed_agrees(alloc: Global, seed: u64) -> Result<bool, Memory> {
 #[test]
 fn lists_of_all_engines_agree(rt: HostRuntime) -> Result<(), Fail> {
     let alloc = rt.alloc();
-    for seed in 0..300 {
+    for seed in 0..SEEDS {
         assert!(rt; seed_agrees(alloc, seed)?, "at seed {seed}");
     }
     Ok(())

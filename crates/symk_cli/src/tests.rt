@@ -14,6 +14,7 @@ mod mutexes;
 mod plans;
 mod refusals;
 mod rows;
+mod searches;
 mod words;
 
 use crate::{Status, run};

@@ -136,6 +136,12 @@ fn shows_switches(rt: HostRuntime) -> Result<(), Fail> {
             Status::Shown,
             b"switches 12: variables 13 operators 12 rules 1\nplans 20: cheapest 12 dearest 12 total 240\nend reached 20\n",
         ),
+        ask(
+            "demo 40",
+            b"",
+            Status::Shown,
+            b"switches 40: variables 41 operators 40 rules 1\nplans 20: cheapest 40 dearest 40 total 800\nend reached 20\n",
+        ),
     ];
     holds(&rt, rt.alloc(), &rows)
 }

@@ -25,6 +25,16 @@ fn refuses_long_texts(rt: HostRuntime) -> Result<(), Fail> {
 }
 
 #[test]
+fn reads_a_text_of_the_greatest_length(rt: HostRuntime) -> Result<(), Fail> {
+    let mut world = World::of(b"", b"");
+    world.blank_file = Some(268_435_456);
+    let given = answer(rt.alloc(), &world, "plan FILE --k 3")?;
+    let wanted = b"line 1: wanted begin_version\n".as_slice();
+    assert!(&rt; given.status == Status::Offending && given.bytes.as_slice() == wanted);
+    Ok(())
+}
+
+#[test]
 fn refuses_a_long_certificate(rt: HostRuntime) -> Result<(), Fail> {
     let mut world = World::of(ONE_SWITCH, b"");
     world.blank_plans = Some(268_435_457);

@@ -1,9 +1,9 @@
 -- Where no result is kept, each place has what is false.
-use Rattle.std.proofs.Common.{◌≡◌, ℕ, ◌<◌, ◌&&◌, Bool, false, inl, List, [], length, slice_index_or, sym, ◌∙◌, ap, subst, arith}
+use Rattle.std.proofs.Common.{◌≡◌, ℕ, ◌<◌, ◌&&◌, Bool, false, inl, List, [], length, slice_index_or, refl, sym, ◌∙◌, ap, subst, arith}
 use Rattle.bdd_table.specs.declared.node.Node.{Node}
 use Rattle.bdd_table.specs.Diagram.{IsReduced}
 use Rattle.bdd_ops.specs.declared.key.Op.TheVariants.{Conj}
-use Rattle.bdd_ops.specs.declared.key.Kind.TheVariants.{Quantify, ConjQuantify}
+use Rattle.bdd_ops.specs.declared.key.Kind.TheVariants.{Quantify, ConjQuantify, Image, Preimage}
 use Rattle.bdd_ops.specs.declared.recent.PairSlot.{PairSlot}
 use Rattle.bdd_ops.specs.declared.recent.BoundSlot.{BoundSlot}
 use Rattle.bdd_ops.specs.declared.recent.Recent.{Recent}
@@ -12,6 +12,8 @@ use Rattle.bdd_ops.specs.Recent.{no_pair, no_bound}
 use Rattle.bdd_ops.specs.Cached.{IsRightPair, IsRightBound, AreRightPlaces}
 use Rattle.bdd_ops.proofs.Combining.{short_gives}
 use Rattle.bdd_ops.proofs.Quantifying.{constant_some, short_both}
+use Rattle.bdd_ops.proofs.ImageLaws.{image_false}
+use Rattle.bdd_ops.proofs.PreimageLaws.{preimage_false}
 
 module _ (xs : List Node) (r : IsReduced xs) where
   known : 0 < length xs
@@ -42,9 +44,17 @@ module _ (xs : List Node) (r : IsReduced xs) where
     gives = short_both xs xs 0 0 0 0 0 r known known (λ m z o. both_false m z) (inl (omega arith)) some_false;
   }
 
-  pub no_places_right : (recent : Recent) → recent.pairs.items ≡ [] → recent.some.items ≡ [] → recent.both.items ≡ [] → AreRightPlaces xs recent
-  no_places_right recent p s b = record {
+  right_no_images : IsRightBound Image xs no_bound
+  right_no_images = record { f_known = known; g_known = known; set_known = known; gives = image_false xs r 0 0 0 known known (inl refl) }
+
+  right_no_preimages : IsRightBound Preimage xs no_bound
+  right_no_preimages = record { f_known = known; g_known = known; set_known = known; gives = preimage_false xs r 0 0 0 known known (inl refl) }
+
+  pub no_places_right : (recent : Recent) → recent.pairs.items ≡ [] → recent.some.items ≡ [] → recent.both.items ≡ [] → recent.images.items ≡ [] → recent.preimages.items ≡ [] → AreRightPlaces xs recent
+  no_places_right recent p s b m n = record {
     pairs = λ place. subst (λ (l : List PairSlot). IsRightPair xs (slice_index_or l place no_pair)) (sym p) right_no_pair;
     some = λ place. subst (λ (l : List BoundSlot). IsRightBound Quantify xs (slice_index_or l place no_bound)) (sym s) right_no_some;
     both = λ place. subst (λ (l : List BoundSlot). IsRightBound ConjQuantify xs (slice_index_or l place no_bound)) (sym b) right_no_both;
+    images = λ place. subst (λ (l : List BoundSlot). IsRightBound Image xs (slice_index_or l place no_bound)) (sym m) right_no_images;
+    preimages = λ place. subst (λ (l : List BoundSlot). IsRightBound Preimage xs (slice_index_or l place no_bound)) (sym n) right_no_preimages;
   }

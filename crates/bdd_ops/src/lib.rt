@@ -7,10 +7,12 @@
 //! their halves. Results that took many steps are in the cache; the others have a place each that their call tells,
 //! where a later one takes the stead of an earlier one. Sources: Bryant, "Graph-Based Algorithms for Boolean Function
 //! Manipulation" (1986); for one cached call of two operands and for the places, Brace, Rudell and Bryant, "Efficient
-//! Implementation of a BDD Package" (1990). It stands on `bdd_table` and on `lru`.
+//! Implementation of a BDD Package" (1990); for images and preimages in one traversal, van Dijk and van de Pol, "Sylvan:
+//! Multi-Core Decision Diagrams" (2015). It stands on `bdd_table` and on `lru`.
 #![tactic(auto)]
 
 mod apply;
+mod images;
 mod key;
 mod levels;
 mod ops;

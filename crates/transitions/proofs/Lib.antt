@@ -2,7 +2,6 @@ pub mod Pairs
 pub mod SameBits
 pub mod ImageLaw
 pub mod Support
-pub mod InOrder
 pub mod Asking
 pub mod TouchedPlaces
 pub mod StepBits
@@ -11,3 +10,4 @@ pub mod Gathering
 pub mod Leading
 pub mod StepsLaw
 pub mod Using
+pub mod TouchedLevels

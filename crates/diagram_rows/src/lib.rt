@@ -1,5 +1,5 @@
-//! Worked rows of decision diagrams: the unique table, the operations, the order of variables, sets of states,
-//! and axioms as sets.
+//! Worked rows of decision diagrams: the unique table, the operations, images, the order of variables, sets of
+//! states, and axioms as sets.
 //!
 //! There is no call: tests stand apart from the crates of which they are, so that those are proved once. It
 //! stands on `bdd_table`, `bdd_ops`, `var_order`, `bdd_sets`, `axiom_layers` and `small_tasks`.
@@ -7,6 +7,8 @@
 
 #[cfg(test)]
 mod axioms;
+#[cfg(test)]
+mod images;
 #[cfg(test)]
 mod operations;
 #[cfg(test)]

@@ -4,7 +4,7 @@ use Rattle.std.specs.Bool.{Decides}
 use Rattle.task_system.specs.System.{System, IsPlanOf, are_equal}
 use Rattle.symk_task.specs.declared.parts.Mode.{Mode}
 use Rattle.symk_task.specs.declared.parts.Mode.TheVariants.{Loopless}
-use Rattle.space_api.specs.View.{View, Valid}
+use Rattle.space_api.specs.View.{View}
 use Rattle.space_api.specs.Frames.{Stays as SetsStay}
 use Rattle.lazy_plans.specs.Law.{Gave, Stays, Stops, Turned, Ended, Last, last_of}
 use Rattle.lazy_plans.specs.declared.stop.Stop.{Stop}
@@ -14,12 +14,11 @@ use Rattle.lazy_plans.proofs.Told.{equal_is, equal_self}
 use Rattle.cost_search.specs.Directed.{Backward}
 use Rattle.cost_search.proofs.Directing.{directed_kept}
 use Rattle.prefix_laws.specs.Queue.{Right, Pending}
+use Rattle.prefix_tree.specs.declared.state_graph.StateGraph.{StateGraph}
 use Rattle.prefix_tree.specs.declared.tree.Node.{Node}
 use Rattle.prefix_tree.specs.declared.entry.Entry.{Entry}
-use Rattle.prefix_tree.specs.Entries.{IsOnWay}
-use Rattle.prefix_tree.proofs.Ways.{on_way}
 use Rattle.loopless.specs.Children.{prefixes}
-use Rattle.loopless.specs.Standing.{IsBeneath, IsReady}
+use Rattle.loopless.specs.Standing.{IsReady}
 use Rattle.loopless.specs.Owing.{Owes, IsTidy, IsHeld, IsSound, Answered}
 use Rattle.loopless.proofs.Moving.{moved_stays}
 use Rattle.loopless.proofs.Readying.{ready_moved}
@@ -82,12 +81,12 @@ held_stays y most a b p g q = (
     by false e h = inl ((g.rest q).1 (h, e))
 
 -- the space was tidied, or that was refused
-pub ready_stays : {Set : Type 0} (v w : View Set) (b : Backward Set) (nodes : List (Node Set)) (es : List Entry) → SetsStay v w → IsReady v b nodes es → IsReady w b nodes es
-ready_stays v w b nodes es s z = ready_moved v w b b nodes es (directed_kept v w b s.kept z.backward) (moved_stays v w b z.backward s) z
+pub ready_stays : {Set : Type 0} (v w : View Set) (b : Backward Set) (m : StateGraph) (nodes : List Node) (es : List Entry) → SetsStay v w → IsReady v b m nodes es → IsReady w b m nodes es
+ready_stays v w b m nodes es s z = ready_moved v w b b m nodes es (directed_kept v w b s.kept z.alone.backward) (moved_stays v w b z.alone.backward s) z
 
 -- after the turns of a call, and after the space was tidied
-module _ {Set : Type 0} (v w : View Set) (h : Backward Set) (nodes grown : List (Node Set)) (most : Option ℕ) (es new : List Entry)
-    (system : w.system ≡ v.system) (ready : IsReady w h grown new) (right : Right v.system most (prefixes grown new)) where
+module _ {Set : Type 0} (v w : View Set) (h : Backward Set) (m : StateGraph) (nodes grown : List Node) (most : Option ℕ) (es new : List Entry)
+    (system : w.system ≡ v.system) (ready : IsReady w h m grown new) (right : Right v.system most (prefixes grown new)) where
   abbrev Before : List ℕ → Type 0
   Before = Owes v.system (prefixes nodes es) None
 
@@ -102,7 +101,7 @@ module _ {Set : Type 0} (v w : View Set) (h : Backward Set) (nodes grown : List 
       (turn_back (Pending v.system (prefixes nodes es)) Before (owes_pends v.system (prefixes nodes es)))
       (turned_to v.system Loopless most (Pending v.system (prefixes nodes es)) (Pending v.system (prefixes grown new)) (Owes w.system (prefixes grown new) None) r h pends_on)
 
-  sound : (held : Option (List ℕ)) (ended : Last) (r : Result (Option (List ℕ)) Stop) → IsHeld w.system held ended → Turned v.system Loopless most Before (Owes w.system (prefixes grown new) held) r → ended ≡ last_of r → (ended ≡ Some None → IsTidy w) → IsSound w h grown most new held ended
+  sound : (held : Option (List ℕ)) (ended : Last) (r : Result (Option (List ℕ)) Stop) → IsHeld w.system held ended → Turned v.system Loopless most Before (Owes w.system (prefixes grown new) held) r → ended ≡ last_of r → (ended ≡ Some None → IsTidy w) → IsSound w h m grown most new held ended
   sound held ended r holds law last room = record {
     ready = ready;
     right = subst (λ (y : System). Right y most (prefixes grown new)) (sym system) right;
@@ -111,17 +110,17 @@ module _ {Set : Type 0} (v w : View Set) (h : Backward Set) (nodes grown : List 
     room = room;
   }
 
-  pub stopped : (stop : Stop) → Law (Err stop) → Answered v w most Before (Owes w.system (prefixes grown new) None) (IsSound w h grown most new None (Some (Some stop))) (Some (Some stop)) (Err stop)
+  pub stopped : (stop : Stop) → Law (Err stop) → Answered v w most Before (Owes w.system (prefixes grown new) None) (IsSound w h m grown most new None (Some (Some stop))) (Some (Some stop)) (Err stop)
   stopped stop h =
       let law = law_on (Err stop) h in
       record { engine = sound None (Some (Some stop)) (Err stop) tt law refl (λ e. absurd (none_left stop e)); system = system; law = law; last = refl; room = tt }
 
-  pub tidied_none : IsTidy w → Law (Ok None) → Answered v w most Before (Owes w.system (prefixes grown new) None) (IsSound w h grown most new None (Some None)) (Some None) (Ok None)
+  pub tidied_none : IsTidy w → Law (Ok None) → Answered v w most Before (Owes w.system (prefixes grown new) None) (IsSound w h m grown most new None (Some None)) (Some None) (Ok None)
   tidied_none few h =
       let law = law_on (Ok None) h in
       record { engine = sound None (Some None) (Ok None) tt law refl (λ e. few); system = system; law = law; last = refl; room = few }
 
-  pub tidied_some : (p : List ℕ) → IsTidy w → Law (Ok (Some p)) → Answered v w most Before (Owes w.system (prefixes grown new) None) (IsSound w h grown most new None None) None (Ok (Some p))
+  pub tidied_some : (p : List ℕ) → IsTidy w → Law (Ok (Some p)) → Answered v w most Before (Owes w.system (prefixes grown new) None) (IsSound w h m grown most new None None) None (Ok (Some p))
   tidied_some p few h =
       let law = law_on (Ok (Some p)) h in
       record { engine = sound None None (Ok (Some p)) tt law refl (λ e. absurd (none_some e)); system = system; law = law; last = refl; room = few }
@@ -147,11 +146,7 @@ module _ {Set : Type 0} (v w : View Set) (h : Backward Set) (nodes grown : List 
   held_fine None h = tt
   held_fine (Some p) h = (subst (λ (y : System). IsPlanOf y Loopless p) (sym system) h.pended.0, refl)
 
-  pub untidied : (found : Option (List ℕ)) → Law (Ok found) → Answered v w most Before (Owes w.system (prefixes grown new) found) (IsSound w h grown most new found (Some (Some Memory))) (Some (Some Memory)) (Err Memory)
+  pub untidied : (found : Option (List ℕ)) → Law (Ok found) → Answered v w most Before (Owes w.system (prefixes grown new) found) (IsSound w h m grown most new found (Some (Some Memory))) (Some (Some Memory)) (Err Memory)
   untidied found h =
       let law = held_law found h in
       record { engine = sound found (Some (Some Memory)) (Err Memory) (held_fine found h) law refl (λ e. absurd (none_left Memory e)); system = system; law = law; last = refl; room = tt }
-
--- each valid set is one of the search back, or that of a prefix on the way to an entry of the queue
-pub keeps_all : {Set : Type 0} (v : View Set) (b : Backward Set) (nodes : List (Node Set)) (es : List Entry) → IsReady v b nodes es → (a : Set) → Valid v a → IsBeneath b a ⊎ IsOnWay nodes es a
-keeps_all v b nodes es z a h = elim (z.keeps a h) [ inl o ↦ inl o | inr t ↦ inr (on_way nodes es a z.tree.linked z.counted t) ]

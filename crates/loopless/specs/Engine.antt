@@ -1,12 +1,12 @@
 -- An engine as its callers see it.
-use Rattle.std.specs.Prelude.{◌≡◌, ℕ, ◌⊎◌, Bool, IsFalse, List, Option, Result}
+use Rattle.std.specs.Prelude.{◌≡◌, ℕ, Bool, IsFalse, List, Option, Result}
 use Rattle.task_system.specs.System.{State, System, IsPlanOf}
 use Rattle.symk_task.specs.declared.parts.Mode.TheVariants.{Loopless}
 use Rattle.run_graph.specs.Reached.{Useful}
 use Rattle.space_api.specs.View.{View, Valid, Has}
 use Rattle.lazy_plans.specs.Law.{Last}
 use Rattle.lazy_plans.specs.declared.stop.Stop.{Stop}
-use Rattle.prefix_tree.specs.Entries.{entries_of, IsOnWay}
+use Rattle.prefix_tree.specs.Entries.{entries_of}
 use Rattle.loopless.specs.declared.engine.LooplessPlans.{LooplessPlans}
 use Rattle.loopless.specs.Children.{prefixes}
 use Rattle.loopless.specs.Standing.{IsBeneath}
@@ -32,11 +32,11 @@ tells view x p = tells_owed (view x.space).system (prefixes x.tree.items (entrie
 
 -- what it meets between two calls
 abbrev pub IsEngine : {S Set : Type 0} → (S → View Set) → LooplessPlans S Set → Type 0
-IsEngine view x = IsSound (view x.space) x.backward x.tree.items x.most (entries_of x.queue) x.held x.ended
+IsEngine view x = IsSound (view x.space) x.backward x.graph x.tree.items x.most (entries_of x.queue) x.held x.ended
 
--- every valid set is one of the search back, the one that it is kept to, or that of a prefix on the way to one in the queue
+-- every valid set is one of the search back, or the one that it is kept to
 abbrev pub KeepsAll : {S Set : Type 0} → (S → View Set) → LooplessPlans S Set → Type 0
-KeepsAll {S} {Set} view x = (a : Set) → Valid (view x.space) a → IsBeneath x.backward a ⊎ IsOnWay x.tree.items (entries_of x.queue) a
+KeepsAll {S} {Set} view x = (a : Set) → Valid (view x.space) a → IsBeneath x.backward a
 
 -- no more is held than twice what was needed last, and 1,000
 abbrev pub HasRoom : {S Set : Type 0} → (S → View Set) → LooplessPlans S Set → Type 0

@@ -8,6 +8,7 @@ use Rattle.lazy_plans.specs.declared.stop.Stop.{Stop}
 use Rattle.lazy_plans.specs.declared.stop.Stop.TheVariants.{Memory}
 use Rattle.cost_search.specs.Directed.{Backward}
 use Rattle.prefix_laws.specs.Queue.{Right, Pending, pending}
+use Rattle.prefix_tree.specs.declared.state_graph.StateGraph.{StateGraph}
 use Rattle.prefix_tree.specs.declared.tree.Node.{Node}
 use Rattle.prefix_tree.specs.declared.entry.Entry.{Entry}
 use Rattle.loopless.specs.Children.{prefixes}
@@ -36,8 +37,8 @@ IsHeld y (Some p) ended = IsPlanOf y Loopless p × (ended ≡ Some (Some Memory)
 
 -- what every engine meets between two calls: the queue stands, what was answered last still holds, and where no plan was left
 -- the space is tidy
-pub record IsSound {Set : Type 0} (v : View Set) (b : Backward Set) (nodes : List (Node Set)) (most : Option ℕ) (es : List Entry) (held : Option (List ℕ)) (ended : Last) : Type 0 where
-  pub ready : IsReady v b nodes es
+pub record IsSound {Set : Type 0} (v : View Set) (b : Backward Set) (m : StateGraph) (nodes : List Node) (most : Option ℕ) (es : List Entry) (held : Option (List ℕ)) (ended : Last) : Type 0 where
+  pub ready : IsReady v b m nodes es
   pub right : Right v.system most (prefixes nodes es)
   pub holds : IsHeld v.system held ended
   pub said : Ended v.system most (Owes v.system (prefixes nodes es) held) ended

@@ -9,11 +9,13 @@ use Rattle.cost_search.specs.Directed.{Backward, IsBackward, search_of}
 use Rattle.symk_task.specs.declared.parts.Mode.TheVariants.{Loopless}
 use Rattle.lazy_plans.specs.Law.{Gave, Stays, top}
 use Rattle.prefix_laws.specs.Queue.{Hopeless, Right, Pending, weight}
-use Rattle.prefix_tree.specs.Tree.{IsTree, IsCounted, InTree, path_at}
-use Rattle.prefix_tree.specs.Entries.{entries_at}
+use Rattle.prefix_tree.specs.StateGraph.{states_of, IsStateGraph}
+use Rattle.prefix_tree.specs.declared.state_graph.StateGraph.{StateGraph}
+use Rattle.prefix_tree.specs.Tree.{IsTree, path_at}
 use Rattle.prefix_tree.specs.declared.tree.Node.{Node}
 use Rattle.prefix_tree.specs.declared.entry.Entry.{Entry}
-use Rattle.loopless.specs.Left.{IsWide, IsReached}
+use Rattle.prefix_tree.specs.States.{IsReached}
+use Rattle.loopless.specs.Left.{IsWide}
 use Rattle.loopless.specs.Children.{IsEntry, prefixes}
 
 -- the search back went on: its sets alone were traded, and it is kept to the same set as before
@@ -41,10 +43,6 @@ pub record HasReached {Set : Type 0} (v : View Set) (b : Backward Set) (reached 
   pub apart : ¬ IsBeneath b reached
   pub keeps : (a : Set) → Valid v a → IsBeneath b a ⊎ (a ≡ reached)
 
--- no set of the tree is one of those
-abbrev pub AreApart : {Set : Type 0} → Backward Set → List (Node Set) → Type 0
-AreApart {Set} b nodes = (a : Set) → InTree nodes a → ¬ IsBeneath b a
-
 -- how much may still be learned of an entry's bound
 abbrev pub stale : Entry → ℕ
 stale e = cond e.settled 0 (2 ^ 64 + 1 + e.cost - e.bound.0)
@@ -54,24 +52,21 @@ all_stale [] = 0
 all_stale (e ∷ es) = stale e + all_stale es
 
 -- no plan goes on from the prefix, or more is known of it
-abbrev pub IsBetter : {T : Type 0} → System → List (Node T) → Entry → Option Entry → Type 0
+abbrev pub IsBetter : System → List Node → Entry → Option Entry → Type 0
 IsBetter y nodes e None = Hopeless y (path_at nodes e.node)
 IsBetter y nodes e (Some k) = (k.node ≡ e.node) × IsEntry y nodes k × (stale k < stale e)
 
 -- what is left to do
-abbrev pub work : {T : Type 0} → System → List (Node T) → List Entry → ℕ
+abbrev pub work : System → List Node → List Entry → ℕ
 work y nodes es = 2 ^ 65 * weight y (prefixes nodes es) + all_stale es
 
--- The search back, the tree and the entries of the queue stand, each prefix is used as it is counted, and each valid set is one
--- of the search back or of the tree.
-pub record IsReady {Set : Type 0} (v : View Set) (b : Backward Set) (nodes : List (Node Set)) (es : List Entry) : Type 0 where
-  pub backward : IsBackward v b
-  pub wide : IsWide v b
-  pub tree : IsTree v nodes
+-- The search back, the graph of states, the tree and the entries of the queue stand, and each valid set is one of the search
+-- back or the one that it is kept to.
+pub record IsReady {Set : Type 0} (v : View Set) (b : Backward Set) (m : StateGraph) (nodes : List Node) (es : List Entry) : Type 0 where
+  pub alone : IsAlone v b
+  pub graph : IsStateGraph v.system m
+  pub tree : IsTree v.system (states_of m) nodes
   pub each : AllByRecursion (IsEntry v.system nodes) es
-  pub counted : IsCounted nodes (entries_at es)
-  pub apart : AreApart b nodes
-  pub keeps : (a : Set) → Valid v a → IsBeneath b a ⊎ InTree nodes a
 
 -- the entry alone, or none
 abbrev pub listed_of : Option Entry → List Entry
@@ -79,18 +74,18 @@ listed_of None = []
 listed_of (Some e) = e ∷ []
 
 -- the queue goes on: what pends is the same, and there is less to do
-abbrev pub GoesOn : {T : Type 0} → System → List (Node T) → List (Node T) → List Entry → List Entry → Type 0
+abbrev pub GoesOn : System → List Node → List Node → List Entry → List Entry → Type 0
 GoesOn y a b old new = (most : Option ℕ) → Right y most (prefixes a old) → Right y most (prefixes b new) × Stays (Pending y (prefixes a old)) (Pending y (prefixes b new)) × (work y b new < work y a old)
 
 -- the plan of the first entry is given, if no other has a lesser bound and it is cheap enough
-abbrev pub GivesFirst : {T : Type 0} → System → List (Node T) → List (Node T) → Entry → List Entry → List Entry → List ℕ → Type 0
+abbrev pub GivesFirst : System → List Node → List Node → Entry → List Entry → List Entry → List ℕ → Type 0
 GivesFirst y a b e old new p = (most : Option ℕ) → Right y most (prefixes a old) → AllByRecursion (λ (k : Entry). e.bound.0 ≤ k.bound.0) old → e.cost ≤ top most → Right y most (prefixes b new) × Gave y Loopless most (Pending y (prefixes a old)) (Pending y (prefixes b new)) p
 
-abbrev pub Opens : {T : Type 0} → System → List (Node T) → List (Node T) → Entry → List Entry → List Entry → Option (List ℕ) → Type 0
+abbrev pub Opens : System → List Node → List Node → Entry → List Entry → List Entry → Option (List ℕ) → Type 0
 Opens y a b e old new None = GoesOn y a b old new
 Opens y a b e old new (Some p) = IsTrue e.at_goal × GivesFirst y a b e old new p
 
 -- the plan that the entry is, if it is one
-abbrev pub IsPlanAt : {T : Type 0} → List (Node T) → Entry → Option (List ℕ) → Type 0
+abbrev pub IsPlanAt : List Node → Entry → Option (List ℕ) → Type 0
 IsPlanAt nodes e None = IsFalse e.at_goal
 IsPlanAt nodes e (Some p) = IsTrue e.at_goal × (p ≡ path_at nodes e.node)

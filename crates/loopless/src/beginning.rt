@@ -6,9 +6,8 @@ ghost use Rattle.loopless.specs.Engine.{system_of, most_of, ended_of, IsEngine, 
 
 use crate::engine::LooplessPlans;
 use crate::racing::keep_to_reached;
-use crate::reach::is_goal;
 use backward_search::{Backward, Kind};
-use prefix_tree::{Entry, Node, Queue};
+use prefix_tree::{Entry, Node, Queue, StateGraph, goal_at, number_of_start};
 use space_api::Space;
 use std::alloc::Global;
 use std::cmp::Reverse;
@@ -38,16 +37,14 @@ impl<S: Space + Drop> LooplessPlans<S> {
         let mut space = space;
         let backward = Backward::new(alloc, &mut space, within, Kind::Least)?;
         let backward = keep_to_reached(alloc, &mut space, backward, within, most)?;
-        let start = space.init()?;
-        // The initial state is one of the space.
-        let _ = space.is_empty(start);
-        let at_goal = is_goal(&mut space, start)?;
+        let mut graph = StateGraph::new(alloc);
+        let start = number_of_start(alloc, &space, &mut graph)?;
+        let at_goal = goal_at(alloc, &space, graph.state(start))?;
         let mut tree = Vec::new(alloc);
         tree.push(Node {
             parent: 0,
             op: 0,
-            set: start,
-            uses: 1,
+            state: start,
         })?;
         let mut queue = Queue::new(alloc);
         queue.push(Entry {
@@ -60,6 +57,7 @@ impl<S: Space + Drop> LooplessPlans<S> {
         Ok(LooplessPlans {
             space,
             backward,
+            graph,
             tree,
             queue,
             most,

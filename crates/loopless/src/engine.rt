@@ -2,7 +2,7 @@
 
 use backward_search::Backward;
 use lazy_plans::Stop;
-use prefix_tree::{Node, Queue};
+use prefix_tree::{Node, Queue, StateGraph};
 use space_api::Space;
 use symk_task::Plan;
 
@@ -11,8 +11,10 @@ use symk_task::Plan;
 pub struct LooplessPlans<S: Space> {
     pub(crate) space: S,
     pub(crate) backward: Backward<S::Set>,
-    /// The prefixes that were made. Those that lead to none in the queue have no set any more.
-    pub(crate) tree: Vec<Node<S::Set>>,
+    /// The states to which prefixes come.
+    pub(crate) graph: StateGraph,
+    /// The prefixes that were made.
+    pub(crate) tree: Vec<Node>,
     /// Those that may go on.
     pub(crate) queue: Queue,
     /// The greatest cost that is wanted, if there is one.
@@ -49,6 +51,7 @@ impl<S: Space> LooplessPlans<S> {
             alloc,
             &mut self.space,
             &mut self.backward,
+            &mut self.graph,
             &mut self.tree,
             self.most,
             &mut self.queue,
@@ -92,8 +95,7 @@ impl<S: Space> LazyPlans for LooplessPlans<S> {
     ghost last = { λ x. ended_of x };
 
     /// The next plan. One turn is one step. After each call, also one that is refused, every valid set is one
-    /// of the search back, the one that it is kept to, or that of a prefix on the way to one in the queue.
-    /// After a plan or None the space is tidy.
+    /// of the search back, or the one that it is kept to. After a plan or None the space is tidy.
     fn next_plan<L: Ledger>(
         &mut self,
         alloc: Global,

@@ -3,14 +3,15 @@
 ghost use Rattle.std.specs.Prelude.{◌≡◌, ◌+◌, ◌*◌, ◌-◌, ◌<◌, ◌≤◌, ◌^◌, ◌⊎◌, IsFalse, IfOk};
 ghost use Rattle.space_api.specs.View.{View};
 ghost use Rattle.cost_search.specs.Directed.{IsBackward};
-ghost use Rattle.prefix_tree.specs.Tree.{IsTree, uses_at};
+ghost use Rattle.prefix_tree.specs.StateGraph.{states_of, IsStateGraph};
+ghost use Rattle.prefix_tree.specs.Tree.{IsTree};
 ghost use Rattle.loopless.specs.Left.{IsWide};
 ghost use Rattle.loopless.specs.Children.{IsEntry};
-ghost use Rattle.loopless.specs.Standing.{Moved, AreApart, IsBetter, stale};
+ghost use Rattle.loopless.specs.Standing.{Moved, IsBetter, stale};
 
 use crate::left::{Left, left_after, left_from};
 use backward_search::Backward;
-use prefix_tree::{Entry, Node, node_at};
+use prefix_tree::{Entry, Node, StateGraph, node_at};
 use space_api::{Space, SpaceFault};
 use std::alloc::Global;
 use std::cmp::Reverse;
@@ -75,31 +76,50 @@ fn improved(entry: Entry, left: Left) -> Entry
     }
 }
 
+/// The entry with what the search back knows now; None where no plan goes on from it.
+fn improve<S: Space>(
+    space: &S,
+    backward: &Backward<S::Set>,
+    graph: &StateGraph,
+    tree: &[Node],
+    entry: Entry,
+) -> Option<Entry>
+    requires backward { IsBackward (S.view space.now) backward.now }
+    requires wide { IsWide (S.view space.now) backward.now }
+    requires graph { IsStateGraph (S.view space.now).system graph.now }
+    requires tree { IsTree (S.view space.now).system (states_of graph.now) tree.now }
+    requires entry { IsEntry (S.view space.now).system tree.now entry }
+    requires open { IsFalse entry.settled }
+    ensures { IsBetter (S.view space.now).system tree.now entry result }
+{
+    let low = left_after(entry.bound.0, entry.cost);
+    let here = node_at(tree, entry.node);
+    match left_from(space, backward, graph.state(here.state), low) {
+        None => None,
+        Some(left) => Some(improved(entry, left)),
+    }
+}
+
 /// The entry with a better bound, after the search back went on where that was needed; None where no plan goes
 /// on from it.
 pub(crate) fn refresh<S: Space>(
     alloc: Global,
     space: &mut S,
     backward: &mut Backward<S::Set>,
-    tree: &[Node<S::Set>],
+    graph: &StateGraph,
+    tree: &[Node],
     entry: Entry,
 ) -> Result<Option<Entry>, SpaceFault>
     requires backward { IsBackward (S.view space.old) backward.old }
     requires wide { IsWide (S.view space.old) backward.old }
-    requires tree { IsTree (S.view space.old) tree.now }
-    requires apart { AreApart backward.old tree.now }
+    requires graph { IsStateGraph (S.view space.old).system graph.now }
+    requires tree { IsTree (S.view space.old).system (states_of graph.now) tree.now }
     requires entry { IsEntry (S.view space.old).system tree.now entry }
-    requires used { 0 < uses_at tree.now entry.node }
     requires open { IsFalse entry.settled }
     ensures backward { IsBackward (S.view space.new) backward.new }
     ensures moved { Moved (S.view space.old) (S.view space.new) backward.old backward.new }
     ensures better { IfOk result (IsBetter (S.view space.old).system tree.now entry) }
 {
     look_further(alloc, space, backward, entry)?;
-    let here = node_at(tree, entry.node);
-    let low = left_after(entry.bound.0, entry.cost);
-    match left_from(space, backward, here.set, low)? {
-        None => Ok(None),
-        Some(left) => Ok(Some(improved(entry, left))),
-    }
+    Ok(improve(space, backward, graph, tree, entry))
 }

@@ -10,7 +10,7 @@ ghost use Rattle.loopless.specs.Standing.{IsReady, GoesOn, Opens, IsPlanAt, list
 use crate::expand::expand;
 use crate::refresh::refresh;
 use backward_search::Backward;
-use prefix_tree::{Entry, Node, Queue, operators_to, release};
+use prefix_tree::{Entry, Node, Queue, StateGraph, operators_to};
 use space_api::{Space, SpaceFault};
 use std::alloc::{AllocError, Global};
 use symk_task::Plan;
@@ -30,45 +30,35 @@ fn one_or_none(alloc: Global, entry: Option<Entry>) -> Result<Vec<Entry>, AllocE
 }
 
 /// Learns more of the first entry's bound, which puts it where it then belongs, or takes it out where no plan
-/// goes on from it; its prefix is given up then. Want of memory leaves the entries.
+/// goes on from it. Want of memory leaves the entries.
 pub fn learn<S: Space>(
     alloc: Global,
     space: &mut S,
     backward: &mut Backward<S::Set>,
-    tree: &mut Vec<Node<S::Set>>,
+    graph: &StateGraph,
+    tree: &[Node],
     queue: &mut Queue,
     entry: Entry,
 ) -> Result<(), SpaceFault>
-    requires ready { IsReady (S.view space.old) backward.old tree.old.items (entries_of queue.old) }
+    requires ready { IsReady (S.view space.old) backward.old graph.now tree.now (entries_of queue.old) }
     requires some { 0 < length (entries_of queue.old) }
     requires first { entry ≡ slice_index_or (entries_of queue.old) 0 entry }
     requires open { IsFalse entry.settled }
     ensures system { (S.view space.new).system ≡ (S.view space.old).system }
-    ensures ready { IsReady (S.view space.new) backward.new tree.new.items (entries_of queue.new) }
-    ensures ok { OnOk result (GoesOn (S.view space.old).system tree.old.items tree.new.items
+    ensures ready { IsReady (S.view space.new) backward.new graph.now tree.now (entries_of queue.new) }
+    ensures ok { OnOk result (GoesOn (S.view space.old).system tree.now tree.now
         (entries_of queue.old) (entries_of queue.new)) }
-    ensures err { OnErr result (prefixes tree.new.items (entries_of queue.new) ≡ prefixes tree.old.items
-        (entries_of queue.old)) }
+    ensures err { OnErr result (entries_of queue.new ≡ entries_of queue.old) }
 {
-    let better = refresh(alloc, space, backward, tree, entry)?;
+    let better = refresh(alloc, space, backward, graph, tree, entry)?;
     let others = one_or_none(alloc, better)?;
     queue.make_room(others.len())?;
     queue.replace(others);
-    match better {
-        Some(_) => Ok(()),
-        None => {
-            release(space, tree, entry.node);
-            Ok(())
-        }
-    }
+    Ok(())
 }
 
 /// The plan that the entry is, if it is one.
-fn plan_of<T: Copy>(
-    alloc: Global,
-    tree: &[Node<T>],
-    entry: Entry,
-) -> Result<Option<Plan>, AllocError>
+fn plan_of(alloc: Global, tree: &[Node], entry: Entry) -> Result<Option<Plan>, AllocError>
     requires linked { AreLinked tree.now }
     requires inside { entry.node < length tree.now }
     ensures { IfOk result (λ plan. IsPlanAt tree.now entry plan) }
@@ -79,29 +69,28 @@ fn plan_of<T: Copy>(
     Ok(None)
 }
 
-/// Takes the first entry out and puts its children in, and gives the plan that it is, if it is one. Where it
-/// has no child its prefix is given up. Want of memory leaves the entries.
+/// Takes the first entry out and puts its children in, and gives the plan that it is, if it is one. Want of memory
+/// leaves the entries.
 pub fn open<S: Space>(
     alloc: Global,
-    space: &mut S,
+    space: &S,
     backward: &Backward<S::Set>,
-    tree: &mut Vec<Node<S::Set>>,
+    graph: &mut StateGraph,
+    tree: &mut Vec<Node>,
     queue: &mut Queue,
     entry: Entry,
 ) -> Result<Option<Plan>, SpaceFault>
-    requires ready { IsReady (S.view space.old) backward.now tree.old.items (entries_of queue.old) }
+    requires ready { IsReady (S.view space.now) backward.now graph.old tree.old.items (entries_of queue.old) }
     requires some { 0 < length (entries_of queue.old) }
     requires first { entry ≡ slice_index_or (entries_of queue.old) 0 entry }
-    ensures system { (S.view space.new).system ≡ (S.view space.old).system }
-    ensures ready { IsReady (S.view space.new) backward.now tree.new.items (entries_of queue.new) }
-    ensures ok { IfOk result (Opens (S.view space.old).system tree.old.items tree.new.items entry
+    ensures ready { IsReady (S.view space.now) backward.now graph.new tree.new.items (entries_of queue.new) }
+    ensures ok { IfOk result (Opens (S.view space.now).system tree.old.items tree.new.items entry
         (entries_of queue.old) (entries_of queue.new)) }
     ensures err { OnErr result (prefixes tree.new.items (entries_of queue.new) ≡ prefixes tree.old.items
         (entries_of queue.old)) }
 {
     let plan = plan_of(alloc, tree, entry)?;
-    let children = expand(alloc, space, backward, tree, queue, entry)?;
+    let children = expand(alloc, space, backward, graph, tree, queue, entry)?;
     queue.replace(children);
-    release(space, tree, entry.node);
     Ok(plan)
 }

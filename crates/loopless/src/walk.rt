@@ -14,7 +14,7 @@ ghost use Rattle.loopless.specs.Turned.{TurnOf, IsPast, IsOut};
 use crate::turn::{learn, open};
 use backward_search::Backward;
 use lazy_plans::{Steps, Stop};
-use prefix_tree::{Entry, Node, Queue};
+use prefix_tree::{Entry, Node, Queue, StateGraph};
 use space_api::{Space, SpaceFault};
 use std::alloc::Global;
 use std::sync::ledger::Ledger;
@@ -54,24 +54,25 @@ fn act<S: Space>(
     alloc: Global,
     space: &mut S,
     backward: &mut Backward<S::Set>,
-    tree: &mut Vec<Node<S::Set>>,
+    graph: &mut StateGraph,
+    tree: &mut Vec<Node>,
     queue: &mut Queue,
     entry: Entry,
 ) -> Result<Option<Plan>, SpaceFault>
-    requires ready { IsReady (S.view space.old) backward.old tree.old.items (entries_of queue.old) }
+    requires ready { IsReady (S.view space.old) backward.old graph.old tree.old.items (entries_of queue.old) }
     requires some { 0 < length (entries_of queue.old) }
     requires first { entry ≡ slice_index_or (entries_of queue.old) 0 entry }
     ensures system { (S.view space.new).system ≡ (S.view space.old).system }
-    ensures ready { IsReady (S.view space.new) backward.new tree.new.items (entries_of queue.new) }
+    ensures ready { IsReady (S.view space.new) backward.new graph.new tree.new.items (entries_of queue.new) }
     ensures ok { IfOk result (Opens (S.view space.old).system tree.old.items tree.new.items entry
         (entries_of queue.old) (entries_of queue.new)) }
     ensures err { OnErr result (prefixes tree.new.items (entries_of queue.new) ≡ prefixes tree.old.items
         (entries_of queue.old)) }
 {
     if entry.settled {
-        return open(alloc, space, backward, tree, queue, entry);
+        return open(alloc, space, backward, graph, tree, queue, entry);
     }
-    learn(alloc, space, backward, tree, queue, entry)?;
+    learn(alloc, space, backward, graph, tree, queue, entry)?;
     Ok(None)
 }
 
@@ -80,14 +81,15 @@ fn take_turn<S: Space>(
     alloc: Global,
     space: &mut S,
     backward: &mut Backward<S::Set>,
-    tree: &mut Vec<Node<S::Set>>,
+    graph: &mut StateGraph,
+    tree: &mut Vec<Node>,
     most: Option<u64>,
     queue: &mut Queue,
 ) -> Result<Turn, SpaceFault>
-    requires ready { IsReady (S.view space.old) backward.old tree.old.items (entries_of queue.old) }
+    requires ready { IsReady (S.view space.old) backward.old graph.old tree.old.items (entries_of queue.old) }
     requires right { Right (S.view space.old).system most (prefixes tree.old.items (entries_of queue.old)) }
     ensures system { (S.view space.new).system ≡ (S.view space.old).system }
-    ensures ready { IsReady (S.view space.new) backward.new tree.new.items (entries_of queue.new) }
+    ensures ready { IsReady (S.view space.new) backward.new graph.new tree.new.items (entries_of queue.new) }
     ensures ok { IfOk result (TurnOf (S.view space.old).system most tree.old.items tree.new.items
         (entries_of queue.old) (entries_of queue.new)) }
     ensures err { OnErr result (prefixes tree.new.items (entries_of queue.new) ≡ prefixes tree.old.items
@@ -102,7 +104,7 @@ fn take_turn<S: Space>(
             if is_out(most, entry) {
                 return Ok(Turn::OutOfRange);
             }
-            match act(alloc, space, backward, tree, queue, entry)? {
+            match act(alloc, space, backward, graph, tree, queue, entry)? {
                 None => Ok(Turn::Goes),
                 Some(plan) => Ok(Turn::Gives(plan)),
             }
@@ -115,15 +117,16 @@ pub fn walk<S: Space, L: Ledger>(
     alloc: Global,
     space: &mut S,
     backward: &mut Backward<S::Set>,
-    tree: &mut Vec<Node<S::Set>>,
+    graph: &mut StateGraph,
+    tree: &mut Vec<Node>,
     most: Option<u64>,
     queue: &mut Queue,
     steps: &mut Steps<L>,
 ) -> Result<Option<Plan>, Stop>
-    requires ready { IsReady (S.view space.old) backward.old tree.old.items (entries_of queue.old) }
+    requires ready { IsReady (S.view space.old) backward.old graph.old tree.old.items (entries_of queue.old) }
     requires right { Right (S.view space.old).system most (prefixes tree.old.items (entries_of queue.old)) }
     ensures system { (S.view space.new).system ≡ (S.view space.old).system }
-    ensures ready { IsReady (S.view space.new) backward.new tree.new.items (entries_of queue.new) }
+    ensures ready { IsReady (S.view space.new) backward.new graph.new tree.new.items (entries_of queue.new) }
     ensures right { Right (S.view space.old).system most (prefixes tree.new.items (entries_of queue.new)) }
     ensures law { Turned (S.view space.old).system Loopless most (Pending (S.view space.old).system
         (prefixes tree.old.items (entries_of queue.old))) (Pending (S.view space.old).system
@@ -131,7 +134,7 @@ pub fn walk<S: Space, L: Ledger>(
 {
     'turns: loop {
         steps.tick();
-        match take_turn(alloc, space, backward, tree, most, queue) {
+        match take_turn(alloc, space, backward, graph, tree, most, queue) {
             Err(_) => return Err(Stop::Memory),
             Ok(turn) => match turn {
                 Turn::Goes => {}

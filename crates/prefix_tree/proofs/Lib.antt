@@ -1,7 +1,6 @@
 pub mod Paths
-pub mod Counting
-pub mod Using
-pub mod Releasing
-pub mod Ways
+pub mod Operators
 pub mod Passing
+pub mod ReachedStates
+pub mod StateGraphs
 pub mod Replacing

@@ -1,3 +1,5 @@
 pub mod Order
 pub mod Entries
+pub mod States
+pub mod StateGraph
 pub mod Tree

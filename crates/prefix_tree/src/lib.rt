@@ -1,20 +1,25 @@
-//! Prefixes of plans: a tree that has each once, and a queue of those that may still go on.
+//! Prefixes of plans: a tree that has each once, the states where they end, and a queue of those that may still go on.
 //!
-//! A prefix in the tree has the one before it, the operator that makes it longer, and the set of the one state
-//! where it ends. So a prefix takes the same memory however long it is; its operators, and the states on its
-//! way, are read along the ones before. Each is counted by those that use it, the next longer ones and the
-//! entries of the queue, and its set is given back with its last use. The queue hands out the entry of the
-//! least bound, and of equal bounds one of the greatest cost. The contracts say which operators a prefix has,
-//! whether it passes a state, which sets the tree has, and which entries the queue has. It stands on
-//! `prefix_laws` for what prefixes are, on `space_api` for sets, and on std's binary heap.
+//! A prefix in the tree has the one before it, the operator that makes it longer, and the number of the one state where
+//! it ends, since operators lead to one state. So a prefix takes the same memory however long it is, and no set: its
+//! operators, and the numbers of the states on its way, are read along the ones before. `StateGraph` has each state
+//! once, as values of the task's variables, and of a state the moves, which are found once, when the first prefix that
+//! ends there goes on. The queue hands out the entry of the least bound, and of equal bounds one of the greatest cost.
+//! The contracts say which operators a prefix has, whether it passes a state, which moves lead on from a state, and
+//! which entries the queue has. It stands on `prefix_laws` for what prefixes are, on `task_run` for single states, on
+//! `space_api` for the task of a space, on `indexmap` for states by number, and on std's binary heap.
 #![tactic(auto)]
 
 mod entry;
-mod prefix_release;
+mod moves;
 mod queue;
+mod state_graph;
+mod states;
 mod tree;
 
 pub use entry::Entry;
-pub use prefix_release::{release, release_all};
+pub use moves::{find_moves, number_of_start};
 pub use queue::Queue;
+pub use state_graph::{Move, StateGraph};
+pub use states::{goal_at, has_state};
 pub use tree::{Node, add, node_at, operators_to, passes};

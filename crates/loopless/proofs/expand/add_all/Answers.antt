@@ -1,87 +1,66 @@
-use Rattle.std.proofs.Common.{◌≡◌, ◌+◌, ◌<◌, List, length, get_or, slice_index_or, sym, subst, arith}
-use Rattle.task_system.specs.System.{System}
-use Rattle.space_api.specs.Operators.{LeadFrom}
+use Rattle.std.proofs.Common.{◌+◌, ◌<◌, ℕ, List, get_or, sym, ap, subst, arith}
 use Rattle.space_api.proofs.Rising.{past_none, past_next, never_falls}
+use Rattle.task_system.specs.System.{State}
+use Rattle.prefix_tree.specs.StateGraph.{states_of, state_at, ops_of, IsMove}
 use Rattle.prefix_tree.specs.Tree.{path_at}
-use Rattle.prefix_tree.specs.declared.tree.Node.{Node}
-use Rattle.cost_search.proofs.Directing.{directed_kept}
-use Rattle.loopless.specs.Children.{AreChildren}
-use Rattle.loopless.proofs.Reaching.{node_here, wide_kept}
-use Rattle.loopless.proofs.Skipping.{skip_to, when_ok}
-use Rattle.loopless.proofs.Growing.{grows_refl, grows_trans, counts_same, counts_trans, entry_grown, children_none, children_grown, children_next, added_at}
+use Rattle.prefix_tree.specs.declared.state_graph.Move.{Move}
+use Rattle.prefix_tree.proofs.Paths.{grows_refl, grows_trans}
+use Rattle.loopless.specs.Children.{Added, AreChildren}
+use Rattle.loopless.proofs.Growing.{children_none, children_like, children_next}
+use Rattle.loopless.proofs.Skipping.{op_at, ops_few, ops_many, skip_to}
 use Rattle.loopless.proofs.expand.add_all.Goals as goal
 
-pub node_at-here-requires : goal.node_at-here-requires
-node_at-here-requires g c = subst (λ (ns : List (Node g.row.S-Set.Denot)). c.args.entry.node < length ns) (sym c.deref.ensures.value) c.requires.entry.inside
-
-pub operators_from-requires : goal.operators_from-requires
-operators_from-requires g c = (node_here (g.S.Space.view c.args.space.now) c.args.tree.now.items c.args.entry.node c.node_at-here.result c.requires.tree c.requires.used (subst (λ (ns : List (Node g.row.S-Set.Denot)). c.node_at-here.result ≡ slice_index_or ns c.args.entry.node c.node_at-here.result) c.deref.ensures.value (c.node_at-here.ensures c.node_at-here.result))).one.valid
-
-pub returns-in_err-ops-clause-grows : goal.returns-in_err-ops-clause-grows
-returns-in_err-ops-clause-grows g c = grows_refl (g.S.Space.view c.args.space.now) c.args.tree.now.items c.requires.tree
-
-pub returns-in_err-ops-clause-counted : goal.returns-in_err-ops-clause-counted
-returns-in_err-ops-clause-counted g c = counts_same c.args.tree.now.items c.args.children.now.items
-
-pub operators-init : goal.operators-init
-operators-init g c =
-    let v = g.S.Space.view c.args.space.now in
-    let e = path_at c.args.tree.now.items c.args.entry.node in
+pub moves-init : goal.moves-init
+moves-init g c =
+    let y = (g.S.Space.view c.args.space.now).system in
+    let a = c.args.tree.now.items in
+    let e = path_at a c.args.entry.node in
     record {
-      grows = grows_refl v c.args.tree.now.items c.requires.tree;
-      counted = counts_same c.args.tree.now.items c.args.children.now.items;
-      used = c.requires.used;
-      children = (0, past_none c.deref-op-items.result.now, omega arith, subst (AreChildren v.system c.args.tree.now.items e 0) (sym c.requires.none) (children_none v.system c.args.tree.now.items e));
+      grows = grows_refl y (states_of c.args.graph.now) a c.requires.tree;
+      children = (0, past_none (ops_of c.args.moves.now), omega arith, subst (AreChildren y a e 0) (sym c.requires.none) (children_none y a e));
     }
 
-pub add_child-requires-clause-op : goal.add_child-requires-clause-op
-add_child-requires-clause-op g c = subst (λ (y : System). get_or c.deref-op-items.result.now c.operators.op-index 0 < y.operators) (sym c.operators.invariant.grows.kept.system) (let lead : LeadFrom (g.S.Space.view c.args.space.now) c.node_at-here.result.set c.deref-op-items.result.now = subst (LeadFrom (g.S.Space.view c.args.space.now) c.node_at-here.result.set) (sym c.deref-op-items.ensures.value) c.in_ok-ops.ensures in lead.known c.operators.op-index 0 c.operators-test.true)
+pub add_child-requires-clause-step : goal.add_child-requires-clause-step
+add_child-requires-clause-step g c =
+    let y = (g.S.Space.view c.args.space.now).system in
+    let ss = states_of c.args.graph.now in
+    let d : Move = record { op = 0; to = 0 } in
+    subst (λ (s : State). IsMove y ss s (get_or c.args.moves.now c.moves.step-index d)) (sym (ap (state_at ss) (c.moves.invariant.grows.ends c.args.entry.node c.requires.entry.inside))) (c.requires.moves.each c.moves.step-index d c.moves-test.true)
 
-pub add_child-requires-clause-backward : goal.add_child-requires-clause-backward
-add_child-requires-clause-backward g c = directed_kept (g.S.Space.view c.args.space.now) (g.S.Space.view c.operators.space) c.args.backward.now c.operators.invariant.grows.kept c.requires.backward
-
-pub add_child-requires-clause-wide : goal.add_child-requires-clause-wide
-add_child-requires-clause-wide g c = wide_kept (g.S.Space.view c.args.space.now) (g.S.Space.view c.operators.space) c.args.backward.now c.operators.invariant.grows.kept c.requires.backward c.requires.wide
-
-pub add_child-requires-clause-entry : goal.add_child-requires-clause-entry
-add_child-requires-clause-entry g c = entry_grown (g.S.Space.view c.args.space.now) (g.S.Space.view c.operators.space) c.args.tree.now.items c.operators.tree.items c.args.entry c.operators.invariant.grows c.requires.entry
-
-pub returns-in_err-add_child-clause-grows : goal.returns-in_err-add_child-clause-grows
-returns-in_err-add_child-clause-grows g c = grows_trans (g.S.Space.view c.args.space.now) (g.S.Space.view c.operators.space) (g.S.Space.view c.add_child.new.space) c.args.tree.now.items c.operators.tree.items c.add_child.new.tree.items c.operators.invariant.grows c.add_child.ensures.grows
-
-pub returns-in_err-add_child-clause-counted : goal.returns-in_err-add_child-clause-counted
-returns-in_err-add_child-clause-counted g c = counts_trans c.args.tree.now.items c.operators.tree.items c.add_child.new.tree.items c.args.children.now.items c.operators.children.items c.add_child.new.children.items c.operators.invariant.counted c.add_child.ensures.counted
-
-pub operators-preserved : goal.operators-preserved
-operators-preserved g c =
-    let u = g.S.Space.view c.args.space.now in
-    let v = g.S.Space.view c.operators.space in
-    let w = g.S.Space.view c.add_child.new.space in
-    let i = c.operators.invariant in
-    let e = path_at c.args.tree.now.items c.args.entry.node in
-    let ops = c.deref-op-items.result.now in
-    let lead : LeadFrom u c.node_at-here.result.set ops = subst (LeadFrom u c.node_at-here.result.set) (sym c.deref-op-items.ensures.value) c.in_ok-ops.ensures in
-    let at = c.operators.op-index in
-    let op = get_or ops at 0 in
-    let rising = lead.rising in
-    let known = lead.known at 0 c.operators-test.true in
+pub moves-preserved : goal.moves-preserved
+moves-preserved g c =
+    let y = (g.S.Space.view c.args.space.now).system in
+    let ss = states_of c.args.graph.now in
+    let a = c.args.tree.now.items in
+    let b = c.moves.tree.items in
+    let t = c.add_child.new.tree.items in
+    let e = path_at a c.args.entry.node in
+    let d : Move = record { op = 0; to = 0 } in
+    let moves = c.args.moves.now in
+    let at = c.moves.step-index in
+    let ops = ops_of moves in
+    let op = get_or (ops_of moves) at 0 in
+    let i = c.moves.invariant in
+    let m = c.add_child.ensures.grows in
+    let old = c.moves.children.items in
+    let new = c.add_child.new.children.items in
+    let is = op_at c.args.moves.now d c.moves.step-index c.moves-test.true in
+    let inside = ops_few c.args.moves.now c.moves.step-index c.moves-test.true in
+    let one = c.requires.moves.each c.moves.step-index d c.moves-test.true in
+    let known : get_or (ops_of c.args.moves.now) c.moves.step-index 0 < y.operators = subst (λ (k : ℕ). k < y.operators) is one.leads.number in
     let path = i.grows.paths c.args.entry.node c.requires.entry.inside in
-    let added = added_at u.system v.system c.add_child.new.tree.items e (path_at c.operators.tree.items c.args.entry.node) op c.operators.children.items c.add_child.new.children.items i.grows.kept.system path c.in_ok-add_child.ensures.added in
-    let sofar = skip_to u c.args.tree.now.items c.args.entry.node c.node_at-here.result ops c.requires.tree c.requires.used (subst (λ (ns : List (Node g.row.S-Set.Denot)). c.node_at-here.result ≡ slice_index_or ns c.args.entry.node c.node_at-here.result) c.deref.ensures.value (c.node_at-here.ensures c.node_at-here.result)) lead
-    c.operators.tree.items c.operators.children.items at i.children.0 op i.children.1 (i.children.1.above at (omega arith) c.operators-test.true) (never_falls ops rising at) i.children.3 in
+    let added = subst (λ (k : ℕ). Added y t e k old new) is (subst (λ (p : List ℕ). Added y t p (get_or c.args.moves.now c.moves.step-index d).op old new) path c.in_ok-add_child.ensures.added) in
+    let sofar = skip_to y ss a c.args.entry.node moves c.requires.tree c.requires.entry.inside c.requires.moves b old at i.children.0 op i.children.1 (i.children.1.above at (omega arith) inside) (never_falls ops c.requires.moves.rising at) i.children.3 in
     record {
-      grows = grows_trans u v w c.args.tree.now.items c.operators.tree.items c.add_child.new.tree.items i.grows c.add_child.ensures.grows;
-      counted = counts_trans c.args.tree.now.items c.operators.tree.items c.add_child.new.tree.items c.args.children.now.items c.operators.children.items c.add_child.new.children.items i.counted c.add_child.ensures.counted;
-      used = c.add_child.ensures.used;
-      children = (op + 1, past_next ops rising at c.operators-test.true, omega (arith, known), children_next u.system c.add_child.new.tree.items e op c.operators.children.items c.add_child.new.children.items (children_grown v w c.operators.tree.items c.add_child.new.tree.items u.system e op c.operators.children.items c.add_child.ensures.grows sofar) added);
+      grows = grows_trans y ss a b t i.grows m;
+      children = (op + 1, past_next ops c.requires.moves.rising at inside, omega (arith, known), children_next y t e op old new (children_like y b t e op old m.longer m.paths sofar) added);
     }
 
 pub returns-clause-children : goal.returns-clause-children
 returns-clause-children g c =
-    let u = g.S.Space.view c.args.space.now in
-    let i = c.operators.invariant in
-    let ops = c.deref-op-items.result.now in
-    let lead : LeadFrom u c.node_at-here.result.set ops = subst (LeadFrom u c.node_at-here.result.set) (sym c.deref-op-items.ensures.value) c.in_ok-ops.ensures in
-    let at = c.operators.op-index in
-    when_ok c.make_room.result (skip_to u c.args.tree.now.items c.args.entry.node c.node_at-here.result ops c.requires.tree c.requires.used (subst (λ (ns : List (Node g.row.S-Set.Denot)). c.node_at-here.result ≡ slice_index_or ns c.args.entry.node c.node_at-here.result) c.deref.ensures.value (c.node_at-here.ensures c.node_at-here.result)) lead
-    c.operators.tree.items c.operators.children.items at i.children.0 u.system.operators i.children.1 i.children.2 (λ j ge lt. absurd (omega (arith, ge, lt, c.operators-test.false))) i.children.3)
+    let y = (g.S.Space.view c.args.space.now).system in
+    let ss = states_of c.args.graph.now in
+    let i = c.moves.invariant in
+    let few = ops_many c.args.moves.now c.moves.step-index c.moves-test.false in
+    skip_to y ss c.args.tree.now.items c.args.entry.node c.args.moves.now c.requires.tree c.requires.entry.inside c.requires.moves c.moves.tree.items c.moves.children.items c.moves.step-index i.children.0 y.operators i.children.1 i.children.2
+    (λ j ge lt. absurd (omega (arith, ge, lt, few))) i.children.3

@@ -1,22 +1,31 @@
-use Rattle.std.proofs.Common.{◌≡◌, drop, length, arith}
-use Rattle.prefix_tree.proofs.Replacing.{written_back}
-use Rattle.loopless.proofs.Growing.{counts_first, counts_made, regrows}
+use Rattle.std.proofs.Common.{◌≡◌, ℕ, List, slice_index_or, subst}
+use Rattle.prefix_tree.specs.StateGraph.{states_of, state_at, AreMoves}
+use Rattle.prefix_tree.specs.declared.tree.Node.{Node}
+use Rattle.prefix_tree.proofs.Paths.{grows_refl, tree_prolonged}
+use Rattle.prefix_tree.proofs.Passing.{number_is}
+use Rattle.loopless.proofs.Reaching.{end_within}
 use Rattle.loopless.proofs.expand.expand.Goals as goal
 
-pub release_all-requires-clause-used : goal.release_all-requires-clause-used
-release_all-requires-clause-used g c =
-    let n = counts_first c.args.tree.now.items c.add_all.new.tree.items c.new-children.result.items c.add_all.new.children.items c.new-children.ensures.items c.add_all.ensures.counted in
-    rw c.deref_mut.ensures.value (c.requires.counted.0, counts_made c.args.tree.now.items c.add_all.new.tree.items c.add_all.new.children.items c.requires.counted.0 n c.requires.counted.1)
+pub find_moves-requires-clause-number : goal.find_moves-requires-clause-number
+find_moves-requires-clause-number g c =
+    let y = (g.S.Space.view c.args.space.now).system in
+    let nodes = c.args.tree.now.items in
+    let is = subst (λ (ns : List Node). c.node_at-here.result ≡ slice_index_or ns c.args.entry.node c.node_at-here.result) c.deref.ensures.value (c.node_at-here.ensures c.node_at-here.result) in
+    end_within y (states_of c.args.graph.now) nodes c.args.entry.node c.node_at-here.result c.requires.tree c.requires.entry.inside is
 
-pub returns-in-Ok-clause-counted : goal.returns-in-Ok-clause-counted
-returns-in-Ok-clause-counted g c = counts_first c.args.tree.now.items c.add_all.new.tree.items c.new-children.result.items c.add_all.new.children.items c.new-children.ensures.items c.add_all.ensures.counted
+pub add_all-requires-clause-tree : goal.add_all-requires-clause-tree
+add_all-requires-clause-tree g c = tree_prolonged (g.S.Space.view c.args.space.now).system (states_of c.args.graph.now) (states_of c.find_moves.new.graph) c.args.tree.now.items c.find_moves.ensures.prolongs c.requires.tree
 
-pub returns-in-Err-clause-err : goal.returns-in-Err-clause-err
-returns-in-Err-clause-err g c =
-    let u = g.S.Space.view c.args.space.now in
-    let v = g.S.Space.view c.add_all.new.space in
-    let w = g.S.Space.view c.release_all.new.space in
-    let n = counts_first c.args.tree.now.items c.add_all.new.tree.items c.new-children.result.items c.add_all.new.children.items c.new-children.ensures.items c.add_all.ensures.counted in
-    let long : c.add_all.new.tree.len ≡ length c.release_all.new.tree = omega (arith, c.release_all.ensures.long, c.deref_mut.ensures.len) in
-    let back = written_back c.release_all.new.tree (drop (length c.release_all.new.tree) c.add_all.new.tree.items) c.add_all.new.tree.len long in
-    rw back (regrows u v w c.args.tree.now.items c.add_all.new.tree.items c.release_all.new.tree c.add_all.new.children.items c.add_all.ensures.grows n (rw c.deref_mut.ensures.value at c.release_all.ensures))
+pub returns-in_err-find_moves-clause-grows : goal.returns-in_err-find_moves-clause-grows
+returns-in_err-find_moves-clause-grows g c =
+    let y = (g.S.Space.view c.args.space.now).system in
+    grows_refl y (states_of c.find_moves.new.graph) c.args.tree.now.items (tree_prolonged y (states_of c.args.graph.now) (states_of c.find_moves.new.graph) c.args.tree.now.items c.find_moves.ensures.prolongs c.requires.tree)
+
+pub add_all-requires-clause-moves : goal.add_all-requires-clause-moves
+add_all-requires-clause-moves g c =
+    let y = (g.S.Space.view c.args.space.now).system in
+    let nodes = c.args.tree.now.items in
+    let is = subst (λ (ns : List Node). c.node_at-here.result ≡ slice_index_or ns c.args.entry.node c.node_at-here.result) c.deref.ensures.value (c.node_at-here.ensures c.node_at-here.result) in
+    let ss = states_of c.find_moves.new.graph in
+    let all = c.find_moves.ensures.graph.moves c.node_at-here.result.state c.in-Some.moves.now c.in-Some.ensures.found in
+    subst (λ (k : ℕ). AreMoves y ss (state_at ss k) c.in-Some.moves.now) (number_is nodes c.args.entry.node c.node_at-here.result c.requires.entry.inside is) all.1

@@ -1,36 +1,34 @@
-use Rattle.std.proofs.Common.{refl}
-use Rattle.space_api.proofs.Trading.{valid_clash}
-use Rattle.prefix_tree.proofs.Counting.{uses_beyond}
-use Rattle.prefix_tree.proofs.Passing.{here, nowhere, node_valid, up_less, up_used, up_same}
+use Rattle.std.proofs.Common.{◌<◌, true, false, ◌≡◌, refl, arith}
+use Rattle.prefix_tree.proofs.Operators.{back_less}
+use Rattle.prefix_tree.proofs.Passing.{here, nowhere, up_same}
 use Rattle.prefix_tree.proofs.tree.passes.Goals as goal
 
-pub node_at-here-requires : goal.node_at-here-requires
-node_at-here-requires g c = uses_beyond c.args.tree.now c.up.at c.up.invariant.used
-
-pub same-requires-clause-a : goal.same-requires-clause-a
-same-requires-clause-a g c = node_valid (g.S.Space.view c.args.space.now) c.args.tree.now c.requires.tree c.up.at c.node_at-here.result c.up.invariant.used (c.node_at-here.ensures c.node_at-here.result)
-
-pub returns-then-same : goal.returns-then-same
-returns-then-same g c t one =
-    let v = g.S.Space.view c.args.space.now in
-    let h = here v c.args.tree.now c.requires.tree c.up.at c.node_at-here.result c.up.invariant.used (c.node_at-here.ensures c.node_at-here.result) c.args.next t one (c.same.ensures.0 c.if-same.true) in
-    ((λ e. (c.up.invariant.same t one).1 h), (λ k. refl))
+pub returns-then-here-state : goal.returns-then-here-state
+returns-then-here-state c y ss z once known =
+    let is = c.node_at-here.ensures c.node_at-here.result in
+    let h = here c.args.tree.now c.up.at c.node_at-here.result c.up.invariant.within is c.args.state y ss z once known c.if-here-state.true in
+    ((λ e. (c.up.invariant.same y ss z once known).1 h), (λ l. refl))
 
 pub returns-then-at-eq0 : goal.returns-then-at-eq0
-returns-then-at-eq0 g c t one =
-    let v = g.S.Space.view c.args.space.now in
-    ((λ e. cc), (λ h. absurd (nowhere v c.args.tree.now c.requires.tree c.up.at c.node_at-here.result c.up.invariant.used (c.node_at-here.ensures c.node_at-here.result) c.if-at-eq0.true c.args.next t one (λ s. valid_clash (c.same.ensures.1 s) c.if-same.false) ((c.up.invariant.same t one).0 h))))
+returns-then-at-eq0 c y ss z once known =
+    let is = c.node_at-here.ensures c.node_at-here.result in
+    let off = nowhere c.args.tree.now c.up.at c.node_at-here.result c.up.invariant.within is c.args.state y ss z once known c.if-at-eq0.true c.if-here-state.false in
+    ((λ e. absurd (not_true e)), (λ l. absurd (off ((c.up.invariant.same y ss z once known).0 l))))
+  where
+    not_true : false ≡ true → ⊥
+    not_true e = cc
 
 pub up-smaller : goal.up-smaller
-up-smaller g c = up_less (g.S.Space.view c.args.space.now) c.args.tree.now c.requires.tree c.up.at c.node_at-here.result c.up.invariant.used (c.node_at-here.ensures c.node_at-here.result) c.if-at-eq0.false
+up-smaller c = back_less c.args.tree.now c.requires.linked c.up.at c.node_at-here.result c.up.invariant.within (c.node_at-here.ensures c.node_at-here.result) c.if-at-eq0.false
 
 pub up-preserved : goal.up-preserved
-up-preserved g c =
-    let v = g.S.Space.view c.args.space.now in
+up-preserved c =
+    let is = c.node_at-here.ensures c.node_at-here.result in
+    let less : c.node_at-here.result.parent < c.up.at = back_less c.args.tree.now c.requires.linked c.up.at c.node_at-here.result c.up.invariant.within is c.if-at-eq0.false in
     record {
-      used = up_used v c.args.tree.now c.requires.tree c.up.at c.node_at-here.result c.up.invariant.used (c.node_at-here.ensures c.node_at-here.result) c.if-at-eq0.false;
-      same = λ t one.
-          let u = up_same v c.args.tree.now c.requires.tree c.up.at c.node_at-here.result c.up.invariant.used (c.node_at-here.ensures c.node_at-here.result) c.if-at-eq0.false c.args.next t one (λ s. valid_clash (c.same.ensures.1 s) c.if-same.false) in
-          let s = c.up.invariant.same t one in
+      within = omega (arith, less, c.up.invariant.within);
+      same = λ y ss z once known.
+          let u = up_same c.args.tree.now c.up.at c.node_at-here.result c.up.invariant.within is c.args.state y ss z once known c.if-at-eq0.false c.if-here-state.false in
+          let s = c.up.invariant.same y ss z once known in
           ((λ h. u.0 (s.0 h)), (λ h. s.1 (u.1 h)));
     }

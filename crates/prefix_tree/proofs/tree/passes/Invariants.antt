@@ -1,15 +1,14 @@
-use Rattle.std.proofs.Common.{◌<◌, ◌↔◌}
-use Rattle.task_system.specs.System.{State, Listed, trace}
-use Rattle.prefix_tree.specs.Tree.{One, path_at, uses_at}
+use Rattle.std.proofs.Common.{◌<◌, ◌↔◌, List, length}
+use Rattle.task_system.specs.System.{State, System, Listed, trace}
+use Rattle.prefix_tree.specs.StateGraph.{AreOnce, state_at}
+use Rattle.prefix_tree.specs.Tree.{IsTree, path_at}
 use Rattle.prefix_tree.proofs.tree.passes.Given as goal
 
 abbrev pub invariant-up : goal.invariant-up
-invariant-up g l =
-    let v = g.S.Space.view l.space in
-    record {
-      used : 0 < uses_at l.tree l.at;
-      same : (t : State) → One v l.next t → Listed (trace v.system v.system.initial (path_at l.tree l.node)) t ↔ Listed (trace v.system v.system.initial (path_at l.tree l.at)) t;
-    }
+invariant-up l = record {
+  within : l.at < length l.tree;
+  same : (y : System) (ss : List State) → IsTree y ss l.tree → AreOnce ss → l.state < length ss → Listed (trace y y.initial (path_at l.tree l.node)) (state_at ss l.state) ↔ Listed (trace y y.initial (path_at l.tree l.at)) (state_at ss l.state);
+}
 
 abbrev pub decreases-up : goal.decreases-up
-decreases-up g l = l.at
+decreases-up l = l.at

@@ -1,12 +1,14 @@
-use Rattle.std.proofs.Common.{◌≡◌, false, List, [], ◌∷◌, ◌++◌, None, refl, sym, ◌∙◌, ap, subst}
+use Rattle.std.proofs.Common.{◌≡◌, false, List, [], ◌∷◌, ◌++◌, None, refl, sym, ◌∙◌, ap, subst, IsTrue}
+use Rattle.std.specs.Bool.{Decides}
 use Rattle.std.specs.List.Sorted.{IsPermutation}
+use Rattle.task_system.specs.System.{State}
 use Rattle.space_api.proofs.Trading.{kept_made}
 use Rattle.prefix_tree.specs.Entries.{entries_of}
 use Rattle.prefix_tree.specs.declared.tree.Node.{Node}
 use Rattle.prefix_tree.specs.declared.entry.Entry.{Entry}
 use Rattle.loopless.specs.Children.{prefixes}
 use Rattle.loopless.specs.Owing.{Owes, IsSound}
-use Rattle.loopless.proofs.First.{begun, begun_all, initial_listed}
+use Rattle.loopless.proofs.First.{begun, begun_all}
 use Rattle.loopless.proofs.Inside.{alone_fresh}
 use Rattle.loopless.proofs.engine.LooplessPlans.begin.Goals as goal
 
@@ -15,37 +17,34 @@ keep_to_reached-requires-clause-alone g c =
     let view = g.S.Space.view in
     alone_fresh (view c.args.space) (view c.new.new.space) c.in_ok-backward.backward c.args.within c.requires.alone c.requires.within c.requires.wide c.in_ok-backward.ensures.backward c.in_ok-backward.ensures.ok.within_is c.in_ok-backward.ensures.trades
 
+pub number_of_start-requires : goal.number_of_start-requires
+number_of_start-requires g c = c.new-graph.ensures.graph (g.S.Space.view c.keep_to_reached.new.space).system
+
 pub returns-clause-lawful : goal.returns-clause-lawful
 returns-clause-lawful g c =
     let view = g.S.Space.view in
     let v = view c.keep_to_reached.new.space in
-    let w = view c.init.new.self in
-    let x = view c.is_goal.new.space in
     let b = c.in_ok-backward-2.backward in
-    let n : Node g.row.S-Set.Denot = record { parent = 0; op = 0; set = c.in_ok-start.start; uses = 1 } in
+    let n : Node = record { parent = 0; op = 0; state = c.in_ok-start.start } in
     let e : Entry = record { bound = record { 0 = 0 }; cost = 0; node = 0; settled = false; at_goal = c.in_ok-at_goal.at_goal } in
     let es = entries_of c.push-2.new.self in
-    let tree : c.push.new.self.items ≡ n ∷ [] = c.in_ok-push.ensures.items ∙ ap (λ (l : List (Node g.row.S-Set.Denot)). l ++ n ∷ []) c.new-tree.ensures.items in
+    let tree : c.push.new.self.items ≡ n ∷ [] = c.in_ok-push.ensures.items ∙ ap (λ (l : List Node). l ++ n ∷ []) c.new-tree.ensures.items in
     let put : IsPermutation (e ∷ []) es = subst (λ (l : List Entry). IsPermutation (e ∷ l) es) c.new-queue.ensures c.in_ok-push-2.ensures.ok in
-    let init = c.in_ok-start.ensures.ok in
-    let listed = initial_listed v w c.in_ok-start.start c.is_empty.result c.in_ok-start.ensures.kept init c.is_empty.ensures.empty.0 c.is_empty.ensures.member in
-    let goal = c.in_ok-at_goal.ensures.ok v.system.initial (record { valid = init.valid; means = init.means }) in
-    subst (λ (l : List (Node g.row.S-Set.Denot)). IsSound x b l c.args.most es None None) (sym tree) (begun v.system v w x b c.in_ok-start.start n e es refl c.in_ok-backward-2.ensures.alone listed c.in_ok-start.ensures.kept init c.in_ok-at_goal.ensures.stays refl refl put refl refl refl goal c.args.most)
+    let is = c.in_ok-start.ensures.is in
+    let goal = subst (λ (s : State). Decides c.in_ok-at_goal.at_goal (IsTrue (v.system.goal s))) (c.state.ensures ∙ is) c.in_ok-at_goal.ensures in
+    subst (λ (l : List Node). IsSound v b c.number_of_start.new.graph l c.args.most es None None) (sym tree) (begun v.system v b c.number_of_start.new.graph n e es refl c.in_ok-backward-2.ensures.alone c.number_of_start.ensures.graph c.in_ok-start.ensures.within is put refl refl refl goal c.args.most)
 
 pub returns-clause-all : goal.returns-clause-all
 returns-clause-all g c p i =
     let view = g.S.Space.view in
     let v = view c.keep_to_reached.new.space in
-    let w = view c.init.new.self in
-    let x = view c.is_goal.new.space in
     let b = c.in_ok-backward-2.backward in
-    let n : Node g.row.S-Set.Denot = record { parent = 0; op = 0; set = c.in_ok-start.start; uses = 1 } in
+    let n : Node = record { parent = 0; op = 0; state = c.in_ok-start.start } in
     let e : Entry = record { bound = record { 0 = 0 }; cost = 0; node = 0; settled = false; at_goal = c.in_ok-at_goal.at_goal } in
     let es = entries_of c.push-2.new.self in
-    let tree : c.push.new.self.items ≡ n ∷ [] = c.in_ok-push.ensures.items ∙ ap (λ (l : List (Node g.row.S-Set.Denot)). l ++ n ∷ []) c.new-tree.ensures.items in
+    let tree : c.push.new.self.items ≡ n ∷ [] = c.in_ok-push.ensures.items ∙ ap (λ (l : List Node). l ++ n ∷ []) c.new-tree.ensures.items in
     let put : IsPermutation (e ∷ []) es = subst (λ (l : List Entry). IsPermutation (e ∷ l) es) c.new-queue.ensures c.in_ok-push-2.ensures.ok in
-    let init = c.in_ok-start.ensures.ok in
-    let listed = initial_listed v w c.in_ok-start.start c.is_empty.result c.in_ok-start.ensures.kept init c.is_empty.ensures.empty.0 c.is_empty.ensures.member in
-    let goal = c.in_ok-at_goal.ensures.ok v.system.initial (record { valid = init.valid; means = init.means }) in
+    let is = c.in_ok-start.ensures.is in
+    let goal = subst (λ (s : State). Decides c.in_ok-at_goal.at_goal (IsTrue (v.system.goal s))) (c.state.ensures ∙ is) c.in_ok-at_goal.ensures in
     let same = c.in_ok-backward-2.ensures.system ∙ (kept_made c.in_ok-backward.ensures.trades).system in
-    subst (λ (l : List (Node g.row.S-Set.Denot)). Owes x.system (prefixes l es) None p) (sym tree) (begun_all (view c.args.space).system v w x b c.in_ok-start.start n e es same c.in_ok-backward-2.ensures.alone listed c.in_ok-start.ensures.kept init c.in_ok-at_goal.ensures.stays refl refl put refl refl refl goal p i)
+    subst (λ (l : List Node). Owes v.system (prefixes l es) None p) (sym tree) (begun_all (view c.args.space).system v b c.number_of_start.new.graph n e es same c.in_ok-backward-2.ensures.alone c.number_of_start.ensures.graph c.in_ok-start.ensures.within is put refl refl refl goal p i)

@@ -1,6 +1,6 @@
 //! What is done with the first entry of the queue.
 
-ghost use Rattle.std.specs.Prelude.{◌≡◌, ◌<◌, IsFalse, IfOk, OnOk, OnErr, length, slice_index_or};
+ghost use Rattle.std.specs.Prelude.{◌≡◌, ◌+◌, ◌<◌, IsFalse, IfOk, OnOk, OnErr, length, slice_index_or};
 ghost use Rattle.space_api.specs.View.{View};
 ghost use Rattle.prefix_tree.specs.Tree.{AreLinked};
 ghost use Rattle.prefix_tree.specs.Entries.{entries_of};
@@ -10,9 +10,11 @@ ghost use Rattle.loopless.specs.Standing.{IsReady, GoesOn, Opens, IsPlanAt, list
 use crate::expand::expand;
 use crate::refresh::refresh;
 use backward_search::Backward;
+use lazy_plans::Steps;
 use prefix_tree::{Entry, Node, Queue, StateGraph, operators_to};
 use space_api::{Space, SpaceFault};
 use std::alloc::{AllocError, Global};
+use std::sync::ledger::Ledger;
 use symk_task::Plan;
 
 /// The entry alone, or none.
@@ -29,9 +31,9 @@ fn one_or_none(alloc: Global, entry: Option<Entry>) -> Result<Vec<Entry>, AllocE
     }
 }
 
-/// Learns more of the first entry's bound, which puts it where it then belongs, or takes it out where no plan
-/// goes on from it. Want of memory leaves the entries.
-pub fn learn<S: Space>(
+/// A turn that learns more of the first entry's bound, which puts it where it then belongs, or takes it out where no
+/// plan goes on from it. Want of memory leaves the entries.
+pub fn learn<S: Space, L: Ledger>(
     alloc: Global,
     space: &mut S,
     backward: &mut Backward<S::Set>,
@@ -39,6 +41,7 @@ pub fn learn<S: Space>(
     tree: &[Node],
     queue: &mut Queue,
     entry: Entry,
+    steps: &mut Steps<L>,
 ) -> Result<(), SpaceFault>
     requires ready { IsReady (S.view space.old) backward.old graph.now tree.now (entries_of queue.old) }
     requires some { 0 < length (entries_of queue.old) }
@@ -49,11 +52,13 @@ pub fn learn<S: Space>(
     ensures ok { OnOk result (GoesOn (S.view space.old).system tree.now tree.now
         (entries_of queue.old) (entries_of queue.new)) }
     ensures err { OnErr result (entries_of queue.new ≡ entries_of queue.old) }
+    ensures one { OnOk result (steps.new ≡ steps.old + 1) }
+    ensures none { OnErr result (steps.new ≡ steps.old) }
 {
     let better = refresh(alloc, space, backward, graph, tree, entry)?;
     let others = one_or_none(alloc, better)?;
     queue.make_room(others.len())?;
-    queue.replace(others);
+    queue.replace(others, steps);
     Ok(())
 }
 
@@ -69,9 +74,9 @@ fn plan_of(alloc: Global, tree: &[Node], entry: Entry) -> Result<Option<Plan>, A
     Ok(None)
 }
 
-/// Takes the first entry out and puts its children in, and gives the plan that it is, if it is one. Want of memory
-/// leaves the entries.
-pub fn open<S: Space>(
+/// A turn that takes the first entry out and puts its children in, and gives the plan that it is, if it is one. Want of
+/// memory leaves the entries.
+pub fn open<S: Space, L: Ledger>(
     alloc: Global,
     space: &S,
     backward: &Backward<S::Set>,
@@ -79,6 +84,7 @@ pub fn open<S: Space>(
     tree: &mut Vec<Node>,
     queue: &mut Queue,
     entry: Entry,
+    steps: &mut Steps<L>,
 ) -> Result<Option<Plan>, SpaceFault>
     requires ready { IsReady (S.view space.now) backward.now graph.old tree.old.items (entries_of queue.old) }
     requires some { 0 < length (entries_of queue.old) }
@@ -88,9 +94,11 @@ pub fn open<S: Space>(
         (entries_of queue.old) (entries_of queue.new)) }
     ensures err { OnErr result (prefixes tree.new.items (entries_of queue.new) ≡ prefixes tree.old.items
         (entries_of queue.old)) }
+    ensures one { OnOk result (steps.new ≡ steps.old + 1) }
+    ensures none { OnErr result (steps.new ≡ steps.old) }
 {
     let plan = plan_of(alloc, tree, entry)?;
     let children = expand(alloc, space, backward, graph, tree, queue, entry)?;
-    queue.replace(children);
+    queue.replace(children, steps);
     Ok(plan)
 }

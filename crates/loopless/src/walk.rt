@@ -1,6 +1,6 @@
 //! Turns of the queue, until a plan is given.
 
-ghost use Rattle.std.specs.Prelude.{◌≡◌, ◌<◌, IfOk, OnErr, length, slice_index_or};
+ghost use Rattle.std.specs.Prelude.{◌≡◌, ◌+◌, ◌<◌, IfOk, OnOk, OnErr, length, slice_index_or};
 ghost use Rattle.std.specs.Bool.{Decides};
 ghost use Rattle.symk_task.specs.declared.parts.Mode.TheVariants.{Loopless};
 ghost use Rattle.space_api.specs.View.{View};
@@ -9,7 +9,7 @@ ghost use Rattle.prefix_laws.specs.Queue.{Right, Pending};
 ghost use Rattle.lazy_plans.specs.Law.{Turned};
 ghost use Rattle.loopless.specs.Children.{prefixes};
 ghost use Rattle.loopless.specs.Standing.{IsReady, Opens};
-ghost use Rattle.loopless.specs.Turned.{TurnOf, IsPast, IsOut};
+ghost use Rattle.loopless.specs.Turned.{TurnOf, CountsTurn, IsPast, IsOut};
 
 use crate::turn::{learn, open};
 use backward_search::Backward;
@@ -50,7 +50,7 @@ fn is_out(most: Option<u64>, entry: Entry) -> bool
 }
 
 /// Opens the first entry, or learns more of its bound.
-fn act<S: Space>(
+fn act<S: Space, L: Ledger>(
     alloc: Global,
     space: &mut S,
     backward: &mut Backward<S::Set>,
@@ -58,6 +58,7 @@ fn act<S: Space>(
     tree: &mut Vec<Node>,
     queue: &mut Queue,
     entry: Entry,
+    steps: &mut Steps<L>,
 ) -> Result<Option<Plan>, SpaceFault>
     requires ready { IsReady (S.view space.old) backward.old graph.old tree.old.items (entries_of queue.old) }
     requires some { 0 < length (entries_of queue.old) }
@@ -68,16 +69,18 @@ fn act<S: Space>(
         (entries_of queue.old) (entries_of queue.new)) }
     ensures err { OnErr result (prefixes tree.new.items (entries_of queue.new) ≡ prefixes tree.old.items
         (entries_of queue.old)) }
+    ensures one { OnOk result (steps.new ≡ steps.old + 1) }
+    ensures none { OnErr result (steps.new ≡ steps.old) }
 {
     if entry.settled {
-        return open(alloc, space, backward, graph, tree, queue, entry);
+        return open(alloc, space, backward, graph, tree, queue, entry, steps);
     }
-    learn(alloc, space, backward, graph, tree, queue, entry)?;
+    learn(alloc, space, backward, graph, tree, queue, entry, steps)?;
     Ok(None)
 }
 
-/// One turn: what is done with the first entry.
-fn take_turn<S: Space>(
+/// One turn: what is done with the first entry. It is one step, and none where no entry is taken.
+fn take_turn<S: Space, L: Ledger>(
     alloc: Global,
     space: &mut S,
     backward: &mut Backward<S::Set>,
@@ -85,6 +88,7 @@ fn take_turn<S: Space>(
     tree: &mut Vec<Node>,
     most: Option<u64>,
     queue: &mut Queue,
+    steps: &mut Steps<L>,
 ) -> Result<Turn, SpaceFault>
     requires ready { IsReady (S.view space.old) backward.old graph.old tree.old.items (entries_of queue.old) }
     requires right { Right (S.view space.old).system most (prefixes tree.old.items (entries_of queue.old)) }
@@ -94,6 +98,8 @@ fn take_turn<S: Space>(
         (entries_of queue.old) (entries_of queue.new)) }
     ensures err { OnErr result (prefixes tree.new.items (entries_of queue.new) ≡ prefixes tree.old.items
         (entries_of queue.old)) }
+    ensures one { IfOk result (CountsTurn steps.old steps.new) }
+    ensures none { OnErr result (steps.new ≡ steps.old) }
 {
     match queue.first() {
         None => Ok(Turn::Ends),
@@ -104,7 +110,7 @@ fn take_turn<S: Space>(
             if is_out(most, entry) {
                 return Ok(Turn::OutOfRange);
             }
-            match act(alloc, space, backward, graph, tree, queue, entry)? {
+            match act(alloc, space, backward, graph, tree, queue, entry, steps)? {
                 None => Ok(Turn::Goes),
                 Some(plan) => Ok(Turn::Gives(plan)),
             }
@@ -112,7 +118,7 @@ fn take_turn<S: Space>(
     }
 }
 
-/// The next loopless plan out of the queue. One turn is one step. Want of memory leaves what pends.
+/// The next loopless plan out of the queue. Each entry that is taken is one step. Want of memory leaves what pends.
 pub fn walk<S: Space, L: Ledger>(
     alloc: Global,
     space: &mut S,
@@ -133,8 +139,7 @@ pub fn walk<S: Space, L: Ledger>(
         (prefixes tree.new.items (entries_of queue.new))) result }
 {
     'turns: loop {
-        steps.tick();
-        match take_turn(alloc, space, backward, graph, tree, most, queue) {
+        match take_turn(alloc, space, backward, graph, tree, most, queue, steps) {
             Err(_) => return Err(Stop::Memory),
             Ok(turn) => match turn {
                 Turn::Goes => {}

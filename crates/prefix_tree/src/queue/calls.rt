@@ -1,12 +1,14 @@
 //! What a queue of prefixes does.
 
-ghost use Rattle.std.specs.Prelude.{◌≡◌, ◌<◌, ◌≤◌, ◌∷◌, ◌++◌, [], All, IfSome, IfNone, IfOk, OnOk, OnErr, IsPermutation, slice_index_or, length};
+ghost use Rattle.std.specs.Prelude.{◌≡◌, ◌+◌, ◌<◌, ◌≤◌, ◌∷◌, ◌++◌, [], All, IfSome, IfNone, IfOk, OnOk, OnErr, IsPermutation, slice_index_or, length};
 ghost use Rattle.prefix_tree.specs.Entries.{entries_of, HasRoom};
 
 use crate::entry::Entry;
 use crate::queue::Queue;
+use lazy_plans::Steps;
 use std::alloc::{AllocError, Global};
 use std::collections::BinaryHeap;
+use std::sync::ledger::Ledger;
 
 impl Queue {
     /// No entry.
@@ -48,13 +50,17 @@ impl Queue {
         self.heap.reserve(more)
     }
 
-    /// Takes the first entry out and puts the others in. It takes no memory.
-    pub fn replace(&mut self, others: Vec<Entry>)
+    /// One turn: takes the first entry out, puts the others in, and counts one step. It takes no memory.
+    ///
+    /// No other call takes an entry out, so the steps that are counted are the turns of the queue.
+    pub fn replace<L: Ledger>(&mut self, others: Vec<Entry>, steps: &mut Steps<L>)
         requires some { 0 < length (entries_of self.old) }
         requires room { HasRoom self.old (length others.items) }
-        ensures { (e : Entry) → e ≡ slice_index_or (entries_of self.old) 0 e
+        ensures replaces { (e : Entry) → e ≡ slice_index_or (entries_of self.old) 0 e
             → IsPermutation (entries_of self.old ++ others.items) (e ∷ entries_of self.new) }
+        ensures steps { steps.new ≡ steps.old + 1 }
     {
+        steps.tick();
         let mut others = BinaryHeap::from(others);
         if let Some(_) = self.heap.pop() {
             let _ = self.heap.append(&mut others);

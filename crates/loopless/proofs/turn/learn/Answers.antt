@@ -12,7 +12,7 @@ returns-clause-ready g c =
     let m = c.refresh.ensures.moved in
     let z = ready_moved u w c.args.backward.now c.refresh.new.backward c.args.graph.now nodes es c.refresh.ensures.backward m c.requires.ready in
     let better = better_as u.system w.system nodes c.args.entry c.in_ok-better.better m.trades.system c.in_ok-better.ensures.better in
-    let perm = learned_perm es (entries_of c.make_room.new.self) c.in_ok-others.others.items new c.in_ok-better.better c.args.entry c.make_room.ensures.same c.in_ok-others.ensures c.requires.first c.replace.ensures in
+    let perm = learned_perm es (entries_of c.make_room.new.self) c.in_ok-others.others.items new c.in_ok-better.better c.args.entry c.make_room.ensures.same c.in_ok-others.ensures c.requires.first c.replace.ensures.replaces in
     learned_ready w c.refresh.new.backward c.args.graph.now nodes es new c.args.entry c.requires.some c.requires.first z c.in_ok-better.better better perm
 
 pub returns-clause-ok : goal.returns-clause-ok
@@ -25,7 +25,7 @@ returns-clause-ok g c =
     let m = c.refresh.ensures.moved in
     let z = ready_moved u w c.args.backward.now c.refresh.new.backward c.args.graph.now nodes es c.refresh.ensures.backward m c.requires.ready in
     let better = better_as u.system w.system nodes c.args.entry c.in_ok-better.better m.trades.system c.in_ok-better.ensures.better in
-    let perm = learned_perm es (entries_of c.make_room.new.self) c.in_ok-others.others.items new c.in_ok-better.better c.args.entry c.make_room.ensures.same c.in_ok-others.ensures c.requires.first c.replace.ensures in
+    let perm = learned_perm es (entries_of c.make_room.new.self) c.in_ok-others.others.items new c.in_ok-better.better c.args.entry c.make_room.ensures.same c.in_ok-others.ensures c.requires.first c.replace.ensures.replaces in
     goes_as_in u.system w.system nodes es new m.trades.system (learned_goes w c.refresh.new.backward c.args.graph.now nodes es new c.args.entry c.requires.some c.requires.first z c.in_ok-better.better better perm)
 
 pub returns-in_err-better-clause-ready : goal.returns-in_err-better-clause-ready

@@ -9,7 +9,7 @@ returns-clause-ready g c =
     let es = entries_of c.args.queue.now in
     let kids = c.in_ok-children.children.items in
     let new = entries_of c.replace.new.self in
-    let perm = opened_perm es (entries_of c.expand.new.queue) kids new c.args.entry c.expand.ensures.queue c.requires.first c.replace.ensures in
+    let perm = opened_perm es (entries_of c.expand.new.queue) kids new c.args.entry c.expand.ensures.queue c.requires.first c.replace.ensures.replaces in
     open_ready v c.args.backward.now c.args.graph.now c.expand.new.graph c.args.tree.now.items c.expand.new.tree.items es kids new c.args.entry c.expand.ensures.graph c.expand.ensures.grows c.requires.ready c.requires.some c.requires.first c.in_ok-children.ensures.children perm
 
 pub returns-clause-ok : goal.returns-clause-ok
@@ -18,7 +18,7 @@ returns-clause-ok g c =
     let es = entries_of c.args.queue.now in
     let kids = c.in_ok-children.children.items in
     let new = entries_of c.replace.new.self in
-    let perm = opened_perm es (entries_of c.expand.new.queue) kids new c.args.entry c.expand.ensures.queue c.requires.first c.replace.ensures in
+    let perm = opened_perm es (entries_of c.expand.new.queue) kids new c.args.entry c.expand.ensures.queue c.requires.first c.replace.ensures.replaces in
     open_opens v c.args.backward.now c.args.graph.now c.expand.new.graph c.args.tree.now.items c.expand.new.tree.items es kids new c.args.entry c.expand.ensures.graph c.expand.ensures.grows c.requires.ready c.requires.some c.requires.first c.in_ok-children.ensures.children perm c.in_ok-plan.plan (rw c.deref.ensures.value at c.in_ok-plan.ensures)
 
 pub returns-in_err-children-clause-ready : goal.returns-in_err-children-clause-ready

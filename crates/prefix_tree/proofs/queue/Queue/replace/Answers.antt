@@ -3,8 +3,8 @@ use Rattle.std.specs.BinaryHeap.{heap_items, heap_len, heap_capacity}
 use Rattle.prefix_tree.proofs.Replacing.{replaced, on_ok}
 use Rattle.prefix_tree.proofs.queue.Queue.replace.Goals as goal
 
-pub returns-in-Some : goal.returns-in-Some
-returns-in-Some c e first =
+pub returns-in-Some-clause-replaces : goal.returns-in-Some-clause-replaces
+returns-in-Some-clause-replaces g c e first =
     let x = c.in-Some.field-0 in
     let old = heap_items c.args.self.now.heap in
     let room : heap_len c.pop.new.self + heap_len c.from-others.result ≤ heap_capacity c.pop.new.self = omega (arith, c.requires.room, c.in-Some.ensures.len) in

@@ -14,7 +14,7 @@ use Rattle.prefix_tree.specs.declared.state_graph.StateGraph.{StateGraph}
 use Rattle.prefix_tree.specs.Tree.{IsTree, path_at}
 use Rattle.prefix_tree.specs.declared.tree.Node.{Node}
 use Rattle.prefix_tree.specs.declared.entry.Entry.{Entry}
-use Rattle.prefix_tree.specs.States.{IsReached}
+use Rattle.single_states.specs.States.{IsReached}
 use Rattle.loopless.specs.Left.{IsWide}
 use Rattle.loopless.specs.Children.{IsEntry, prefixes}
 

@@ -7,7 +7,8 @@ ghost use Rattle.loopless.specs.Engine.{system_of, most_of, ended_of, IsEngine, 
 use crate::engine::LooplessPlans;
 use crate::racing::keep_to_reached;
 use backward_search::{Backward, Kind};
-use prefix_tree::{Entry, Node, Queue, StateGraph, goal_at, number_of_start};
+use prefix_tree::{Entry, Node, Queue, StateGraph, number_of_start};
+use single_states::goal_at;
 use space_api::Space;
 use std::alloc::Global;
 use std::cmp::Reverse;

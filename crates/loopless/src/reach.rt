@@ -5,7 +5,7 @@ ghost use Rattle.std.specs.Bool.{Decides};
 ghost use Rattle.task_system.specs.System.{State, Leads};
 ghost use Rattle.space_api.specs.View.{View};
 ghost use Rattle.cost_search.specs.Directed.{IsBackward};
-ghost use Rattle.prefix_tree.specs.States.{IsReached};
+ghost use Rattle.single_states.specs.States.{IsReached};
 ghost use Rattle.prefix_tree.specs.StateGraph.{states_of, state_at, IsStateGraph, IsMove};
 ghost use Rattle.prefix_tree.specs.Tree.{IsTree, path_at, end_at};
 ghost use Rattle.loopless.specs.Left.{IsWide, CostsAtLeast, EndsAtLeast};
@@ -13,7 +13,8 @@ ghost use Rattle.loopless.specs.Reach.{IsReach};
 
 use crate::left::{Left, left_from};
 use backward_search::Backward;
-use prefix_tree::{Move, Node, StateGraph, goal_at, passes};
+use prefix_tree::{Move, Node, StateGraph, passes};
+use single_states::goal_at;
 use space_api::{Space, SpaceFault};
 use std::alloc::Global;
 use symk_task::State;

@@ -6,20 +6,18 @@
 //! once, as values of the task's variables, and of a state the moves, which are found once, when the first prefix that
 //! ends there goes on. The queue hands out the entry of the least bound, and of equal bounds one of the greatest cost.
 //! The contracts say which operators a prefix has, whether it passes a state, which moves lead on from a state, and
-//! which entries the queue has. It stands on `prefix_laws` for what prefixes are, on `task_run` for single states, on
-//! `space_api` for the task of a space, on `indexmap` for states by number, and on std's binary heap.
+//! which entries the queue has. It stands on `prefix_laws` for what prefixes are, on `single_states` for steps from state
+//! to state, on `indexmap` for states by number, and on std's binary heap.
 #![tactic(auto)]
 
 mod entry;
 mod moves;
 mod queue;
 mod state_graph;
-mod states;
 mod tree;
 
 pub use entry::Entry;
 pub use moves::{find_moves, number_of_start};
 pub use queue::Queue;
 pub use state_graph::{Move, StateGraph};
-pub use states::{goal_at, has_state};
 pub use tree::{Node, add, node_at, operators_to, passes};

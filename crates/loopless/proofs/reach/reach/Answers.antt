@@ -2,7 +2,7 @@ use Rattle.std.proofs.Common.{Some, None, IsTrue, sym, subst}
 use Rattle.std.specs.Bool.{Decides}
 use Rattle.space_api.proofs.Trading.{valid_clash}
 use Rattle.task_system.specs.System.{State}
-use Rattle.prefix_tree.specs.States.{IsReached}
+use Rattle.single_states.specs.States.{IsReached}
 use Rattle.prefix_tree.specs.StateGraph.{states_of}
 use Rattle.loopless.specs.Left.{CostsAtLeast, IsLeft}
 use Rattle.loopless.proofs.Reaching.{next_least, passed_lost, nowhere_lost, longer}

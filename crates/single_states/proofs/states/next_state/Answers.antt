@@ -1,6 +1,6 @@
 use Rattle.std.proofs.Common.{◌≡◌, true, false, refl}
-use Rattle.prefix_tree.proofs.ReachedStates.{reached_state, op_in, goes_none, goes_some}
-use Rattle.prefix_tree.proofs.states.next_state.Goals as goal
+use Rattle.single_states.proofs.ReachedStates.{reached_state, op_in, goes_none, goes_some}
+use Rattle.single_states.proofs.states.next_state.Goals as goal
 
 pub applies_in-requires-clause-operator : goal.applies_in-requires-clause-operator
 applies_in-requires-clause-operator g c = op_in (g.S.Space.view c.args.space.now) c.task-task.result.now c.parts.ensures.fits (g.met.S.Space.of_task c.args.space.now) c.task-task.ensures c.args.op c.requires.op

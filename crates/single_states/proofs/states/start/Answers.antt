@@ -1,5 +1,5 @@
-use Rattle.prefix_tree.proofs.ReachedStates.{starts_at, start_state, starts_listed}
-use Rattle.prefix_tree.proofs.states.start.Goals as goal
+use Rattle.single_states.proofs.ReachedStates.{starts_at, start_state, starts_listed}
+use Rattle.single_states.proofs.states.start.Goals as goal
 
 pub returns-clause-is : goal.returns-clause-is
 returns-clause-is g c = starts_at (g.S.Space.view c.args.space.now) c.task-task.result.now c.parts.ensures.fits (g.met.S.Space.of_task c.args.space.now) c.task-task.ensures c.start.result c.start.ensures

@@ -15,6 +15,3 @@ mod refuting;
 pub use laws::refuted_tasks_have_no_plan;
 pub use proving::prove;
 pub use refuting::refute;
-
-#[cfg(test)]
-mod tests;

@@ -25,6 +25,3 @@ pub use mem_files::{MemFile, MemText};
 pub use memory::{MemFiles, MemSink};
 pub use no_fault::{NoFaultFiles, NoFaultSink};
 pub use sink::{Sink, put};
-
-#[cfg(test)]
-mod tests;

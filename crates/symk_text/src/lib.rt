@@ -7,8 +7,6 @@
 
 mod lines;
 mod numbers;
-#[cfg(test)]
-mod tests;
 mod text;
 
 pub use lines::{Line, Lines, lines_of};

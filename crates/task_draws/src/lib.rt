@@ -8,8 +8,6 @@
 mod kinds;
 mod random;
 mod tasks;
-#[cfg(test)]
-mod tests;
 
 pub use random::Random;
 pub use tasks::{drawn_parts, random_task};

@@ -6,8 +6,6 @@
 #![tactic(auto)]
 
 mod parts;
-#[cfg(test)]
-mod tests;
 
 ghost use Rattle.std.specs.Prelude.{◌≡◌, ◌≤◌, IfOk};
 ghost use Rattle.task_gen.specs.Switches.{switches};

@@ -1,6 +1,6 @@
-//! What goes out, of small tasks.
+//! What is put of certificates of small tasks.
 
-use crate::{prove, refute};
+use cert_run::{prove, refute};
 use run_status::Status;
 use small_tasks::{no_operator, no_plan, one_switch};
 use std::alloc::Global;

@@ -1,7 +1,7 @@
-//! Worked rows.
+//! Worked rows of lines, numbers and texts that grow.
 
-use crate::{Text, lines_of, number, push_bytes, push_number};
 use std::test::Fail;
+use symk_text::{Text, lines_of, number, push_bytes, push_number};
 
 #[test]
 fn cuts_lines(rt: HostRuntime) -> Result<(), Fail> {

@@ -1,9 +1,9 @@
 //! The tasks of one switch and of the most.
 
-use crate::switches;
 use std::alloc::Global;
 use std::test::Fail;
 use symk_task::{Fact, List, Memory, Operator, Variable};
+use task_gen::switches;
 
 /// The names of variables and their values, a comma after each.
 fn named(alloc: Global, variables: &List<Variable>) -> Result<Vec<u8>, Memory> {

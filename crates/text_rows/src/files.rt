@@ -1,10 +1,11 @@
-// Whole texts and pieces, and each call failing once.
-use crate::{
+//! Worked rows of files and sinks: whole texts and pieces, and each call failing once.
+
+use std::alloc::{AllocError, Global};
+use std::io::{Error, ErrorKind, Write};
+use symk_io::{
     Files, HostFiles, HostSink, IoFault, MemFile, MemFiles, MemSink, MemText, NoFaultFiles,
     NoFaultSink, ReadStop, Sink, put, read_all,
 };
-use std::alloc::{AllocError, Global};
-use std::io::{Error, ErrorKind, Write};
 
 fn shelf(alloc: Global) -> Result<Vec<MemFile>, AllocError> {
     let mut files = Vec::new(alloc);

@@ -1,7 +1,7 @@
-//! The stream of numbers.
+//! The stream of numbers by which tasks are drawn.
 
-use crate::random::Random;
 use std::test::Fail;
+use task_draws::Random;
 
 #[test]
 fn numbers_are_those_of_the_published_generator(rt: HostRuntime) -> Result<(), Fail> {

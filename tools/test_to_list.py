@@ -1,8 +1,10 @@
 #!/usr/bin/env python3
 """Tests of to_list.py over the examples. Expected texts follow from the tasks and from docs/FORMATS.md.
 
-Where ./symk has built the program, lists that it prints are also turned into plain plan files and back, and checked.
+Where there is a built program (SYMK_PROGRAM, else .symk/symk), lists that it prints are also turned into plain plan files and back, and
+checked.
 """
+import os
 import subprocess
 import sys
 import tempfile
@@ -11,7 +13,7 @@ from pathlib import Path
 
 TOP = Path(__file__).resolve().parent.parent
 EXAMPLES = TOP / "examples"
-PROGRAM = TOP / ".symk" / "symk"
+PROGRAM = Path(os.environ.get("SYMK_PROGRAM") or TOP / ".symk" / "symk").absolute()
 
 
 def listed(task, *plans, options=()):
@@ -90,7 +92,7 @@ class ToList(unittest.TestCase):
         self.assertEqual(listed(EXAMPLES / "past-64-bits.sas", "(big)\n(one)\n")[0], 1)
         self.assertEqual(listed(EXAMPLES / "one-switch.sas", "switch-on\n")[0], 1)
 
-    @unittest.skipUnless(PROGRAM.exists(), "./symk has not built the program")
+    @unittest.skipUnless(PROGRAM.is_file(), "no built program: neither SYMK_PROGRAM nor .symk/symk")
     def test_lists_of_the_program_come_back_good(self):
         for task in sorted(EXAMPLES.glob("*.sas")):
             printed = subprocess.run([str(PROGRAM), "plan", str(task), "--k", "4"], stdout=subprocess.PIPE).stdout.decode()

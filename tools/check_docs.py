@@ -21,7 +21,7 @@ PAGES = [TOP / "README.md", TOP / "CONTRIBUTING.md", *sorted((TOP / "docs").glob
 CALL = re.compile(r"`([a-z]\w*)::([A-Za-z]\w*(?:::\w+)?)`(?: \(([\w, ]+)\))?")
 DEFINITION = re.compile(r"`([a-z]\w*/specs/[A-Z][a-z]\w*\.antt)`(?:\s\(([\w,\s]+)\))?")
 EDIT = re.compile(r"`([a-z]\w*)/(?!specs`|src`|proofs`|must-fail`)([a-z0-9_]+)`")
-FILE = re.compile(r"`((?:crates|docs|examples|bench|tools|\.ci)/[\w./-]*)`")
+FILE = re.compile(r"`((?:crates|docs|examples|bench|tools|python|\.ci)/[\w./-]*)`")
 LINK = re.compile(r"\]\(([^)#:]+)(?:#[\w-]+)?\)")
 
 

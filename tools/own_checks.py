@@ -1,19 +1,32 @@
 #!/usr/bin/env python3
 """own_checks.py: what no proof says of the tools and the pages. The last line is `N passed, N failed`; the status is 0 where none failed.
 
-Tests of tools/to_list.py (test_to_list.py), and the names that the pages give (check_docs.py).
+Tests of python/symk.py (test_symk.py), of tools/to_list.py (test_to_list.py) and of tools/table.py (test_table.py), and the names that the
+pages give (check_docs.py). Tests that run the planner take the program of SYMK_PROGRAM, else .symk/symk, else what a check of one's own
+left in crates/symk_cli/out; where there is none they are skipped, which is said.
 """
+import os
 import sys
 import unittest
+from pathlib import Path
 
-import check_docs
-import test_to_list
+TOP = Path(__file__).resolve().parent.parent
+BUILT = [TOP / ".symk" / "symk", TOP / "crates" / "symk_cli" / "out" / "symk_cli"]
+if not os.environ.get("SYMK_PROGRAM"):
+    os.environ.update({"SYMK_PROGRAM": str(path) for path in BUILT[::-1] if path.is_file()})
+sys.path[:0] = [str(TOP / "tools"), str(TOP / "python")]
+import check_docs  # noqa: E402
+import test_symk  # noqa: E402
+import test_table  # noqa: E402
+import test_to_list  # noqa: E402
 
 
 def main():
-    tests = unittest.defaultTestLoader.loadTestsFromModule(test_to_list)
+    tests = unittest.TestSuite(map(unittest.defaultTestLoader.loadTestsFromModule, (test_symk, test_to_list, test_table)))
     ran = unittest.TextTestRunner(stream=sys.stdout).run(tests)
     bad = len(ran.failures) + len(ran.errors)
+    if ran.skipped:
+        print("%d tests skipped: %s" % (len(ran.skipped), "; ".join(sorted({why for _, why in ran.skipped}))))
     passed, failed = check_docs.counts()
     passed, failed = passed + ran.testsRun - len(ran.skipped) - bad, failed + bad
     print("%d passed, %d failed" % (passed, failed))

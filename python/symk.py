@@ -11,7 +11,7 @@ Fast Downward's translator writes it. What is said of a list comes of the progra
 On the command line:
 
     symk.py TASK --k K [--json] [--plans-to DIR] [what `symk plan` takes] [--seconds S] [--megabytes M]
-    symk.py audit TASK LIST|DIR.. [--mode M] [--complete]
+    symk.py audit TASK LIST|DIR.. [--mode M] [--complete | --bound Q | --quality P]
 
 The program is the one that `program=` names, a path or a list of words; else the one of the environment variable SYMK_PROGRAM; else, where
 this file stands in the repository, `.symk/symk`, once it is built, or the script `symk`; else `symk` on the path.
@@ -19,6 +19,7 @@ this file stands in the repository, `.symk/symk`, once it is built, or the scrip
 from __future__ import annotations
 
 import argparse
+import itertools
 import json
 import os
 import re
@@ -225,16 +226,21 @@ def _plan(block: bytes, number: Optional[int]) -> Plan:
         block = (block + b"\n").replace(b"\r\n", b"\n")[:-1]
     head, foot = HEAD.match(block), block.rfind(b"\n") + 1
     cost = COST.match(block, foot)
-    if head and cost:
-        operators, steps = head[2], block[head.end():foot]
-        count = operators.count(b" ")
-        brackets = not steps or (steps.startswith(b"(") and steps.endswith(b")\n") and steps.count(b")\n(") == count - 1)
-        if brackets and steps.count(b"\n") == count and b"  " not in operators and number in (None, int(head[1])):
-            plan = Plan.__new__(Plan)
-            plan.number, plan.cost, plan.unit, plan._operators, plan._steps = int(head[1]), int(cost[1]), cost[2] == b"unit", operators, steps
-            if plan.cost < 1 << 64:
-                return plan
-    raise Broken("this is no block %s: %s" % ("of a plan" if number is None else number, _shown(block)))
+    if not head or not cost or not _agree(head[2], block[head.end():foot]) or number not in (None, int(head[1])) or int(cost[1]) >> 64:
+        raise Broken("this is no block %s: %s" % ("of a plan" if number is None else number, _shown(block)))
+    plan = Plan.__new__(Plan)
+    plan.number, plan.cost, plan.unit = int(head[1]), int(cost[1]), cost[2] == b"unit"
+    plan._operators, plan._steps = head[2], block[head.end():foot]
+    return plan
+
+
+def _agree(operators: bytes, steps: bytes) -> bool:
+    """Whether there are as many lines of steps as numbers, each in brackets, and one space before each number."""
+    count = operators.count(b" ")
+    if not steps:
+        return count == 0
+    whole = steps.startswith(b"(") and steps.endswith(b")\n") and steps.count(b"\n") == count
+    return whole and steps.count(b")\n(") == count - 1 and b"  " not in operators
 
 
 def _shown(text: bytes) -> str:
@@ -310,7 +316,7 @@ def _reading(source: Any) -> Generator[Plan, None, Optional[End]]:
 
 def _words_of(program: Program) -> List[str]:
     """The words that call the program."""
-    program = program or os.environ.get("SYMK_PROGRAM")
+    program = program or os.environ.get("SYMK_PROGRAM") or None
     if program is None:
         top = Path(__file__).resolve().parent.parent
         for path in (top / ".symk" / "symk", top / "symk"):
@@ -877,14 +883,16 @@ def text_of(path: PathLike) -> str:
 
 # Is another planner's list right?
 
-def audit(task: PathLike, lists: Any, *, mode: Optional[str] = None, complete: bool = False, by_cost: bool = False,
-          program: Program = None, seconds: Optional[float] = None, megabytes: Optional[float] = None) -> Iterator[Verdict]:
+def audit(task: PathLike, lists: Any, *, mode: Optional[str] = None, complete: bool = False, bound: Optional[int] = None,
+          quality: Optional[int] = None, by_cost: bool = False, program: Program = None, seconds: Optional[float] = None,
+          megabytes: Optional[float] = None) -> Iterator[Verdict]:
     """Whether a list is right, whoever wrote it: verdict by verdict, up to the first that isn't good.
 
     The first says whether each plan is one of the mode, none comes twice and costs never fall; the second, whether no plan is missing that
-    is cheaper than the last; with `complete` the third, whether these are all plans of the mode. `lists` is a list as the program prints
-    it, a plan file, several of these, a folder of them (`sas_plan.1`, ..), a JSON file as K* writes it, or plans. With `by_cost` the plans
-    are put in order of their costs first. `seconds` and `megabytes` are for each run of the program.
+    is cheaper than the last; with `complete` the third, whether these are all plans of the mode, with `bound` or `quality` all that cost at
+    most so much or so many percent of the least cost. `lists` is a list as the program prints it, a plan file, several of these, a folder
+    of them (`sas_plan.1`, ..), a JSON file as K* writes it, or plans. With `by_cost` the plans are put in order of their costs first.
+    `seconds` and `megabytes` are for each run of the program.
 
     >>> for verdict in audit("examples/two-switches.sas", plans("examples/two-switches.sas", 1), complete=True):
     ...     print(verdict)
@@ -905,21 +913,33 @@ def audit(task: PathLike, lists: Any, *, mode: Optional[str] = None, complete: b
             return
         count = int(verdict.said.split()[1])
         yield Verdict(True, "good: %d plan%s, none twice, costs never falling" % (count, "" if count == 1 else "s"))
-        found = plans(task, 1, mode=mode, after=path, **limits)
-        try:
-            costs = [plan.cost for plan in found]
-        except Refused as why:
-            if why.status != 14:
-                raise
-            yield Verdict(False, "missing: a plan of cost %s" % why.said.split()[-1])
-            return
+        if quality is not None:
+            least = [plan.cost for plan in itertools.islice(read_list(path), 1)]
+            bound = min(least[0] * quality // 100, (1 << 64) - 1) if least else None
+        yield from _rest(task, path, mode, complete or quality is not None, bound, limits)
+
+
+def _rest(task: PathLike, path: str, mode: Optional[str], complete: bool, bound: Optional[int], limits: Dict[str, Any]) -> Iterator[Verdict]:
+    """What a good list lacks, by the one plan with which it goes on."""
+    found = plans(task, 1, mode=mode, after=path, **limits)
+    try:
+        costs = [plan.cost for plan in found]
+    except Refused as why:
+        if why.status != 14:
+            raise
+        yield Verdict(False, "missing: a plan of cost %s" % why.said.split()[-1])
+        return
     if found.end is None or found.end.why in ("timed out", "out of memory"):
         raise Stopped(found.end.why if found.end else "")
     yield Verdict(True, "none missing: each plan that is cheaper than the last is there")
-    if complete and found.end.why == "exhausted":
-        yield Verdict(True, "complete: there is no other plan")
+    if found.end.why == "cost range":
+        costs = [1 << 64]
+    if bound is not None and not (costs and costs[0] <= bound):
+        yield Verdict(True, "complete: there is no other plan of cost at most %d" % bound)
+    elif (complete or bound is not None) and costs:
+        yield Verdict(False, "not complete: the next plan costs %s" % (costs[0] if costs[0] >> 64 == 0 else "more than 64 bits hold"))
     elif complete:
-        yield Verdict(False, "not complete: the next plan costs %s" % (costs[0] if costs else "more than 18446744073709551615"))
+        yield Verdict(True, "complete: there is no other plan")
 
 
 def _gathered(task: PathLike, lists: Any, by_cost: bool, limits: Dict[str, Any]) -> Tuple[Any, List[str]]:
@@ -1050,6 +1070,8 @@ def _audit_words() -> argparse.ArgumentParser:
     words.add_argument("lists", metavar="LIST|DIR", nargs="+", help="a list, plan files, a folder of these, or JSON")
     words.add_argument("--mode", choices=MODES)
     words.add_argument("--complete", action="store_true", help="are these all plans of the mode?")
+    words.add_argument("--bound", type=int, metavar="Q", help="are these all of cost at most Q?")
+    words.add_argument("--quality", type=int, metavar="P", help="are these all of cost at most P percent of the least cost?")
     words.add_argument("--by-cost", action="store_true", help="put the plans in order of their costs first")
     return _with_limits(words)
 
@@ -1119,7 +1141,12 @@ class _Record:
 
     def __exit__(self, kind: Any, why: Any, _: object) -> None:
         used = resource.getrusage(resource.RUSAGE_CHILDREN)
-        end = self.end.why if why is None else "refused: %s" % why.said.split("\n")[0] if isinstance(why, Refused) else kind.__name__
+        if why is None:
+            end = self.end.why
+        elif isinstance(why, Refused):
+            end = "refused: " + why.said.split("\n")[0]
+        else:
+            end = "interrupted" if isinstance(why, (SystemExit, KeyboardInterrupt)) else kind.__name__.lower()
         self.said.update(end=end, seconds=round(used.ru_utime + used.ru_stime, 2), clock=round(time.monotonic() - self.start, 2),
                          megabytes=round(used.ru_maxrss * 1024 / 1_000_000))
         self.write()
@@ -1132,7 +1159,8 @@ class _Record:
 
 def main(words: List[str]) -> int:
     for number in (signal.SIGTERM, signal.SIGHUP):
-        signal.signal(number, lambda number, _: sys.exit(128 + number))
+        if signal.getsignal(number) == signal.SIG_DFL:
+            signal.signal(number, lambda number, _: sys.exit(128 + number))
     try:
         return _audit_main(words[1:]) if words[:1] == ["audit"] else _list_main(words)
     except Refused as why:

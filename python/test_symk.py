@@ -643,9 +643,21 @@ class Audit(Case):
             for one, wanted in zip(said, words.split(";")):
                 self.assertTrue(one.startswith(wanted), said)
 
+    def test_complete_up_to_a_cost(self):
+        task, plans = EXAMPLES / "blocks.sas", list(symk.plans(EXAMPLES / "blocks.sas", 5))
+        for count, wishes, said in ((4, {"bound": 9}, "complete: there is no other plan of cost at most 9"),
+                                    (4, {"quality": 124}, "complete: there is no other plan of cost at most 9"),
+                                    (4, {"bound": 10}, "not complete: the next plan costs 10"), (5, {"bound": 9}, "complete: there is no other"),
+                                    (4, {"quality": 125}, "not complete: the next plan costs 10"), (1, {"quality": 100}, "not complete: the next"),
+                                    (0, {"bound": 7}, "complete: there is no other"), (0, {"quality": 100}, "not complete: the next plan costs 8")):
+            self.assertTrue(list(symk.audit(task, plans[:count], **wishes))[-1].said.startswith(said), (count, wishes))
+        self.assertEqual(self.command("audit", EXAMPLES / "two-switches.sas", self.write("none", ""), "--bound", 1)[0], 0)
+        self.assertTrue(list(symk.audit(EXAMPLES / "no-plan.sas", [], quality=100))[-1])
+
     def test_past_64_bits(self):
         self.assertEqual(str(list(symk.audit(EXAMPLES / "past-64-bits.sas", [], complete=True))[-1]),
-                         "not complete: the next plan costs more than 18446744073709551615")
+                         "not complete: the next plan costs more than 64 bits hold")
+        self.assertTrue(list(symk.audit(EXAMPLES / "past-64-bits.sas", [], bound=(1 << 64) - 1))[-1])
         said = [str(one) for one in symk.audit(EXAMPLES / "past-64-bits.sas", self.write("dear", "(big)\n(one)\n"))]
         self.assertEqual(said, ["bad plan 1: it costs 18446744073709551616, more than 64 bits hold (dear)"])
 

@@ -1,45 +1,83 @@
 #!/usr/bin/env python3
-"""run_readme.py: runs each `sh` block of the README and compares what it prints with the `text` block that follows.
+"""run_readme.py: runs each `sh` and `python` block of README.md and docs/USING.md, and compares what it prints with the `text` block after it.
 
-The commands run in a folder of their own that has the repository's examples, tools and programs. `./symk` is the repository's, or runs the
-program that SYMK_PROGRAM names; then commands that name the built program's file are left out. The last line is `N passed, N failed`, and
-the status is 0 where none failed.
+A block without one is to print nothing. The blocks of a page run in its order, in a folder of the page's own that has the repository's
+programs, examples, tools and `python/`, which is on PYTHONPATH too; and in the place of Fast Downward's translator a script that copies the
+world of blocks. The program is that of SYMK_PROGRAM, else `./symk` and `.symk/symk` of the repository. Blocks that call what isn't on the
+machine (GNU parallel, Slurm) are skipped, which is said. The last line is `N passed, N failed`, and the status is 0 where none failed.
 """
 import os
 import re
-import shlex
+import shutil
 import subprocess
 import sys
 import tempfile
 from pathlib import Path
 
 TOP = Path(__file__).resolve().parent.parent
-BLOCK = re.compile(r"^```sh\n(.*?)^```\n(?:(?:(?!```).)*\n)*?^```text\n(.*?)^```$", re.MULTILINE | re.DOTALL)
+PAGES = ("README.md", "docs/USING.md")
+FENCE = re.compile(r"^```(\w*)\n(.*?)^```$", re.MULTILINE | re.DOTALL)
+ELSEWHERE = ("parallel", "sbatch")
+TRANSLATOR = """\
+#!/usr/bin/env python3
+import shutil, sys
+domain, problem, option, task, *rest = sys.argv[1:]
+assert option == "--sas-file" and rest == ["--keep-unimportant-variables"], sys.argv
+shutil.copy("%s", task)
+"""
 
 
-def furnish(folder):
-    """Puts into the folder what the commands name, and returns whether the built program is there."""
-    program = os.environ.get("SYMK_PROGRAM")
-    for name in ("symk", ".symk", "examples", "tools", "bench")[2 if program else 0 :]:
+def furnish(folder, program):
+    """What a page's commands may find in their folder."""
+    for name in ("README.md", "examples", "tools", "bench", "python"):
         Path(folder, name).symlink_to(TOP / name)
+    Path(folder, "symk").symlink_to(program or TOP / "symk")
     if program:
-        Path(folder, "symk").write_text("#!/bin/sh\nexec %s \"$@\"\n" % shlex.quote(program), encoding="utf-8")
-        Path(folder, "symk").chmod(0o755)
-    return not program
+        Path(folder, ".symk").mkdir()
+        Path(folder, ".symk", "symk").symlink_to(program)
+    else:
+        Path(folder, ".symk").symlink_to(TOP / ".symk")
+    Path(folder, "downward", "src", "translate").mkdir(parents=True)
+    Path(folder, "downward", "src", "translate", "translate.py").write_text(TRANSLATOR % (TOP / "examples" / "blocks.sas"))
+    for name in ("domain.pddl", "problem.pddl"):
+        Path(folder, name).touch()
 
 
-def main():
+def blocks(text):
+    """The language of each block that runs, its lines, and what it is to print."""
+    fences = FENCE.findall(text)
+    for (language, lines), (following, printed) in zip(fences, fences[1:] + [("", "")]):
+        if language in ("sh", "python"):
+            yield language, lines, printed if following == "text" else ""
+
+
+def missing(lines):
+    """What a block calls that isn't on this machine."""
+    return [word for word in ELSEWHERE if re.search(r"^%s " % word, lines, re.MULTILINE) and not shutil.which(word)]
+
+
+def counts(page, program):
+    """How many blocks of a page printed what they should, and how many not; those are shown."""
     passed, failed = 0, 0
     with tempfile.TemporaryDirectory() as folder:
-        is_built = furnish(folder)
-        for commands, wanted in BLOCK.findall((TOP / "README.md").read_text(encoding="utf-8")):
-            if ".symk/symk" in commands and not is_built:
+        furnish(folder, program)
+        for language, lines, wanted in blocks((TOP / page).read_text(encoding="utf-8")):
+            if missing(lines):
+                print("%s: skipped, since %s isn't here:\n%s" % (page, ", ".join(missing(lines)), lines))
                 continue
-            done = subprocess.run(["bash", "-c", commands], cwd=folder, stdout=subprocess.PIPE, stderr=subprocess.STDOUT)
+            words = ["bash", "-c", lines] if language == "sh" else [sys.executable, "-B", "-c", lines]
+            environment = dict(os.environ, PYTHONPATH="python", PYTHONDONTWRITEBYTECODE="1")
+            done = subprocess.run(words, cwd=folder, env=environment, stdout=subprocess.PIPE, stderr=subprocess.STDOUT)
             printed = done.stdout.decode()
             passed, failed = passed + (printed == wanted), failed + (printed != wanted)
             if printed != wanted:
-                print("%s\nprints\n%s\nwanted\n%s" % (commands, printed, wanted))
+                print("%s: this\n%s\nprints\n%s\nwanted\n%s" % (page, lines, printed, wanted))
+    return passed, failed
+
+
+def main():
+    program = os.environ.get("SYMK_PROGRAM")
+    passed, failed = map(sum, zip(*(counts(page, program and os.path.abspath(program)) for page in PAGES)))
     print("%d passed, %d failed" % (passed, failed))
     return 1 if failed else 0
 

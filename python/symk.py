@@ -35,6 +35,7 @@ import time
 import weakref
 from contextlib import contextmanager
 from fractions import Fraction
+from functools import lru_cache
 from pathlib import Path
 from typing import Any, Callable, Dict, Generator, Iterable, Iterator, List, NamedTuple, Optional, Sequence, Tuple, Union
 
@@ -126,7 +127,8 @@ class Verdict(NamedTuple):
 class Plan:
     """A plan: its operators by number and by name, its cost, and its number in the list.
 
-    Two plans are equal where their operators are the same in the same order. What they hold is split up when it is asked for.
+    Two plans are equal where their operators are the same in the same order. When a block comes, its number, its cost and how many lines it
+    has are tested; its operators and names are split up, and tested, when they are asked for: then too `Broken` may come.
 
     >>> plan = next(plans("examples/two-switches.sas", 5))
     >>> plan
@@ -149,13 +151,13 @@ class Plan:
     @property
     def operators(self) -> Tuple[int, ...]:
         if isinstance(self._operators, bytes):
-            self._operators = tuple(map(int, self._operators.split()))
+            self._operators = _operators_of(self._operators)
         return self._operators
 
     @property
     def names(self) -> Tuple[str, ...]:
         if isinstance(self._steps, bytes):
-            self._steps = tuple(self._steps[1:-2].decode("utf-8", "surrogateescape").split(")\n(")) if self._steps else ()
+            self._steps = _names_of(self._steps)
         return self._steps
 
     def block(self, number: Optional[int] = None) -> bytes:
@@ -213,8 +215,7 @@ def _ending(run: Generator[Plan, None, Optional[End]], ended: List[Optional[End]
 
 # Reading a list.
 
-HEAD = re.compile(rb"; plan (\d{1,20})\n; ops((?: [\d ]*\d)?)\n")
-COST = re.compile(rb"; cost = (\d{1,20}) \((unit|general) cost\)\Z")
+COST = re.compile(rb"; cost = (\d{1,20}) \((unit|general) cost\)")
 END_LINE = re.compile(rb"; (?:(reached|exhausted|more|bounded) (\d{1,20})|(cost range))\r?\n\Z")
 END_SHAPES = {0: r"; (reached|more) \d+", 10: r"; exhausted \d+", 13: r"; bounded \d+", 31: "; cost range"}
 FRONT = re.compile(rb"; plan \d{1,20}\r?\n; ops([ \d]*)(?:\r?\n|\r?\Z)")
@@ -224,30 +225,52 @@ def _plan(block: bytes, number: Optional[int]) -> Plan:
     """The plan of a block, without its last line's end. None for a number that isn't known."""
     if b"\r" in block:
         block = (block + b"\n").replace(b"\r\n", b"\n")[:-1]
-    head, foot = HEAD.match(block), block.rfind(b"\n") + 1
-    cost = COST.match(block, foot)
-    if not head or not cost or not _agree(head[2], block[head.end():foot]) or number not in (None, int(head[1])) or int(cost[1]) >> 64:
-        raise Broken("this is no block %s: %s" % ("of a plan" if number is None else number, _shown(block)))
+    first, foot = block.find(b"\n"), block.rfind(b"\n") + 1
+    second = block.find(b"\n", first + 1)
+    operators, steps, cost = block[first + 6:second], block[second + 1:foot], _cost(block[foot:])
+    if not cost or not block.startswith(b"\n; ops", first) or operators.count(b" ") != steps.count(b"\n"):
+        raise Broken("this is no block of a plan: %s" % _shown(block))
     plan = Plan.__new__(Plan)
-    plan.number, plan.cost, plan.unit = int(head[1]), int(cost[1]), cost[2] == b"unit"
-    plan._operators, plan._steps = head[2], block[head.end():foot]
+    plan.number = number if number and block.startswith(b"; plan %d\n" % number) else _number(block[:first], number)
+    (plan.cost, plan.unit), plan._operators, plan._steps = cost, operators, steps
     return plan
 
 
-def _agree(operators: bytes, steps: bytes) -> bool:
-    """Whether there are as many lines of steps as numbers, each in brackets, and one space before each number."""
-    count = operators.count(b" ")
-    if not steps:
-        return count == 0
-    whole = steps.startswith(b"(") and steps.endswith(b")\n") and steps.count(b"\n") == count
-    return whole and steps.count(b")\n(") == count - 1 and b"  " not in operators
+def _operators_of(text: bytes) -> Tuple[int, ...]:
+    """The numbers of a line, each after one space."""
+    if text and (not text.startswith(b" ") or text.endswith(b" ") or b"  " in text or text.translate(None, b" 0123456789")):
+        raise Broken("these are no operators of a plan: %s" % _shown(text))
+    return tuple(map(int, text.split()))
+
+
+def _names_of(text: bytes) -> Tuple[str, ...]:
+    """The names of lines, each in brackets."""
+    names = text[1:-2].decode("utf-8", "surrogateescape").split(")\n(") if text else []
+    if len(names) != text.count(b"\n") or not (not text or text.startswith(b"(") and text.endswith(b")\n")):
+        raise Broken("these are no steps of a plan: %s" % _shown(text))
+    return tuple(names)
+
+
+@lru_cache(maxsize=256)
+def _cost(line: bytes) -> Optional[Tuple[int, bool]]:
+    """The cost that a line tells, and whether every operator costs 1; lines of one cost follow one another."""
+    told = COST.fullmatch(line)
+    return (int(told[1]), told[2] == b"unit") if told and int(told[1]) >> 64 == 0 else None
+
+
+def _number(line: bytes, number: Optional[int]) -> int:
+    """The number of a block, however it is spelled."""
+    told = re.fullmatch(rb"; plan (\d{1,20})", line)
+    if not told or number not in (None, int(told[1])):
+        raise Broken("this is no first line of block %s: %s" % ("of a plan" if number is None else number, _shown(line)))
+    return int(told[1])
 
 
 def _shown(text: bytes) -> str:
     return ascii(bytes(text[:60]).decode("latin-1")) + (" .." if len(text) > 60 else "")
 
 
-def _look(held: bytearray) -> None:
+def _look(held: bytes) -> None:
     """Refuses what no block can begin with, so that rubbish without end isn't held. More than any first line was read."""
     front = FRONT.match(held)
     if not front or held[front.end():front.end() + 1] not in (b"(", b";", b"") or len(held) > LONGEST:
@@ -258,24 +281,24 @@ def _look(held: bytearray) -> None:
 
 def _blocks(read: Callable[[int], bytes], number: Optional[int]) -> Generator[Plan, None, Tuple[bytes, Optional[int]]]:
     """The plans of a text; at last what is left of it, and the number that a next one would have. `read` gives b"" at the end."""
-    held, start, seen, looked = bytearray(), 0, 0, SHORT
+    held, start, seen, looked = b"", 0, 0, SHORT
     while True:
         at = held.find(b"\n; cost = ", seen)
-        stop = held.find(b"\n", at + 1) if at >= 0 else -1
+        stop = held.find(b"\n", at + 10) if at >= 0 else -1
         if stop >= 0:
-            plan = _plan(bytes(held[start:stop]), number)
+            plan = _plan(held[start:stop], number)
             start = seen = stop + 1
             number, looked = plan.number + 1, SHORT
             yield plan
             continue
-        del held[:start]
-        seen, start = at - start if at >= 0 else max(0, len(held) - 9), 0
+        held, seen = held[start:], at - start if at >= 0 else max(0, len(held) - start - 9)
+        start = 0
         if len(held) > looked:
             _look(held)
             looked = 2 * len(held)
         piece = read(PIECE)
         if not piece and (not held or held.endswith(b"\n")):
-            return bytes(held), number
+            return held, number
         held += piece or b"\n"
 
 
@@ -347,6 +370,7 @@ class _Run:
             command = ["/bin/sh", "-c", 'ulimit -v "$0" && exec "$@"', str(int(megabytes * 1_000_000) // 1024), *command]
         self.late = False
         self.process = subprocess.Popen(command, stdin=subprocess.DEVNULL, stdout=subprocess.PIPE, bufsize=0, start_new_session=True)
+        self.read = self.process.stdout.read
         self.ends = weakref.finalize(self, _kill, self.process)
         self.timer = threading.Timer(seconds, self.stop) if seconds is not None else None
         if self.timer:
@@ -366,9 +390,6 @@ class _Run:
         self.ends()
         self.process.stdout.close()
         self.process.wait()
-
-    def read(self, most: int) -> bytes:
-        return self.process.stdout.read(most)
 
     def status(self, said: bytes, answers: Dict[int, str]) -> Union[int, str]:
         """How the run ended, once all its output was read: `timed out` or `out of memory`, or a status of `answers`.
@@ -716,7 +737,7 @@ class _Lines:
 def read_task(text: str) -> Task:
     """The task of a file's text. It isn't looked at closely: the program is who refuses a task, and names the line.
 
-    >>> read_task(open("examples/one-switch.sas").read()).operators[0].name
+    >>> read_task(text_of("examples/one-switch.sas")).operators[0].name
     'switch-on'
     """
     lines = _Lines(text)
@@ -1129,6 +1150,7 @@ class _Record:
 
     def __init__(self, asked: argparse.Namespace):
         self.path, self.end, self.start = asked.record, End("", 0), time.monotonic()
+        self.used = resource.getrusage(resource.RUSAGE_CHILDREN)
         self.said: Dict[str, Any] = {"task": asked.task, "k": asked.k, "mode": asked.mode or "topk", "end": "running", "plans": 0,
                                      "first": None, "last": None}
 
@@ -1141,13 +1163,14 @@ class _Record:
 
     def __exit__(self, kind: Any, why: Any, _: object) -> None:
         used = resource.getrusage(resource.RUSAGE_CHILDREN)
+        seconds = used.ru_utime + used.ru_stime - self.used.ru_utime - self.used.ru_stime
         if why is None:
             end = self.end.why
         elif isinstance(why, Refused):
             end = "refused: " + why.said.split("\n")[0]
         else:
             end = "interrupted" if isinstance(why, (SystemExit, KeyboardInterrupt)) else kind.__name__.lower()
-        self.said.update(end=end, seconds=round(used.ru_utime + used.ru_stime, 2), clock=round(time.monotonic() - self.start, 2),
+        self.said.update(end=end, seconds=round(seconds, 2), clock=round(time.monotonic() - self.start, 2),
                          megabytes=round(used.ru_maxrss * 1024 / 1_000_000))
         self.write()
 

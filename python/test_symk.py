@@ -75,7 +75,7 @@ class Hostile(Case):
         found, got = symk.plans("task.sas", 3, program=program, **wishes), []
         with self.assertRaisesRegex(symk.Broken, pattern):
             for plan in found:
-                got.append(plan)
+                got.append((plan.operators, plan.names))
         self.assertEqual((len(got), found.end), (plans, None))
         self.assertTrue(self.is_gone())
 
@@ -111,20 +111,23 @@ class Hostile(Case):
 
     def test_rubbish(self):
         self.broken(self.program("hello\n", 0), "hello")
-        self.broken(self.program(ONE + "hello\n; cost = 3 (unit cost)\n", 0), "no block 2", 1)
+        self.broken(self.program(ONE + "hello\n; cost = 3 (unit cost)\n", 0), "no block of a plan: 'hello", 1)
         self.broken(self.program(b"\x00\xff\n" * 9, 0), "status 0")
 
     def test_blocks_that_are_none(self):
         for old, new in (("plan 1", "plan 2"), ("ops 0", "ops 0 1"), ("ops 0", "ops"), ("ops 0", "ops 0 "), ("ops 0", "ops  0"), ("ops 0", "ops x"),
                          ("(switch", "switch"), ("on)", "on"), ("= 1", "= -1"), ("= 1", "= 18446744073709551616"), ("unit", "some"),
-                         ("; ops", ";ops"), ("(switch-on)\n", "(switch-on)\n\n")):
-            self.broken(self.program(ONE.replace(old, new) + "; reached 1\n", 0), "block 1", 0)
+                         ("; ops", ";ops"), ("(switch-on)\n", "(switch-on)\n\n"), ("ops 0", "ops0"), ("ops 0", "ops0 1"), ("plan 1", "plan x"),
+                         ("(switch-on)\n", ""), ("; ops 0\n", ""), ("; plan 1\n", ""), ("; plan 1\n; ops 0\n", ""), ("1 (unit", "1 x(unit")):
+            self.broken(self.program(ONE.replace(old, new) + "; reached 1\n", 0), "no (block|first line|operators|steps)", 0)
+        for old, new in (("ops 0 1 0", "ops 0  1"), ("ops 0 1 0", "ops 0 1 "), ("off)", "off"), ("(switch-off", "switch-off"), (")\n(switch-on)\n;", ")\n;")):
+            self.broken(self.program(ONE + TWO.replace(old, new) + "; reached 2\n", 0), "no (block|operators|steps)", 1)
 
     def test_rubbish_without_end_is_not_held(self):
         tracemalloc.start()
         self.addCleanup(tracemalloc.stop)
         for text, then in (("", "yes"), ("; plan 1\n; ops 0\n", "yes '(x)'"), ("; plan 1\n; ops 0\n", "yes"), (ONE, "yes '; plan 2'")):
-            self.broken(self.program(text, 0, then), "block of a plan", text.count("cost"))
+            self.broken(self.program(text, 0, then), "block of a plan", text.count("; cost"))
         self.assertLess(tracemalloc.get_traced_memory()[1], 1_000_000)
 
     def test_it_hangs(self):
@@ -299,6 +302,7 @@ class Lists(Case):
             self.assertEqual(([plan.operators for plan in plans], end), ([(0,), (0, 1, 0)], symk.End("bounded", 2)))
         self.assertEqual(self.read("")[1], None)
         self.assertEqual((len(self.read(ONE + TWO[:-1])[0]), self.read(ONE)[1]), (2, None))
+        self.assertEqual(self.read(ONE.replace(" 1", " 001") + TWO)[0][0].cost, 1)
 
     def test_what_is_no_list(self):
         for text in ("x", ONE + "x\n", ONE + "; reached 2\n", TWO, ONE + TWO[:-20], "; reached 0\n" + ONE, ONE + "; reached 1\n\n"):
@@ -409,8 +413,13 @@ TRANSLATOR = """#!/usr/bin/env python3
 import shutil, sys, time
 domain, problem, option, task, *rest = sys.argv[1:]
 assert option == "--sas-file" and rest == ["--keep-unimportant-variables"]
-time.sleep(float(open(domain).read()))
-shutil.copy(open(problem).read(), task)
+with open(domain) as file:
+    words = file.read()
+if words == "bad":
+    sys.exit(3)
+time.sleep(float(words))
+with open(problem) as file:
+    shutil.copy(file.read(), task)
 """
 
 
@@ -460,7 +469,7 @@ class Packages(Case):
         found = symk.plan_topk(self.write("slow.pddl", "60"), self.problem("blocks"), 5, timeout=0.3, translator=self.translator)
         self.assertEqual((found["plans"], found["timeout_triggered"], found["unsolvable"]), ([], True, False))
         with self.assertRaises(subprocess.CalledProcessError):
-            symk.plan_topk(self.write("bad.pddl", "x"), self.problem("blocks"), 5, translator=[sys.executable, "-W", "ignore", self.translator])
+            symk.plan_topk(self.write("bad.pddl", "bad"), self.problem("blocks"), 5, translator=self.translator)
         with self.assertRaisesRegex(ValueError, "SYMK_TRANSLATE"):
             symk.plan_topk(self.domain, self.problem("blocks"), 5)
         with self.assertRaisesRegex(ValueError, "sas_file"):

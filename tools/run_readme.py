@@ -8,7 +8,6 @@ machine (GNU parallel, Slurm) are skipped, which is said. The last line is `N pa
 """
 import os
 import re
-import shutil
 import subprocess
 import sys
 import tempfile
@@ -17,7 +16,7 @@ from pathlib import Path
 TOP = Path(__file__).resolve().parent.parent
 PAGES = ("README.md", "docs/USING.md")
 FENCE = re.compile(r"^```(\w*)\n(.*?)^```$", re.MULTILINE | re.DOTALL)
-ELSEWHERE = ("parallel", "sbatch")
+ELSEWHERE = {"parallel": ["parallel", "--version"], "sbatch": ["sinfo", "--noheader"]}
 TRANSLATOR = """\
 #!/usr/bin/env python3
 import shutil, sys
@@ -51,9 +50,17 @@ def blocks(text):
             yield language, lines, printed if following == "text" else ""
 
 
+def answers(words):
+    """Whether a command is there and answers."""
+    try:
+        return subprocess.run(words, stdout=subprocess.DEVNULL, stderr=subprocess.DEVNULL, timeout=10).returncode == 0
+    except (OSError, subprocess.TimeoutExpired):
+        return False
+
+
 def missing(lines):
-    """What a block calls that isn't on this machine."""
-    return [word for word in ELSEWHERE if re.search(r"^%s " % word, lines, re.MULTILINE) and not shutil.which(word)]
+    """What a block calls that isn't on this machine, or that doesn't answer."""
+    return [word for word, words in ELSEWHERE.items() if re.search(r"^%s " % word, lines, re.MULTILINE) and not answers(words)]
 
 
 def counts(page, program):
@@ -67,7 +74,8 @@ def counts(page, program):
                 continue
             words = ["bash", "-c", lines] if language == "sh" else [sys.executable, "-B", "-c", lines]
             environment = dict(os.environ, PYTHONPATH="python", PYTHONDONTWRITEBYTECODE="1")
-            done = subprocess.run(words, cwd=folder, env=environment, stdout=subprocess.PIPE, stderr=subprocess.STDOUT)
+            done = subprocess.run(words, cwd=folder, env=environment, stdin=subprocess.DEVNULL, stdout=subprocess.PIPE,
+                                  stderr=subprocess.STDOUT)
             printed = done.stdout.decode()
             passed, failed = passed + (printed == wanted), failed + (printed != wanted)
             if printed != wanted:

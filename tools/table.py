@@ -2,7 +2,7 @@
 """table.py [--csv] RECORD|FOLDER..: a table of runs, by the records that `python/symk.py --record FILE` wrote; of a folder its *.json.
 
 A row for each run, as Markdown or as CSV: task, k, mode, whether it was solved, plans, what the first and the last one cost, how the list
-ended, seconds of the processor, and megabytes (10^6 bytes; what Python took itself before it called the program, some 10, is the least
+ended, seconds of the processor, and megabytes (10^6 bytes; what Python took itself before it called the program, 10 to 20, is the least
 that is told). A run is solved where its list has an end of its own: reached, exhausted, more, bounded or cost range. `running` says that it
 is, or that it was ended together with what recorded it, as a scheduler does. Under the Markdown stand how many are solved and how all ended.
 """

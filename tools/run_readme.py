@@ -4,7 +4,8 @@
 A block without one is to print nothing. The blocks of a page run in its order, in a folder of the page's own that has the repository's
 programs, examples, tools and `python/`, which is on PYTHONPATH too; and in the place of Fast Downward's translator a script that copies the
 world of blocks. The program is that of SYMK_PROGRAM, else `./symk` and `.symk/symk` of the repository. Blocks that call what isn't on the
-machine (GNU parallel, Slurm) are skipped, which is said. The last line is `N passed, N failed`, and the status is 0 where none failed.
+machine (GNU parallel, Slurm) are skipped, which is said; so are those that set a limit of memory, where the program doesn't run within
+one, as what `rt try` compiled. The last line is `N passed, N failed`, and the status is 0 where none failed.
 """
 import os
 import re
@@ -58,9 +59,12 @@ def answers(words):
         return False
 
 
-def missing(lines):
-    """What a block calls that isn't on this machine, or that doesn't answer."""
-    return [word for word, words in ELSEWHERE.items() if re.search(r"^%s " % word, lines, re.MULTILINE) and not answers(words)]
+def missing(lines, program):
+    """What a block calls that isn't on this machine, or that doesn't answer; and the limit that the program doesn't run within."""
+    found = [word for word, words in ELSEWHERE.items() if re.search(r"^%s " % word, lines, re.MULTILINE) and not answers(words)]
+    if re.search(r"ulimit -v|megabytes", lines) and not answers(["sh", "-c", 'ulimit -v 1000000; exec "$0" demo 1', program]):
+        found.append("a program that runs within a limit of memory")
+    return found
 
 
 def counts(page, program):
@@ -69,8 +73,9 @@ def counts(page, program):
     with tempfile.TemporaryDirectory() as folder:
         furnish(folder, program)
         for language, lines, wanted in blocks((TOP / page).read_text(encoding="utf-8")):
-            if missing(lines):
-                print("%s: skipped, since %s isn't here:\n%s" % (page, ", ".join(missing(lines)), lines))
+            lacks = missing(lines, program or str(TOP / ".symk" / "symk"))
+            if lacks:
+                print("%s: skipped, since here isn't %s:\n%s" % (page, ", ".join(lacks), lines))
                 continue
             words = ["bash", "-c", lines] if language == "sh" else [sys.executable, "-B", "-c", lines]
             environment = dict(os.environ, PYTHONPATH="python", PYTHONDONTWRITEBYTECODE="1")

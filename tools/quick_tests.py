@@ -20,8 +20,12 @@ TOP = Path(__file__).resolve().parent.parent
 # What compiling a crate's tests takes of memory at most, in kB, and the seconds that its tests may take, unoptimised.
 ROOM = 2_500_000
 SECONDS = 300
-# Tests that would take too long without optimisation: the crate, the file, the line that says how many seeds it takes, and the seeds here.
-FEWER = {"list_agreement": ("src/tests.rt", re.compile(r"^(const SEEDS: u64 = )(\d+);$", re.MULTILINE), 20)}
+# Tests that would take too long without optimisation: of a crate the file, what is looked for in it, what stands there instead, and what is said.
+LONG = "reads_a_text_of_the_greatest_length|refuses_long_texts|refuses_a_long_certificate"
+SHORTER = {
+    "list_agreement": ("src/tests.rt", r"(?m)^(const SEEDS: u64 = )300;$", r"\g<1>20;", "with 20 of its 300 seeds"),
+    "symk_cli": ("src/tests/large.rt", r"#\[test\]\n(?=fn (?:%s)\()" % LONG, "", "without its three tests of texts of 268,435,456 bytes"),
+}
 RESULT = re.compile(r"test result: \w+\. (\d+) passed; (\d+) failed")
 
 
@@ -30,7 +34,7 @@ def tested():
     names = [line.split(":")[0].strip() for line in (TOP / "crates.txt").read_text(encoding="utf-8").splitlines() if ":" in line.split("#")[0]]
     files = {name: list((TOP / "crates" / name / "src").rglob("*.rt")) for name in names}
     texts = {name: "".join(it.read_text(encoding="utf-8") for it in files[name]) for name in names}
-    return sorted((it for it in names if "#[test]" in texts[it]), key=lambda it: (it != "symk_cli", it not in FEWER, -len(texts[it])))
+    return sorted((it for it in names if "#[test]" in texts[it]), key=lambda it: (it != "symk_cli", it not in SHORTER, -len(texts[it])))
 
 
 def lanes():
@@ -39,17 +43,18 @@ def lanes():
     return max(1, min(len(os.sched_getaffinity(0)), free // ROOM))
 
 
-def with_fewer(crate, room):
-    """A copy of the sources in which a crate's test takes fewer seeds, and how many of how many."""
-    name, line, few = FEWER[crate]
+def shortened(crate, room):
+    """A copy of the sources in which a crate's tests are shorter."""
+    name, words, instead, _ = SHORTER[crate]
     copy = Path(room, "sources")
     shutil.copytree(TOP / "crates", copy / "crates", ignore=shutil.ignore_patterns("out", "proofs", "must-fail"))
     shutil.copyfile(TOP / "crates.txt", copy / "crates.txt")
     file = copy / "crates" / crate / name
-    text = file.read_text(encoding="utf-8")
-    all_seeds = line.search(text).group(2)
-    file.write_text(line.sub(r"\g<1>%d;" % few, text), encoding="utf-8")
-    return copy, " with %d of its %s seeds" % (few, all_seeds)
+    text, count = re.subn(words, instead, file.read_text(encoding="utf-8"))
+    if not count:
+        raise ValueError("%s of %s has nothing to shorten" % (name, crate))
+    file.write_text(text, encoding="utf-8")
+    return copy
 
 
 def without_hints(run):
@@ -63,7 +68,7 @@ def try_tests(crate):
     """Runs a crate's tests, says what came of them, and returns how many passed and failed."""
     began = time.monotonic()
     with tempfile.TemporaryDirectory(prefix="symk-test-") as room:
-        top, said = with_fewer(crate, room) if crate in FEWER else (TOP, "")
+        top, said = (shortened(crate, room), ", " + SHORTER[crate][-1]) if crate in SHORTER else (TOP, "")
         how = {"cwd": top / "crates" / crate, "env": {**os.environ, "TMPDIR": room}, "stdin": subprocess.DEVNULL}
         how.update(stdout=subprocess.PIPE, stderr=subprocess.STDOUT, errors="replace")
         run = subprocess.Popen(["rt", "try", "--test", "--seconds", str(SECONDS)], **how)

@@ -6,18 +6,16 @@
 //! tell what came of it; `plan_cuts_of` lists the cuts of a task's plans without any search, from the plans
 //! themselves. The tests compare what is told with rows that were worked out by hand, and, on tasks that are
 //! drawn, with the listed plans, over the space of ordered sets and the space of decision diagrams; and they
-//! refuse one call of the space after the other. It stands on `bidirectional`, for the listed plans on
-//! `task_run`, and for its tests on `explicit_space`, `bdd_space`, `small_tasks` and `task_draws`.
+//! refuse one call of the space after the other. There is no call from outside: all of it is for tests. It stands
+//! on `bidirectional`, for the listed plans on `task_run`, and on `explicit_space`, `bdd_space`, `small_tasks` and
+//! `task_draws`.
 #![tactic(auto)]
 
+#[cfg(test)]
 mod listing;
+#[cfg(test)]
 mod plans;
+#[cfg(test)]
 mod telling;
 #[cfg(test)]
 mod tests;
-
-pub use listing::{all_cuts, cuts_up_to, first_cuts};
-pub use plans::{PlanCut, plan_cuts_of};
-pub use telling::{
-    Costs, Cutting, Settled, cuts_once_settled, list_answers, list_costs, list_cuts,
-};

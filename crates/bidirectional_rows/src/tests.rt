@@ -2,9 +2,9 @@
 
 mod refusals;
 
-use crate::{
-    Costs, Cutting, PlanCut, Settled, cuts_once_settled, list_answers, list_costs, list_cuts,
-    plan_cuts_of,
+use crate::plans::{PlanCut, plan_cuts_of};
+use crate::telling::{
+    Costs, Cutting, Settled, cuts_once_settled, list_answers, list_costs, list_cuts,
 };
 use bdd_space::BddSpace;
 use bidirectional::{Choice, Cut, Lighter, Next};

@@ -7,7 +7,8 @@ ghost use Rattle.cost_layers.specs.Layers.{Held};
 ghost use Rattle.bidirectional.specs.Both.{IsBoth, GoesOn, f_of, b_of};
 
 use super::{CHOICES, are_those};
-use crate::{all_cuts, cuts_up_to, plan_cuts_of};
+use crate::listing::{all_cuts, cuts_up_to};
+use crate::plans::plan_cuts_of;
 use bidirectional::{Both, Choice, Choose, Next};
 use cost_layers::Layers;
 use explicit_space::{ExplicitSpace, FuseSpace};

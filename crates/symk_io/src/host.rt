@@ -1,5 +1,7 @@
 // The trusted edge: the files and the output of the system, of which nothing is told.
-ghost use Rattle.std.specs.Prelude.{◌≡◌, ◌<◌, ◌≤◌, length, option_and_then, IfOk, IsSome, None, OnErr, OnOk, Ok};
+ghost use Rattle.std.specs.Prelude.{◌≡◌, ◌↔◌, ◌<◌, ◌≤◌, length, option_and_then, IfOk, IsSome, None, OnErr, OnOk, Ok};
+ghost use Rattle.std.specs.IoError.{error_kind};
+ghost use Rattle.std.specs.declared.io.ErrorKind.TheVariants.{OutOfMemory};
 ghost use Rattle.std.specs.Io.KnownBytes.{Keeps, ReadConsumes, WriteAppends};
 ghost use Rattle.symk_io.specs.Causes.{Counted, HasCause};
 
@@ -7,9 +9,10 @@ use crate::{Files, IoFault, Sink};
 use std::io::{Error, ErrorKind, Read, Write};
 use std::rt::Files as System;
 
-// A failure is counted, and want of memory is not.
+// A failure is counted, and want of memory, which is std's own kind of that name and no other, is not.
 fn fault_of(error: Error, faults: &mut u64) -> IoFault
-    ensures { Counted faults.old faults.new result }
+    ensures kind { (result ≡ IoFault.Memory) ↔ (error_kind error ≡ OutOfMemory) }
+    ensures counted { Counted faults.old faults.new result }
 {
     if error.kind() == ErrorKind::OutOfMemory {
         return IoFault::Memory;

@@ -5,7 +5,6 @@ ghost use Rattle.symk_task.specs.declared.parts.Mode.TheVariants.{Loopless};
 ghost use Rattle.task_system.specs.Computed.{system_of};
 ghost use Rattle.space_api.specs.View.{View};
 ghost use Rattle.run_status.specs.Ends.{HasCauses, Puts};
-ghost use Rattle.plan_run.specs.declared.options.TheConstants.{MOST_PLANS};
 ghost use Rattle.plan_run.specs.Engines.{OwesAll};
 ghost use Rattle.plan_run.specs.Earlier.{IsEarlier};
 ghost use Rattle.plan_run.specs.Lists.{OrPart, aim_after};
@@ -37,7 +36,7 @@ pub fn list_found<K: Sink>(
     sink: &mut K,
 ) -> Status
     requires least { 1 ≤ wanted.count }
-    requires count { wanted.count ≤ MOST_PLANS }
+    requires count { wanted.count ≤ 1000000000 }
     requires limit { IfSome limit (λ most. most < 2 ^ 64) }
     requires earlier { IsEarlier task.now mode limit earlier.now }
     ensures lists { Puts (OrPart (aim_after task.now mode wanted limit earlier.now.plans))
@@ -70,7 +69,7 @@ fn list_loopless<S: Space + Drop, K: Sink>(
     requires system { (S.view space).system ≡ system_of task.now }
     requires none { (a : S.Set) → IsFalse ((S.view space).valid a) }
     requires least { 1 ≤ wanted.count }
-    requires count { wanted.count ≤ MOST_PLANS }
+    requires count { wanted.count ≤ 1000000000 }
     requires limit { IfSome limit (λ most. most < 2 ^ 64) }
     requires earlier { IsEarlier task.now Loopless limit earlier.now }
     ensures lists { Puts (OrPart (aim_after task.now Loopless wanted limit earlier.now.plans))
@@ -109,7 +108,7 @@ fn list_by<S: Space + Drop, K: Sink>(
     requires none { (a : S.Set) → IsFalse ((S.view space).valid a) }
     requires served { mode ≢ Mode.Loopless }
     requires least { 1 ≤ wanted.count }
-    requires count { wanted.count ≤ MOST_PLANS }
+    requires count { wanted.count ≤ 1000000000 }
     requires limit { IfSome limit (λ most. most < 2 ^ 64) }
     requires earlier { IsEarlier task.now mode limit earlier.now }
     ensures lists { Puts (OrPart (aim_after task.now mode wanted limit earlier.now.plans))
@@ -142,7 +141,7 @@ fn list_rest<I: LazyPlans + Drop, K: Sink>(
 ) -> Status
     requires owes { OwesAll I.system I.mode I.most I.pends I.lawful task.now mode limit engine }
     requires least { 1 ≤ wanted.count }
-    requires count { wanted.count ≤ MOST_PLANS }
+    requires count { wanted.count ≤ 1000000000 }
     requires limit { IfSome limit (λ most. most < 2 ^ 64) }
     requires earlier { IsEarlier task.now mode limit earlier.now }
     ensures lists { Puts (OrPart (aim_after task.now mode wanted limit earlier.now.plans))

@@ -23,5 +23,5 @@ mod reaching;
 pub use costs::{Costs, SHOWN, costs_found};
 pub use earlier::Earlier;
 pub use engines::list_found;
-pub use options::{Direction, MOST_PLANS, Reach, Search, Wanted};
+pub use options::{Direction, Reach, Search, Wanted};
 pub use reaching::list_reached;

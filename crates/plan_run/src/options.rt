@@ -21,9 +21,6 @@ pub struct Search {
     pub mutex: bool,
 }
 
-/// The greatest number of plans that a list is asked for.
-pub const MOST_PLANS: u64 = 1_000_000_000;
-
 /// How many plans are wanted, and whether one more is looked for after them.
 #[derive(Clone, Copy, Debug, PartialEq, Eq)]
 pub struct Wanted {
@@ -34,7 +31,7 @@ pub struct Wanted {
 impl Wanted {
     /// How many plans are asked for.
     pub fn asked(self) -> u64
-        requires { self.count ≤ MOST_PLANS }
+        requires { self.count ≤ 1000000000 }
         ensures { result ≡ asked self }
     {
         if self.more {

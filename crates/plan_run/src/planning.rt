@@ -4,7 +4,6 @@ ghost use Rattle.std.specs.Prelude.{◌≡◌, ◌≤◌, ◌<◌, ◌^◌, ◌�
 ghost use Rattle.symk_task.specs.Plans.{IsUnit, cost_of};
 ghost use Rattle.plan_out.specs.Texts.{block as block_text, end_line as end_text};
 ghost use Rattle.run_status.specs.Ends.{Ends, HasCauses, Puts};
-ghost use Rattle.plan_run.specs.declared.options.TheConstants.{MOST_PLANS};
 ghost use Rattle.plan_run.specs.Earlier.{IsEarlier};
 ghost use Rattle.plan_run.specs.Engines.{OwesRest};
 ghost use Rattle.run_status.specs.Sent.{TookPiece, TookFront};
@@ -40,7 +39,7 @@ pub fn list_plans<I: LazyPlans + Drop, K: Sink>(
     requires owes { OwesRest I.system I.mode I.most I.pends I.lawful
         task.now (I.mode engine) limit earlier.now.plans engine }
     requires least { 1 ≤ wanted.count }
-    requires count { wanted.count ≤ MOST_PLANS }
+    requires count { wanted.count ≤ 1000000000 }
     requires limit { IfSome limit (λ most. most < 2 ^ 64) }
     requires earlier { IsEarlier task.now (I.mode engine) limit earlier.now }
     ensures lists { Puts (OrPart (aim_after task.now (I.mode engine) wanted limit earlier.now.plans))

@@ -3,7 +3,6 @@
 ghost use Rattle.std.specs.Prelude.{◌≡◌, ◌≤◌, ◌<◌, ◌^◌, IfOk, IfSome};
 ghost use Rattle.symk_task.specs.declared.parts.Mode.TheVariants.{TopK};
 ghost use Rattle.run_status.specs.Ends.{HasCauses, Puts};
-ghost use Rattle.plan_run.specs.declared.options.TheConstants.{MOST_PLANS};
 ghost use Rattle.plan_run.specs.Engines.{OwesAll};
 ghost use Rattle.plan_run.specs.Lists.{OrPart, aim};
 ghost use Rattle.plan_run.specs.Reaches.{OrReached, HasLeast, IsNear, share};
@@ -43,7 +42,7 @@ pub fn list_reached<K: Sink>(
     sink: &mut K,
 ) -> Status
     requires least { 1 ≤ wanted.count }
-    requires count { wanted.count ≤ MOST_PLANS }
+    requires count { wanted.count ≤ 1000000000 }
     requires near { IsNear reach }
     ensures lists { Puts (OrReached task.now mode wanted reach) (K.view sink.old) (K.view sink.new) result }
     ensures causes { HasCauses result 0 0 (K.view sink.old).faults (K.view sink.new).faults }
@@ -74,7 +73,7 @@ fn list_first<K: Sink>(
     sink: &mut K,
 ) -> Status
     requires least { 1 ≤ wanted.count }
-    requires count { wanted.count ≤ MOST_PLANS }
+    requires count { wanted.count ≤ 1000000000 }
     requires limit { IfSome limit (λ most. most < 2 ^ 64) }
     ensures lists { Puts (OrPart (aim task.now mode wanted limit)) (K.view sink.old) (K.view sink.new) result }
     ensures causes { HasCauses result 0 0 (K.view sink.old).faults (K.view sink.new).faults }

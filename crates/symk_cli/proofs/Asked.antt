@@ -8,7 +8,6 @@ use Rattle.symk_text.specs.Numbers.{value_of, number_at}
 use Rattle.symk_io.specs.View.{Bytes}
 use Rattle.symk_task.specs.declared.parts.Mode.{Mode}
 use Rattle.symk_words.specs.Texts.{Texts, PlanTexts, texts_asked, plan, check, demo, prove, refute}
-use Rattle.plan_run.specs.declared.options.TheConstants.{MOST_PLANS}
 use Rattle.plan_run.specs.declared.options.Direction.{Direction}
 use Rattle.plan_run.specs.declared.options.Reach.{Reach}
 use Rattle.symk_cli.specs.Wishes.{Wish, checks, shows, proves, refutes, number_within, mode_of, direction_of, reach_of, serves, lists_after, lists_if_served, ask_of, spelled, wish_of}
@@ -100,31 +99,31 @@ mode_part t count o = option_and_then (λ m. direction_part t count m (direction
 abbrev number_part : PlanTexts → Option ℕ → Option Wish
 number_part t o = option_and_then (λ count. mode_part t count (mode_of t.mode)) o
 
-plan_parts : (t : PlanTexts) (o : Option ℕ) → number_within 1 MOST_PLANS t.k ≡ o → spelled (plan t) ≡ number_part t o
+plan_parts : (t : PlanTexts) (o : Option ℕ) → number_within 1 1000000000 t.k ≡ o → spelled (plan t) ≡ number_part t o
 unfolding spelled
 plan_parts t o e = ap (number_part t) e
 
-pub plan_no_number : (t : PlanTexts) → number_within 1 MOST_PLANS t.k ≡ None → spelled (plan t) ≡ None
+pub plan_no_number : (t : PlanTexts) → number_within 1 1000000000 t.k ≡ None → spelled (plan t) ≡ None
 plan_no_number t e = plan_parts t None e
 
-pub plan_no_mode : (t : PlanTexts) (count : ℕ) → number_within 1 MOST_PLANS t.k ≡ Some count → mode_of t.mode ≡ None → spelled (plan t) ≡ None
+pub plan_no_mode : (t : PlanTexts) (count : ℕ) → number_within 1 1000000000 t.k ≡ Some count → mode_of t.mode ≡ None → spelled (plan t) ≡ None
 plan_no_mode t count e m = plan_parts t (Some count) e ∙ ap (mode_part t count) m
 
-plan_direction : (t : PlanTexts) (count : ℕ) (m : Mode) (o : Option Direction) → number_within 1 MOST_PLANS t.k ≡ Some count → mode_of t.mode ≡ Some m → direction_of t.search ≡ o → spelled (plan t) ≡ direction_part t count m o
+plan_direction : (t : PlanTexts) (count : ℕ) (m : Mode) (o : Option Direction) → number_within 1 1000000000 t.k ≡ Some count → mode_of t.mode ≡ Some m → direction_of t.search ≡ o → spelled (plan t) ≡ direction_part t count m o
 plan_direction t count m o e is d = plan_parts t (Some count) e ∙ ap (mode_part t count) is ∙ ap (direction_part t count m) d
 
-pub plan_no_direction : (t : PlanTexts) (count : ℕ) (m : Mode) → number_within 1 MOST_PLANS t.k ≡ Some count → mode_of t.mode ≡ Some m → direction_of t.search ≡ None → spelled (plan t) ≡ None
+pub plan_no_direction : (t : PlanTexts) (count : ℕ) (m : Mode) → number_within 1 1000000000 t.k ≡ Some count → mode_of t.mode ≡ Some m → direction_of t.search ≡ None → spelled (plan t) ≡ None
 plan_no_direction t count m e is d = plan_direction t count m None e is d
 
-plan_reach : (t : PlanTexts) (count : ℕ) (m : Mode) (d : Direction) (o : Option Reach) → number_within 1 MOST_PLANS t.k ≡ Some count → mode_of t.mode ≡ Some m → direction_of t.search ≡ Some d → reach_of t.bound t.quality ≡ o
+plan_reach : (t : PlanTexts) (count : ℕ) (m : Mode) (d : Direction) (o : Option Reach) → number_within 1 1000000000 t.k ≡ Some count → mode_of t.mode ≡ Some m → direction_of t.search ≡ Some d → reach_of t.bound t.quality ≡ o
     → spelled (plan t) ≡ reach_part t count m d o
 plan_reach t count m d o e is dir r = plan_direction t count m (Some d) e is dir ∙ ap (reach_part t count m d) r
 
-pub plan_no_reach : (t : PlanTexts) (count : ℕ) (m : Mode) (d : Direction) → number_within 1 MOST_PLANS t.k ≡ Some count → mode_of t.mode ≡ Some m → direction_of t.search ≡ Some d → reach_of t.bound t.quality ≡ None
+pub plan_no_reach : (t : PlanTexts) (count : ℕ) (m : Mode) (d : Direction) → number_within 1 1000000000 t.k ≡ Some count → mode_of t.mode ≡ Some m → direction_of t.search ≡ Some d → reach_of t.bound t.quality ≡ None
     → spelled (plan t) ≡ None
 plan_no_reach t count m d e is dir r = plan_reach t count m d None e is dir r
 
-pub plan_spelled : (t : PlanTexts) (count : ℕ) (m : Mode) (d : Direction) (r : Reach) (served : Bool) → number_within 1 MOST_PLANS t.k ≡ Some count → mode_of t.mode ≡ Some m → direction_of t.search ≡ Some d → reach_of t.bound t.quality ≡ Some r → serves m d ≡ served
+pub plan_spelled : (t : PlanTexts) (count : ℕ) (m : Mode) (d : Direction) (r : Reach) (served : Bool) → number_within 1 1000000000 t.k ≡ Some count → mode_of t.mode ≡ Some m → direction_of t.search ≡ Some d → reach_of t.bound t.quality ≡ Some r → serves m d ≡ served
     → spelled (plan t) ≡ cond served (lists_after t.after (ask_of t count m d r)) None
 plan_spelled t count m d r served e is dir re s =
     plan_reach t count m d (Some r) e is dir re ∙ ap (λ b. cond b (lists_after t.after (ask_of t count m d r)) None) s

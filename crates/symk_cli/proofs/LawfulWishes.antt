@@ -9,7 +9,6 @@ use Rattle.symk_task.specs.declared.parts.Mode.{Mode}
 use Rattle.symk_words.specs.Texts.{Texts, texts_asked, plan, check, demo, prove, refute}
 use Rattle.symk_words.specs.Lawful.{Plain, PlainIfSome}
 use Rattle.symk_words.proofs.LawfulWords.{plan_law, check_law, demo_law, prove_law, refute_law}
-use Rattle.plan_run.specs.declared.options.TheConstants.{MOST_PLANS}
 use Rattle.plan_run.specs.declared.options.Direction.{Direction}
 use Rattle.symk_cli.specs.Wishes.{number_within, mode_named, mode_of, direction_named, direction_of, reach_of, lists_if_served, ask_of, spelled, wish_of}
 use Rattle.plan_run.specs.declared.options.Reach.{Reach}
@@ -110,13 +109,13 @@ asked words texts e h = subst (λ (o : Option Texts). IsSome (option_and_then sp
 by_texts : (texts : Texts) (words : List Bytes) → AreWordsOf texts words → IsSome (spelled texts) → texts_asked words ≡ Some texts
 unfolding spelled
 by_texts (plan t) words form h =
-    let number = then_first (number_within 1 MOST_PLANS t.k) (λ count. mode_part t count (mode_of t.mode)) h in
-    let m = then_second (number_within 1 MOST_PLANS t.k) (mode_of t.mode) (λ count m. direction_part t count m (direction_of t.search)) h in
-    let d = then_third (number_within 1 MOST_PLANS t.k) (mode_of t.mode) (direction_of t.search) (λ count m d. reach_part t count m d (reach_of t.bound t.quality)) h in
-    let r = then_fourth (number_within 1 MOST_PLANS t.k) (mode_of t.mode) (direction_of t.search) (reach_of t.bound t.quality) (λ count m d r. lists_if_served t.after (ask_of t count m d r)) h in
+    let number = then_first (number_within 1 1000000000 t.k) (λ count. mode_part t count (mode_of t.mode)) h in
+    let m = then_second (number_within 1 1000000000 t.k) (mode_of t.mode) (λ count m. direction_part t count m (direction_of t.search)) h in
+    let d = then_third (number_within 1 1000000000 t.k) (mode_of t.mode) (direction_of t.search) (λ count m d. reach_part t count m d (reach_of t.bound t.quality)) h in
+    let r = then_fourth (number_within 1 1000000000 t.k) (mode_of t.mode) (direction_of t.search) (reach_of t.bound t.quality) (λ count m d r. lists_if_served t.after (ask_of t count m d r)) h in
     ap texts_asked form.1 ∙ plan_law form.0 t (record {
       file = form.2;
-      k = plain_number 1 MOST_PLANS t.k number;
+      k = plain_number 1 1000000000 t.k number;
       mode = plain_mode t.mode m;
       search = plain_direction t.search d;
       bound = plain_bound t.bound t.quality r;

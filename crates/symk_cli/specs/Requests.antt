@@ -1,6 +1,5 @@
 -- What a request is for.
 use Rattle.std.specs.Prelude.{◌≤◌, ⊤}
-use Rattle.plan_run.specs.declared.options.TheConstants.{MOST_PLANS}
 use Rattle.plan_run.specs.Reaches.{IsNear}
 use Rattle.symk_cli.specs.Wishes.{Wish, lists, continues, checks, shows, proves, refutes}
 use Rattle.symk_cli.specs.declared.request.Request.{Request}
@@ -15,10 +14,10 @@ wished (Demo switches) = shows switches
 wished (Prove file) = proves file.now
 wished (Refute file cert) = refutes file.now cert.now
 
--- 1 to MOST_PLANS plans are asked for, or 1 to 64 switches
+-- 1 to 1,000,000,000 plans are asked for, or 1 to 64 switches
 abbrev pub IsWithin : Request → Type 0
-IsWithin (Plan file wanted mode search reach) = (1 ≤ wanted.count) × (wanted.count ≤ MOST_PLANS) × IsNear reach
-IsWithin (Further file plans wanted mode search) = (1 ≤ wanted.count) × (wanted.count ≤ MOST_PLANS)
+IsWithin (Plan file wanted mode search reach) = (1 ≤ wanted.count) × (wanted.count ≤ 1000000000) × IsNear reach
+IsWithin (Further file plans wanted mode search) = (1 ≤ wanted.count) × (wanted.count ≤ 1000000000)
 IsWithin (Check file plans mode) = ⊤
 IsWithin (Demo switches) = (1 ≤ switches) × (switches ≤ 64)
 IsWithin (Prove file) = ⊤

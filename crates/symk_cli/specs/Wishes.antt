@@ -8,7 +8,6 @@ use Rattle.symk_io.specs.View.{Bytes}
 use Rattle.symk_task.specs.declared.parts.Mode.{Mode}
 use Rattle.symk_task.specs.declared.parts.Mode.TheVariants.{TopK, Loopless, Unordered}
 use Rattle.symk_words.specs.Texts.{Texts, PlanTexts, texts_asked, plan, check, demo, prove, refute}
-use Rattle.plan_run.specs.declared.options.TheConstants.{MOST_PLANS}
 use Rattle.plan_run.specs.declared.options.Wanted.{Wanted}
 use Rattle.plan_run.specs.declared.options.Reach.{Reach}
 use Rattle.plan_run.specs.declared.options.Reach.TheVariants.{All, UpTo, Percent}
@@ -109,7 +108,7 @@ ask_of t count mode direction reach =
 unfoldable pub spelled : Texts → Option Wish
 spelled (plan t) =
     option_and_then (λ count. option_and_then (λ mode. option_and_then (λ direction. option_and_then (λ reach. lists_if_served t.after (ask_of t count mode direction reach))
-    (reach_of t.bound t.quality)) (direction_of t.search)) (mode_of t.mode)) (number_within 1 MOST_PLANS t.k)
+    (reach_of t.bound t.quality)) (direction_of t.search)) (mode_of t.mode)) (number_within 1 1000000000 t.k)
 spelled (check file plans mode) = option_map (λ m. checks file plans m) (mode_of mode)
 spelled (demo n) = option_map (λ number. shows number) (number_within 1 64 n)
 spelled (prove file) = Some (proves file)

@@ -6,10 +6,13 @@ ghost use Rattle.plan_run.specs.Reaches.{IsNear};
 ghost use Rattle.symk_cli.specs.Wishes.{number_within, mode_named, mode_of, direction_named, direction_of, reach_of, serves, lists_after, spelled};
 ghost use Rattle.symk_cli.specs.Requests.{wished, IsWithin};
 
-use plan_run::{Direction, MOST_PLANS, Reach, Search, Wanted};
+use plan_run::{Direction, Reach, Search, Wanted};
 use symk_task::Mode;
 use symk_text::number;
 use symk_words::Asked;
+
+/// The greatest number of plans that a list is asked for.
+const MOST_PLANS: u64 = 1_000_000_000;
 
 /// A lawful request.
 #[derive(Clone, Copy, Debug, PartialEq, Eq)]
@@ -103,7 +106,7 @@ fn list_request<'a>(
     reach: Reach,
 ) -> Option<Request<'a>>
     requires least { 1 ≤ wanted.count }
-    requires most { wanted.count ≤ MOST_PLANS }
+    requires most { wanted.count ≤ 1000000000 }
     requires near { IsNear reach }
     ensures wish { option_map wished result ≡ lists_after (option_map (λ s. s.now) after.entry)
         (record { file = file.now; wanted = wanted; mode = mode; search = search; reach = reach }) }

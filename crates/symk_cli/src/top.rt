@@ -2,7 +2,6 @@
 
 ghost use Rattle.std.specs.Prelude.{◌≡◌, ◌≢◌, ◌≤◌, [], ◌∷◌, Some, None, IfOk, IsErrOf, map, string_bytes};
 ghost use Rattle.run_status.specs.Ends.{HasCauses};
-ghost use Rattle.plan_run.specs.declared.options.TheConstants.{MOST_PLANS};
 ghost use Rattle.plan_run.specs.Reaches.{IsNear};
 ghost use Rattle.symk_cli.specs.Wishes.{wish_of, files_of, lists, continues, checks, proves, refutes};
 ghost use Rattle.symk_cli.specs.Requests.{wished, IsWithin};
@@ -159,7 +158,7 @@ fn plan<F: Files, K: Sink>(
     reach: Reach,
 ) -> Status
     requires least { 1 ≤ wanted.count }
-    requires count { wanted.count ≤ MOST_PLANS }
+    requires count { wanted.count ≤ 1000000000 }
     requires near { IsNear reach }
     ensures answer { Answered (Some
         (lists (record { file = file.now; wanted = wanted; mode = mode; search = search; reach = reach })))
@@ -187,7 +186,7 @@ fn further<F: Files, K: Sink>(
     wanted: Wanted,
 ) -> Status
     requires least { 1 ≤ wanted.count }
-    requires count { wanted.count ≤ MOST_PLANS }
+    requires count { wanted.count ≤ 1000000000 }
     ensures answer { Answered (Some
         (continues (record {
           file = file.now;

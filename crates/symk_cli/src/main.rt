@@ -16,6 +16,10 @@ mod reading;
 mod request;
 mod top;
 
+ghost use Rattle.std.specs.Prelude.{◌≡◌, pos};
+ghost use Rattle.std.specs.Process.{exit_status};
+ghost use Rattle.run_status.specs.Codes.{code_of};
+
 pub use run_status::Status;
 use std::env;
 use std::process::ExitCode;
@@ -26,7 +30,14 @@ pub use top::{run, run_in_memory};
 pub const LIMIT: u64 = 268_435_456;
 
 fn main(rt: HostRuntime) -> ExitCode {
-    ExitCode::from(u8::try_from(answer(rt).code()).unwrap_or(u8::MAX))
+    exit_of(answer(rt))
+}
+
+// What the program ends with: the number of the status.
+fn exit_of(status: Status) -> ExitCode
+    ensures { pos (exit_status result) ≡ code_of status }
+{
+    ExitCode::from(u8::try_from(status.code()).unwrap_or(u8::MAX))
 }
 
 // The status of a run over the system's words, files and output.

@@ -8,66 +8,13 @@ use Rattle.cert_run.specs.Proofs.{Proves, Refutes, IsUnsolvable}
 use Rattle.run_status.specs.declared.status.Status.{Status}
 use Rattle.run_status.specs.declared.status.Status.TheVariants as status
 use Rattle.run_status.specs.Ends.{AsOne, OrFront, Puts}
-use Rattle.symk_cli.specs.declared.TheConstants.{LIMIT}
 use Rattle.symk_cli.specs.declared.reading.Named.TheVariants.{Cert}
 use Rattle.symk_cli.specs.Wishes.{Wish, lists, continues, checks, shows, proves, refutes}
-use Rattle.symk_cli.specs.Refusals.{IsTaskText, TextRefused, FileRefused}
+use Rattle.symk_cli.specs.Refusals.{most_bytes, IsTaskText, TextRefused, FileRefused}
 use Rattle.symk_cli.specs.Certs.{BothAre, StatesUnsolvable, IsSettled}
 use Rattle.symk_cli.specs.Named.{IsToldText, HasText, HasRead}
 use Rattle.symk_cli.specs.Answer.{Whole, Answer, AreTexts, Certifies, Answered}
 use Rattle.symk_cli.proofs.Answering.{front_answered}
-
--- FILE is refused
-refused_proves : (file : Bytes) (F P : Option Bytes) (result : Status) (pieces : List Bytes) → AsOne (FileRefused F) result pieces → Whole (Some (proves file)) F P result pieces
-refused_proves file F P status.Unreadable pieces m = m
-refused_proves file F P status.TooLong pieces m = m
-refused_proves file F P status.Offending pieces m = m
-refused_proves file F P result pieces m = absurd m.2
-
-pub proves_refused : (told : Option Told) (file : Bytes) (old new : SinkView) (result : Status) → HasRead told file (λ F. Puts (OrFront (FileRefused F)) old new result) → Answered (Some (proves file)) told old new result
-proves_refused told file old new result h = front_answered (Some (proves file)) told h.0 None (FileRefused h.0) old new result (refused_proves file h.0 None) h.1 h.2
-
-refused_refutes : (file cert : Bytes) (F C : Option Bytes) (result : Status) (pieces : List Bytes) → AsOne (FileRefused F) result pieces → Whole (Some (refutes file cert)) F C result pieces
-refused_refutes file cert F C status.Unreadable pieces m = (m.0, m.1, inl m.2)
-refused_refutes file cert F C status.TooLong pieces m = (m.0, m.1, inl m.2)
-refused_refutes file cert F C status.Offending pieces m = (m.0, m.1, inl m.2)
-refused_refutes file cert F C result pieces m = absurd m.2
-
-pub refutes_refused : (told : Option Told) (file cert : Bytes) (old new : SinkView) (result : Status) → HasRead told file (λ F. Puts (OrFront (FileRefused F)) old new result) → Answered (Some (refutes file cert)) told old new result
-refutes_refused told file cert old new result h =
-    front_answered (Some (refutes file cert)) told h.0 None (FileRefused h.0) old new result (refused_refutes file cert h.0 None) (h.1, tt) h.2
-
--- a certificate is put, or that there is a plan
-proof_whole : (file F : Bytes) (task : TaskParts) → IsTaskText F task → (result : Status) (pieces : List Bytes) → AsOne (Proves task) result pieces → Whole (Some (proves file)) (Some F) None result pieces
-proof_whole file F task t status.Proved pieces v = (v.0, v.1, (task, t, v.2))
-proof_whole file F task t status.HasPlan pieces v = (v.0, v.1, (task, t, v.2))
-proof_whole file F task t result pieces v = absurd v.2
-
-pub proves_answered : (told : Option Told) (file : Bytes) (task : TaskParts) (old new : SinkView) (result : Status) → HasText told file (λ F. IsTaskText F task) → Puts (OrFront (Proves task)) old new result → Answered (Some (proves file)) told old new result
-proves_answered told file task old new result f p = front_answered (Some (proves file)) told (Some f.0) None (Proves task) old new result (proof_whole file f.0 task f.2) f.1 p
-
--- CERT is refused
-cert_whole : (file cert F : Bytes) (C : Option Bytes) (task : TaskParts) → IsTaskText F task → (result : Status) (pieces : List Bytes) → AsOne (TextRefused Cert C) result pieces → Whole (Some (refutes file cert)) (Some F) C result pieces
-cert_whole file cert F C task t status.Unreadable pieces m = (m.0, m.1, inr ((task, t), m.2))
-cert_whole file cert F C task t status.TooLong pieces m = (m.0, m.1, inr ((task, t), m.2))
-cert_whole file cert F C task t result pieces m = absurd m.2
-
-pub cert_refused : (told : Option Told) (file cert : Bytes) (task : TaskParts) (old new : SinkView) (result : Status) → HasText told file (λ F. IsTaskText F task) → HasRead told cert (λ C. Puts (OrFront (TextRefused Cert C)) old new result)
-    → Answered (Some (refutes file cert)) told old new result
-cert_refused told file cert task old new result f p =
-    front_answered (Some (refutes file cert)) told (Some f.0) p.0 (TextRefused Cert p.0) old new result (cert_whole file cert f.0 p.0 task f.2) (f.1, p.1) p.2
-
--- it is judged, or a line of it offends
-verdict_whole : (file cert F C : Bytes) (task : TaskParts) → IsTaskText F task → length C ≤ LIMIT → (result : Status) (pieces : List Bytes) → AsOne (Refutes task C) result pieces → Whole (Some (refutes file cert)) (Some F) (Some C) result pieces
-verdict_whole file cert F C task t short status.Refuted pieces v = (v.0, v.1, (task, t, (short, v.2)))
-verdict_whole file cert F C task t short status.NotShown pieces v = (v.0, v.1, (task, t, (short, v.2)))
-verdict_whole file cert F C task t short status.Offending pieces v = (v.0, v.1, inr (task, t, (short, v.2)))
-verdict_whole file cert F C task t short result pieces v = absurd v.2
-
-pub refutes_answered : (told : Option Told) (file cert : Bytes) (task : TaskParts) (C : Bytes) (old new : SinkView) (result : Status) → HasText told file (λ F. IsTaskText F task) → IsToldText told cert C → length C ≤ LIMIT
-    → Puts (OrFront (Refutes task C)) old new result → Answered (Some (refutes file cert)) told old new result
-refutes_answered told file cert task C old new result f known short p =
-    front_answered (Some (refutes file cert)) told (Some f.0) (Some C) (Refutes task C) old new result (verdict_whole file cert f.0 C task f.2 short) (f.1, known) p
 
 -- The task has no plan.
 
@@ -107,12 +54,65 @@ settled_by_cert (Some (proves file)) told None C out t c = absurd c
 settled_by_cert (Some (proves file)) told (Some F) C out t c = absurd c.2
 settled_by_cert (Some (refutes file cert)) told F C out t c = by_cert told file cert F C out t c
 
-pub proved_settles : (asked : Option Wish) (told : Option Told) (old new : SinkView) (result : Status) → Answered asked told old new result → result ≡ status.Proved → IsSettled asked told
-proved_settles asked told old new result a e =
-    let answer = subst (λ s. Answer asked a.F a.P s a.out) e a.answer in
-    settled_by_proof asked told a.F a.P answer.0.0 a.texts answer.0.2
+module _ (rose : Type 0) where
+  -- FILE is refused
+  refused_proves : (file : Bytes) (F P : Option Bytes) (result : Status) (pieces : List Bytes) → AsOne (FileRefused rose F) result pieces → Whole rose (Some (proves file)) F P result pieces
+  refused_proves file F P status.Unreadable pieces m = m
+  refused_proves file F P status.TooLong pieces m = m
+  refused_proves file F P status.Offending pieces m = m
+  refused_proves file F P result pieces m = absurd m.2
 
-pub refuted_settles : (asked : Option Wish) (told : Option Told) (old new : SinkView) (result : Status) → Answered asked told old new result → result ≡ status.Refuted → IsSettled asked told
-refuted_settles asked told old new result a e =
-    let answer = subst (λ s. Answer asked a.F a.P s a.out) e a.answer in
-    settled_by_cert asked told a.F a.P answer.0.0 a.texts answer.0.2
+  pub proves_refused : (told : Option Told) (file : Bytes) (old new : SinkView) (result : Status) → HasRead told file (λ F. Puts (OrFront (FileRefused rose F)) old new result) → Answered rose (Some (proves file)) told old new result
+  proves_refused told file old new result h = front_answered rose (Some (proves file)) told h.0 None (FileRefused rose h.0) old new result (refused_proves file h.0 None) h.1 h.2
+
+  refused_refutes : (file cert : Bytes) (F C : Option Bytes) (result : Status) (pieces : List Bytes) → AsOne (FileRefused rose F) result pieces → Whole rose (Some (refutes file cert)) F C result pieces
+  refused_refutes file cert F C status.Unreadable pieces m = (m.0, m.1, inl m.2)
+  refused_refutes file cert F C status.TooLong pieces m = (m.0, m.1, inl m.2)
+  refused_refutes file cert F C status.Offending pieces m = (m.0, m.1, inl m.2)
+  refused_refutes file cert F C result pieces m = absurd m.2
+
+  pub refutes_refused : (told : Option Told) (file cert : Bytes) (old new : SinkView) (result : Status) → HasRead told file (λ F. Puts (OrFront (FileRefused rose F)) old new result) → Answered rose (Some (refutes file cert)) told old new result
+  refutes_refused told file cert old new result h =
+      front_answered rose (Some (refutes file cert)) told h.0 None (FileRefused rose h.0) old new result (refused_refutes file cert h.0 None) (h.1, tt) h.2
+
+  -- a certificate is put, or that there is a plan
+  proof_whole : (file F : Bytes) (task : TaskParts) → IsTaskText F task → (result : Status) (pieces : List Bytes) → AsOne (Proves task) result pieces → Whole rose (Some (proves file)) (Some F) None result pieces
+  proof_whole file F task t status.Proved pieces v = (v.0, v.1, (task, t, v.2))
+  proof_whole file F task t status.HasPlan pieces v = (v.0, v.1, (task, t, v.2))
+  proof_whole file F task t result pieces v = absurd v.2
+
+  pub proves_answered : (told : Option Told) (file : Bytes) (task : TaskParts) (old new : SinkView) (result : Status) → HasText told file (λ F. IsTaskText F task) → Puts (OrFront (Proves task)) old new result → Answered rose (Some (proves file)) told old new result
+  proves_answered told file task old new result f p = front_answered rose (Some (proves file)) told (Some f.0) None (Proves task) old new result (proof_whole file f.0 task f.2) f.1 p
+
+  -- CERT is refused
+  cert_whole : (file cert F : Bytes) (C : Option Bytes) (task : TaskParts) → IsTaskText F task → (result : Status) (pieces : List Bytes) → AsOne (TextRefused rose Cert C) result pieces → Whole rose (Some (refutes file cert)) (Some F) C result pieces
+  cert_whole file cert F C task t status.Unreadable pieces m = (m.0, m.1, inr ((task, t), m.2))
+  cert_whole file cert F C task t status.TooLong pieces m = (m.0, m.1, inr ((task, t), m.2))
+  cert_whole file cert F C task t result pieces m = absurd m.2
+
+  pub cert_refused : (told : Option Told) (file cert : Bytes) (task : TaskParts) (old new : SinkView) (result : Status) → HasText told file (λ F. IsTaskText F task) → HasRead told cert (λ C. Puts (OrFront (TextRefused rose Cert C)) old new result)
+      → Answered rose (Some (refutes file cert)) told old new result
+  cert_refused told file cert task old new result f p =
+      front_answered rose (Some (refutes file cert)) told (Some f.0) p.0 (TextRefused rose Cert p.0) old new result (cert_whole file cert f.0 p.0 task f.2) (f.1, p.1) p.2
+
+  -- it is judged, or a line of it offends
+  verdict_whole : (file cert F C : Bytes) (task : TaskParts) → IsTaskText F task → length C ≤ most_bytes → (result : Status) (pieces : List Bytes) → AsOne (Refutes task C) result pieces → Whole rose (Some (refutes file cert)) (Some F) (Some C) result pieces
+  verdict_whole file cert F C task t short status.Refuted pieces v = (v.0, v.1, (task, t, (short, v.2)))
+  verdict_whole file cert F C task t short status.NotShown pieces v = (v.0, v.1, (task, t, (short, v.2)))
+  verdict_whole file cert F C task t short status.Offending pieces v = (v.0, v.1, inr (task, t, (short, v.2)))
+  verdict_whole file cert F C task t short result pieces v = absurd v.2
+
+  pub refutes_answered : (told : Option Told) (file cert : Bytes) (task : TaskParts) (C : Bytes) (old new : SinkView) (result : Status) → HasText told file (λ F. IsTaskText F task) → IsToldText told cert C → length C ≤ most_bytes
+      → Puts (OrFront (Refutes task C)) old new result → Answered rose (Some (refutes file cert)) told old new result
+  refutes_answered told file cert task C old new result f known short p =
+      front_answered rose (Some (refutes file cert)) told (Some f.0) (Some C) (Refutes task C) old new result (verdict_whole file cert f.0 C task f.2 short) (f.1, known) p
+
+  pub proved_settles : (asked : Option Wish) (told : Option Told) (old new : SinkView) (result : Status) → Answered rose asked told old new result → result ≡ status.Proved → IsSettled asked told
+  proved_settles asked told old new result a e =
+      let answer = subst (λ s. Answer rose asked a.F a.P s a.out) e a.answer in
+      settled_by_proof asked told a.F a.P answer.0.0 a.texts answer.0.2
+
+  pub refuted_settles : (asked : Option Wish) (told : Option Told) (old new : SinkView) (result : Status) → Answered rose asked told old new result → result ≡ status.Refuted → IsSettled asked told
+  refuted_settles asked told old new result a e =
+      let answer = subst (λ s. Answer rose asked a.F a.P s a.out) e a.answer in
+      settled_by_cert asked told a.F a.P answer.0.0 a.texts answer.0.2

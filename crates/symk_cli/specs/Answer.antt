@@ -28,14 +28,14 @@ usage_text =
     ++ codes "       symk refute FILE CERT\n"
 
 -- a file that is asked for is refused: FILE, or PLANS or CERT after a FILE that is a task file
-abbrev pub Refused : Option Wish → Option Bytes → Option Bytes → Status → Bytes → Type 0
-Refused (Some (lists ask)) F P result out = FileRefused F result out
-Refused (Some (continues ask)) F P result out = FileRefused F result out ⊎ (IsTask F × PlansRefused P result out)
-Refused (Some (checks file plans mode)) F P result out = FileRefused F result out ⊎ (IsTask F × PlansRefused P result out)
-Refused (Some (shows number)) F P result out = ⊥
-Refused (Some (proves file)) F P result out = FileRefused F result out
-Refused (Some (refutes file cert)) F C result out = FileRefused F result out ⊎ CertRefused F C result out
-Refused None F P result out = ⊥
+abbrev pub Refused : Type 0 → Option Wish → Option Bytes → Option Bytes → Status → Bytes → Type 0
+Refused rose (Some (lists ask)) F P result out = FileRefused rose F result out
+Refused rose (Some (continues ask)) F P result out = FileRefused rose F result out ⊎ (IsTask F × PlansRefused rose P result out)
+Refused rose (Some (checks file plans mode)) F P result out = FileRefused rose F result out ⊎ (IsTask F × PlansRefused rose P result out)
+Refused rose (Some (shows number)) F P result out = ⊥
+Refused rose (Some (proves file)) F P result out = FileRefused rose F result out
+Refused rose (Some (refutes file cert)) F C result out = FileRefused rose F result out ⊎ CertRefused rose F C result out
+Refused rose None F P result out = ⊥
 
 -- FILE states a task, and PLANS states blocks, each of which is good
 abbrev pub GoesOn : Option Bytes → Option Bytes → Mode → (TaskParts → List ReadBlock → Type 0) → Type 0
@@ -72,37 +72,37 @@ Certifies (Some (refutes file cert)) F C result out = BothAre F C (λ task bytes
 Certifies wish F P result out = ⊥
 
 -- the whole pieces that a status comes with: the blocks of a list and its end line, or one text
-abbrev pub Whole : Option Wish → Option Bytes → Option Bytes → Status → List Bytes → Type 0
-Whole wish F P status.Usage pieces = IsOne (λ out. (wish ≡ None) × (out ≡ usage_text)) pieces
-Whole wish F P status.Unreadable pieces = IsOne (Refused wish F P status.Unreadable) pieces
-Whole wish F P status.TooLong pieces = IsOne (Refused wish F P status.TooLong) pieces
-Whole wish F P status.Offending pieces = IsOne (Refused wish F P status.Offending) pieces
-Whole wish F P status.Reached pieces = Lists wish F P status.Reached pieces
-Whole wish F P status.MoreLeft pieces = Lists wish F P status.MoreLeft pieces
-Whole wish F P status.Bounded pieces = Lists wish F P status.Bounded pieces
-Whole wish F P status.Exhausted pieces = Lists wish F P status.Exhausted pieces
-Whole wish F P status.CostRange pieces = Lists wish F P status.CostRange pieces
-Whole wish F P status.Gap pieces = Lists wish F P status.Gap pieces
-Whole wish F P status.Good pieces = IsOne (Judges wish F P status.Good) pieces
-Whole wish F P status.BadList pieces = IsOne (Judges wish F P status.BadList) pieces
-Whole wish F P status.Shown pieces = IsOne (Shows wish status.Shown) pieces
-Whole wish F P status.Proved pieces = IsOne (Certifies wish F P status.Proved) pieces
-Whole wish F P status.HasPlan pieces = IsOne (Certifies wish F P status.HasPlan) pieces
-Whole wish F P status.Refuted pieces = IsOne (Certifies wish F P status.Refuted) pieces
-Whole wish F P status.NotShown pieces = IsOne (Certifies wish F P status.NotShown) pieces
-Whole wish F P status.WriteFault pieces = ⊥
-Whole wish F P status.Memory pieces = ⊥
+abbrev pub Whole : Type 0 → Option Wish → Option Bytes → Option Bytes → Status → List Bytes → Type 0
+Whole rose wish F P status.Usage pieces = IsOne (λ out. (wish ≡ None) × (out ≡ usage_text)) pieces
+Whole rose wish F P status.Unreadable pieces = IsOne (Refused rose wish F P status.Unreadable) pieces
+Whole rose wish F P status.TooLong pieces = IsOne (Refused rose wish F P status.TooLong) pieces
+Whole rose wish F P status.Offending pieces = IsOne (Refused rose wish F P status.Offending) pieces
+Whole rose wish F P status.Reached pieces = Lists wish F P status.Reached pieces
+Whole rose wish F P status.MoreLeft pieces = Lists wish F P status.MoreLeft pieces
+Whole rose wish F P status.Bounded pieces = Lists wish F P status.Bounded pieces
+Whole rose wish F P status.Exhausted pieces = Lists wish F P status.Exhausted pieces
+Whole rose wish F P status.CostRange pieces = Lists wish F P status.CostRange pieces
+Whole rose wish F P status.Gap pieces = Lists wish F P status.Gap pieces
+Whole rose wish F P status.Good pieces = IsOne (Judges wish F P status.Good) pieces
+Whole rose wish F P status.BadList pieces = IsOne (Judges wish F P status.BadList) pieces
+Whole rose wish F P status.Shown pieces = IsOne (Shows wish status.Shown) pieces
+Whole rose wish F P status.Proved pieces = IsOne (Certifies wish F P status.Proved) pieces
+Whole rose wish F P status.HasPlan pieces = IsOne (Certifies wish F P status.HasPlan) pieces
+Whole rose wish F P status.Refuted pieces = IsOne (Certifies wish F P status.Refuted) pieces
+Whole rose wish F P status.NotShown pieces = IsOne (Certifies wish F P status.NotShown) pieces
+Whole rose wish F P status.WriteFault pieces = ⊥
+Whole rose wish F P status.Memory pieces = ⊥
 
 -- nothing, a front of whole pieces, or a front of a list that goes on
-abbrev pub Part : Option Wish → Option Bytes → Option Bytes → Sent → Type 0
-Part wish F P out = (out ≡ nothing) ⊎ ((result : Status) × (whole : List Bytes) × Whole wish F P result whole × IsFront out whole) ⊎ PartLists wish F P out
+abbrev pub Part : Type 0 → Option Wish → Option Bytes → Option Bytes → Sent → Type 0
+Part rose wish F P out = (out ≡ nothing) ⊎ ((result : Status) × (whole : List Bytes) × Whole rose wish F P result whole × IsFront out whole) ⊎ PartLists wish F P out
 
 -- What the sink took under a status, given what is asked for and the texts that were read of FILE and of PLANS or CERT: whole
 -- pieces, or a part of them where the sink failed or memory was wanting.
-abbrev pub Answer : Option Wish → Option Bytes → Option Bytes → Status → Sent → Type 0
-Answer wish F P status.WriteFault out = Part wish F P out
-Answer wish F P status.Memory out = Part wish F P out
-Answer wish F P result out = IsWhole (Whole wish F P result) out
+abbrev pub Answer : Type 0 → Option Wish → Option Bytes → Option Bytes → Status → Sent → Type 0
+Answer rose wish F P status.WriteFault out = Part rose wish F P out
+Answer rose wish F P status.Memory out = Part rose wish F P out
+Answer rose wish F P result out = IsWhole (Whole rose wish F P result) out
 
 -- what was read of the files that are asked for are their texts, those told where texts are told
 abbrev pub AreTexts : Option Told → Option Wish → Option Bytes → Option Bytes → Type 0
@@ -116,10 +116,10 @@ AreTexts told (Some (refutes file cert)) F C = IfSome F (IsToldText told file) �
 
 -- There are texts that were read of FILE and of PLANS or CERT, which are those told, and pieces and bytes, which are those taken,
 -- with one flush for each piece, and they answer what is asked for.
-pub record Answered (wish : Option Wish) (told : Option Told) (old new : SinkView) (result : Status) : Type 0 where
+pub record Answered (rose : Type 0) (wish : Option Wish) (told : Option Told) (old new : SinkView) (result : Status) : Type 0 where
   pub F : Option Bytes
   pub P : Option Bytes
   pub texts : AreTexts told wish F P
   pub out : Sent
   pub taken : Took out old new
-  pub answer : Answer wish F P result out
+  pub answer : Answer rose wish F P result out

@@ -3,18 +3,17 @@ use Rattle.std.specs.Prelude.{◌≡◌, ◌⊎◌, ◌<◌, ◌≤◌, length, 
 use Rattle.symk_io.specs.View.{Bytes, Told}
 use Rattle.symk_cli.specs.Wishes.{Wish, lists, continues, checks, shows, proves, refutes}
 use Rattle.symk_cli.specs.Named.{HasText}
-use Rattle.symk_cli.specs.Refusals.{FileOffence}
-use Rattle.symk_cli.specs.declared.TheConstants.{LIMIT}
+use Rattle.symk_cli.specs.Refusals.{most_bytes, FileOffence}
 use Rattle.run_status.specs.declared.status.Status.{Status}
 use Rattle.run_status.specs.declared.status.Status.TheVariants as status
 
 -- the text of the name has at most 268,435,456 bytes
 abbrev pub IsShort : Option Told → Bytes → Type 0
-IsShort told name = HasText told name (λ text. length text ≤ LIMIT)
+IsShort told name = HasText told name (λ text. length text ≤ most_bytes)
 
 -- it has more
 abbrev pub IsLong : Option Told → Bytes → Type 0
-IsLong told name = HasText told name (λ text. LIMIT < length text)
+IsLong told name = HasText told name (λ text. most_bytes < length text)
 
 -- it has at most so many, and a line of it is the first at which no task file can go on so
 abbrev pub IsOffending : Option Told → Bytes → Type 0

@@ -8,15 +8,18 @@ use Rattle.sas_reader.specs.declared.fault.ReadFault.TheVariants.{Offence}
 use Rattle.sas_reader.specs.Format.{IsFileOf}
 use Rattle.sas_reader.specs.Refused.{RefusedAt}
 use Rattle.sas_reader.specs.Printed.{printed}
-use Rattle.symk_cli.specs.declared.TheConstants.{LIMIT}
 use Rattle.symk_cli.specs.declared.reading.Named.{Named}
 use Rattle.symk_cli.specs.declared.reading.Named.TheVariants.{File, Plans, Cert}
 use Rattle.run_status.specs.declared.status.Status.{Status}
 use Rattle.run_status.specs.declared.status.Status.TheVariants as status
 
+-- the greatest number of bytes of a file, a plan text or a certificate
+abbrev pub most_bytes : ℕ
+most_bytes = 268435456
+
 -- The text is a file of the task, of lawful length.
 pub record IsTaskText (F : Bytes) (task : TaskParts) : Type 0 where
-  pub short : length F ≤ LIMIT
+  pub short : length F ≤ most_bytes
   pub file : IsFileOf (lines F) task
 
 unfoldable pub unreadable_text : Named → Bytes
@@ -36,24 +39,25 @@ offence_text line wanted = codes "line " ++ decimal line ++ codes ": wanted " ++
 unfoldable pub plans_offence_text : ℕ → Bytes
 plans_offence_text line = codes "plans line " ++ decimal line ++ codes "\n"
 
--- a text can't be read, or has more than 268,435,456 bytes
-abbrev pub TextRefused : Named → Option Bytes → Status → Bytes → Type 0
-TextRefused named read status.Unreadable out = out ≡ unreadable_text named
-TextRefused named read status.TooLong out = IsSomeAnd read (λ text. LIMIT < length text) × (out ≡ too_long_text named)
-TextRefused named read result out = ⊥
+-- A text can't be read, which is said only where the count of the files' faults rose, or it has more than 268,435,456 bytes. What
+-- `rose` says is that the count did.
+abbrev pub TextRefused : Type 0 → Named → Option Bytes → Status → Bytes → Type 0
+TextRefused rose named read status.Unreadable out = rose × (out ≡ unreadable_text named)
+TextRefused rose named read status.TooLong out = IsSomeAnd read (λ text. most_bytes < length text) × (out ≡ too_long_text named)
+TextRefused rose named read result out = ⊥
 
 -- The text names the first line of FILE at which no task file can go on so, and what has to stand there.
 pub record FileOffence (F out : Bytes) : Type 0 where
-  pub short : length F ≤ LIMIT
+  pub short : length F ≤ most_bytes
   pub line : ℕ
   pub wanted : Shape
   pub offends : RefusedAt (lines F) (Offence line wanted)
   pub text : out ≡ offence_text line wanted
 
 -- FILE is refused under the status, with the text
-abbrev pub FileRefused : Option Bytes → Status → Bytes → Type 0
-FileRefused F status.Offending out = IsSomeAnd F (λ text. FileOffence text out)
-FileRefused F result out = TextRefused File F result out
+abbrev pub FileRefused : Type 0 → Option Bytes → Status → Bytes → Type 0
+FileRefused rose F status.Offending out = IsSomeAnd F (λ text. FileOffence text out)
+FileRefused rose F result out = TextRefused rose File F result out
 
 -- FILE is a task file of lawful length
 abbrev pub IsTask : Option Bytes → Type 0

@@ -1,10 +1,11 @@
 //! The files that the words name, read whole, or the refusal of them that ends the run.
 
 ghost use Rattle.std.specs.Prelude.{◌≡◌, ◌≤◌, All, length, IfOk, IfErr, OnOk};
+ghost use Rattle.symk_io.specs.Causes.{Rose};
 ghost use Rattle.symk_io.specs.View.{Tells};
 ghost use Rattle.symk_io.specs.Told.{Opened};
 ghost use Rattle.run_status.specs.Ends.{HasCauses, OrFront, Puts};
-ghost use Rattle.symk_cli.specs.Refusals.{IsTaskText, TextRefused, FileRefused, unreadable_text, too_long_text, offence_text, plans_offence_text};
+ghost use Rattle.symk_cli.specs.Refusals.{most_bytes, IsTaskText, TextRefused, FileRefused, unreadable_text, too_long_text, offence_text, plans_offence_text};
 ghost use Rattle.symk_cli.specs.Plans.{IsPlansText, PlansRefused};
 ghost use Rattle.symk_cli.specs.Named.{IsToldText, HasText, HasRead, StopsAt};
 
@@ -58,13 +59,14 @@ pub fn text_of<F: Files, K: Sink>(
     name: &str,
 ) -> Result<Vec<u8>, Status>
     ensures text { IfOk result (λ text. IsToldText (F.view files.old).told name.now text.items) }
-    ensures within { IfOk result (λ text. length text.items ≤ LIMIT) }
+    ensures within { IfOk result (λ text. length text.items ≤ most_bytes) }
     ensures opened { OnOk result (Tells (Opened name.now) (F.view files.old).told (F.view files.new).told) }
     ensures quiet { OnOk result (((F.view files.new).faults ≡ (F.view files.old).faults)
         × ((K.view sink.new).faults ≡ (K.view sink.old).faults)) }
     ensures untouched { OnOk result (K.view sink.new ≡ K.view sink.old) }
     ensures refused { IfErr result (λ status. HasRead (F.view files.old).told name.now
-        (λ read. Puts (OrFront (TextRefused named read)) (K.view sink.old) (K.view sink.new) status)) }
+        (λ read. Puts (OrFront (TextRefused (Rose (F.view files.old).faults (F.view files.new).faults) named read))
+        (K.view sink.old) (K.view sink.new) status)) }
     ensures stops { IfErr result (StopsAt named name.now (F.view files.old).told (F.view files.new).told
         (K.view sink.old).taken (K.view sink.new).taken) }
     ensures causes { IfErr result (λ status. HasCauses status (F.view files.old).faults
@@ -91,7 +93,8 @@ pub fn task_of<F: Files, K: Sink>(
         × ((K.view sink.new).faults ≡ (K.view sink.old).faults)) }
     ensures untouched { OnOk result (K.view sink.new ≡ K.view sink.old) }
     ensures refused { IfErr result (λ status. HasRead (F.view files.old).told name.now
-        (λ read. Puts (OrFront (FileRefused read)) (K.view sink.old) (K.view sink.new) status)) }
+        (λ read. Puts (OrFront (FileRefused (Rose (F.view files.old).faults (F.view files.new).faults) read))
+        (K.view sink.old) (K.view sink.new) status)) }
     ensures stops { IfErr result (StopsAt Named.File name.now (F.view files.old).told (F.view files.new).told
         (K.view sink.old).taken (K.view sink.new).taken) }
     ensures causes { IfErr result (λ status. HasCauses status (F.view files.old).faults
@@ -124,7 +127,8 @@ pub fn plans_of<F: Files, K: Sink>(
         × ((K.view sink.new).faults ≡ (K.view sink.old).faults)) }
     ensures untouched { OnOk result (K.view sink.new ≡ K.view sink.old) }
     ensures refused { IfErr result (λ status. HasRead (F.view files.old).told name.now
-        (λ read. Puts (OrFront (PlansRefused read)) (K.view sink.old) (K.view sink.new) status)) }
+        (λ read. Puts (OrFront (PlansRefused (Rose (F.view files.old).faults (F.view files.new).faults) read))
+        (K.view sink.old) (K.view sink.new) status)) }
     ensures stops { IfErr result (StopsAt Named.Plans name.now (F.view files.old).told (F.view files.new).told
         (K.view sink.old).taken (K.view sink.new).taken) }
     ensures causes { IfErr result (λ status. HasCauses status (F.view files.old).faults

@@ -1,6 +1,7 @@
 //! The top call.
 
 ghost use Rattle.std.specs.Prelude.{◌≡◌, ◌≢◌, ◌≤◌, [], ◌∷◌, Some, None, IfOk, IsErrOf, map, string_bytes};
+ghost use Rattle.symk_io.specs.Causes.{Rose};
 ghost use Rattle.run_status.specs.Ends.{HasCauses};
 ghost use Rattle.plan_run.specs.Reaches.{IsNear};
 ghost use Rattle.symk_cli.specs.Wishes.{wish_of, files_of, lists, continues, checks, proves, refutes};
@@ -42,7 +43,8 @@ pub fn run<F: Files, K: Sink>(
     sink: &mut K,
 ) -> Status
     // The bytes and the status answer the words, for the texts of the files, with one flush for each piece.
-    ensures answer { Answered (wish_of (map (λ w. string_bytes w) words.now)) (F.view files.old).told
+    ensures answer { Answered (Rose (F.view files.old).faults (F.view files.new).faults)
+        (wish_of (map (λ w. string_bytes w) words.now)) (F.view files.old).told
         (K.view sink.old) (K.view sink.new) result }
     // A fault is answered only where one was counted, and where one was, no other status comes but want of memory.
     ensures causes { HasCauses result (F.view files.old).faults (F.view files.new).faults
@@ -80,7 +82,8 @@ pub fn run_in_memory(
 
 // Answers the words.
 fn answer<F: Files, K: Sink>(alloc: Global, words: &[String], files: &mut F, sink: &mut K) -> Status
-    ensures answer { Answered (wish_of (map (λ w. string_bytes w) words.now)) (F.view files.old).told
+    ensures answer { Answered (Rose (F.view files.old).faults (F.view files.new).faults)
+        (wish_of (map (λ w. string_bytes w) words.now)) (F.view files.old).told
         (K.view sink.old) (K.view sink.new) result }
     ensures causes { HasCauses result (F.view files.old).faults (F.view files.new).faults
         (K.view sink.old).faults (K.view sink.new).faults }
@@ -117,7 +120,8 @@ fn serve<F: Files, K: Sink>(
     sink: &mut K,
 ) -> Status
     requires { IsWithin request }
-    ensures answer { Answered (Some (wished request.entry)) (F.view files.old).told (K.view sink.old)
+    ensures answer { Answered (Rose (F.view files.old).faults (F.view files.new).faults)
+        (Some (wished request.entry)) (F.view files.old).told (K.view sink.old)
         (K.view sink.new) result }
     ensures causes { HasCauses result (F.view files.old).faults (F.view files.new).faults
         (K.view sink.old).faults (K.view sink.new).faults }
@@ -160,7 +164,8 @@ fn plan<F: Files, K: Sink>(
     requires least { 1 ≤ wanted.count }
     requires count { wanted.count ≤ 1000000000 }
     requires near { IsNear reach }
-    ensures answer { Answered (Some
+    ensures answer { Answered (Rose (F.view files.old).faults (F.view files.new).faults)
+        (Some
         (lists (record { file = file.now; wanted = wanted; mode = mode; search = search; reach = reach })))
         (F.view files.old).told (K.view sink.old) (K.view sink.new) result }
     ensures causes { HasCauses result (F.view files.old).faults (F.view files.new).faults
@@ -187,7 +192,8 @@ fn further<F: Files, K: Sink>(
 ) -> Status
     requires least { 1 ≤ wanted.count }
     requires count { wanted.count ≤ 1000000000 }
-    ensures answer { Answered (Some
+    ensures answer { Answered (Rose (F.view files.old).faults (F.view files.new).faults)
+        (Some
         (continues (record {
           file = file.now;
           plans = plans.now;
@@ -219,7 +225,8 @@ fn check<F: Files, K: Sink>(
     plans: &str,
     mode: Mode,
 ) -> Status
-    ensures answer { Answered (Some (checks file.now plans.now mode)) (F.view files.old).told
+    ensures answer { Answered (Rose (F.view files.old).faults (F.view files.new).faults)
+        (Some (checks file.now plans.now mode)) (F.view files.old).told
         (K.view sink.old) (K.view sink.new) result }
     ensures causes { HasCauses result (F.view files.old).faults (F.view files.new).faults
         (K.view sink.old).faults (K.view sink.new).faults }
@@ -238,7 +245,8 @@ fn check<F: Files, K: Sink>(
 
 // `prove`
 fn prove<F: Files, K: Sink>(alloc: Global, files: &mut F, sink: &mut K, file: &str) -> Status
-    ensures answer { Answered (Some (proves file.now)) (F.view files.old).told (K.view sink.old)
+    ensures answer { Answered (Rose (F.view files.old).faults (F.view files.new).faults)
+        (Some (proves file.now)) (F.view files.old).told (K.view sink.old)
         (K.view sink.new) result }
     ensures causes { HasCauses result (F.view files.old).faults (F.view files.new).faults
         (K.view sink.old).faults (K.view sink.new).faults }
@@ -259,7 +267,8 @@ fn refute<F: Files, K: Sink>(
     file: &str,
     cert: &str,
 ) -> Status
-    ensures answer { Answered (Some (refutes file.now cert.now)) (F.view files.old).told (K.view sink.old)
+    ensures answer { Answered (Rose (F.view files.old).faults (F.view files.new).faults)
+        (Some (refutes file.now cert.now)) (F.view files.old).told (K.view sink.old)
         (K.view sink.new) result }
     ensures causes { HasCauses result (F.view files.old).faults (F.view files.new).faults
         (K.view sink.old).faults (K.view sink.new).faults }

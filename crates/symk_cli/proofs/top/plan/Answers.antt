@@ -6,14 +6,14 @@ use Rattle.symk_cli.proofs.Opening.{file_opened, file_stops, sink_readable}
 use Rattle.symk_cli.proofs.top.plan.Goals as goal
 
 pub returns-in-Err-clause-answer : goal.returns-in-Err-clause-answer
-returns-in-Err-clause-answer g c = lists_refused (g.F.Files.view c.args.files.now).told (record { file = c.args.file.now; wanted = c.args.wanted; mode = c.args.mode; search = c.args.search; reach = c.args.reach }) _ _ _ c.in-Err.ensures.refused
+returns-in-Err-clause-answer g c = lists_refused _ (g.F.Files.view c.args.files.now).told (record { file = c.args.file.now; wanted = c.args.wanted; mode = c.args.mode; search = c.args.search; reach = c.args.reach }) _ _ _ c.in-Err.ensures.refused
 
 pub returns-in-Err-clause-opened : goal.returns-in-Err-clause-opened
 returns-in-Err-clause-opened g c = file_stops c.args.file.now [] _ _ _ _ _ c.in-Err.ensures.stops
 
 pub returns-in-Ok-clause-answer : goal.returns-in-Ok-clause-answer
 returns-in-Ok-clause-answer g c =
-    lists_answered (g.F.Files.view c.args.files.now).told (record { file = c.args.file.now; wanted = c.args.wanted; mode = c.args.mode; search = c.args.search; reach = c.args.reach }) c.in-Ok.task _ _ _ c.in-Ok.ensures.task
+    lists_answered _ (g.F.Files.view c.args.files.now).told (record { file = c.args.file.now; wanted = c.args.wanted; mode = c.args.mode; search = c.args.search; reach = c.args.reach }) c.in-Ok.task _ _ _ c.in-Ok.ensures.task
     (puts_after (OrReached c.in-Ok.task c.args.mode c.args.wanted c.args.reach) (g.K.Sink.view c.args.sink.now) (g.K.Sink.view c.task_of.new.sink) (g.K.Sink.view c.list_reached.new.sink) _ c.in-Ok.ensures.untouched c.list_reached.ensures.lists)
 
 pub returns-in-Ok-clause-opened : goal.returns-in-Ok-clause-opened

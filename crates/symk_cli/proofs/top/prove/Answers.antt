@@ -7,14 +7,14 @@ use Rattle.symk_cli.proofs.Opening.{file_opened, file_stops, sink_readable}
 use Rattle.symk_cli.proofs.top.prove.Goals as goal
 
 pub returns-in-Err-clause-answer : goal.returns-in-Err-clause-answer
-returns-in-Err-clause-answer g c = proves_refused (g.F.Files.view c.args.files.now).told c.args.file.now _ _ _ c.in-Err.ensures.refused
+returns-in-Err-clause-answer g c = proves_refused _ (g.F.Files.view c.args.files.now).told c.args.file.now _ _ _ c.in-Err.ensures.refused
 
 pub returns-in-Err-clause-opened : goal.returns-in-Err-clause-opened
 returns-in-Err-clause-opened g c = file_stops c.args.file.now [] _ _ _ _ _ c.in-Err.ensures.stops
 
 pub returns-in-Ok-clause-answer : goal.returns-in-Ok-clause-answer
 returns-in-Ok-clause-answer g c =
-    proves_answered (g.F.Files.view c.args.files.now).told c.args.file.now c.in-Ok.task _ _ _ c.in-Ok.ensures.task
+    proves_answered _ (g.F.Files.view c.args.files.now).told c.args.file.now c.in-Ok.task _ _ _ c.in-Ok.ensures.task
     (puts_after (OrFront (Proves c.in-Ok.task)) (g.K.Sink.view c.args.sink.now) (g.K.Sink.view c.task_of.new.sink) (g.K.Sink.view c.prove.new.sink) _ c.in-Ok.ensures.untouched c.prove.ensures.answer)
 
 pub returns-in-Ok-clause-opened : goal.returns-in-Ok-clause-opened

@@ -2,6 +2,7 @@
 
 ghost use Rattle.std.specs.Prelude.{◌≡◌, ◌≢◌, ◌≤◌, [], ◌∷◌, Some, None, IfOk, IsErrOf, map, string_bytes};
 ghost use Rattle.symk_io.specs.Causes.{Rose};
+ghost use Rattle.symk_io.specs.NoFault.{files_view, sink_view};
 ghost use Rattle.run_status.specs.Ends.{HasCauses};
 ghost use Rattle.plan_run.specs.Reaches.{IsNear};
 ghost use Rattle.symk_cli.specs.Wishes.{wish_of, files_of, lists, continues, checks, proves, refutes};
@@ -67,13 +68,26 @@ pub fn run<F: Files, K: Sink>(
     answer(alloc, words, files, sink)
 }
 
-/// Where nothing can fail, no fault is answered.
+/// Answers the words over files and a sink in memory that can't fail: as `run` does, and no fault is answered.
 pub fn run_in_memory(
     alloc: Global,
     words: &[String],
     files: &mut NoFaultFiles,
     sink: &mut NoFaultSink,
 ) -> Status
+    ensures answer { Answered (Rose (files_view files.old).faults (files_view files.new).faults)
+        (wish_of (map (λ w. string_bytes w) words.now)) (files_view files.old).told
+        (sink_view sink.old) (sink_view sink.new) result }
+    ensures opened { Opens (files_of (wish_of (map (λ w. string_bytes w) words.now))) (files_view files.old).told
+        (files_view files.new).told (sink_view sink.old).taken (sink_view sink.new).taken result }
+    ensures lawful { AreLawful (map (λ w. string_bytes w) words.now) → result ≢ Status.Usage }
+    ensures lengths { Lengths (wish_of (map (λ w. string_bytes w) words.now)) (files_view files.old).told result }
+    ensures proved { result ≡ Status.Proved → IsSettled (wish_of (map (λ w. string_bytes w) words.now))
+        (files_view files.old).told }
+    ensures refuted { result ≡ Status.Refuted → IsSettled (wish_of (map (λ w. string_bytes w) words.now))
+        (files_view files.old).told }
+    ensures complete { Complete (wish_of (map (λ w. string_bytes w) words.now)) (files_view files.old)
+        (files_view files.new) (sink_view sink.old) (sink_view sink.new) result }
     ensures unreadable { result ≢ Status.Unreadable }
     ensures write { result ≢ Status.WriteFault }
 {

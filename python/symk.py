@@ -74,11 +74,25 @@ class Refused(Exception):
 
 
 class Broken(Exception):
-    """What came is no list of plans, or the program ended as it never should: by a signal, by an unknown status, in mid-block."""
+    """What came is no list of plans, or the program ended as it never should: by a signal, by an unknown status, in mid-block.
+
+    >>> try:
+    ...     list(plans("examples/blocks.sas", 3, program=["false"]))
+    ... except Broken as why:
+    ...     print(why)
+    the program ended with status 1
+    """
 
 
 class Stopped(Exception):
-    """A check or a proof came to no answer: it timed out, or was out of memory, as the words of the exception say."""
+    """A check or a proof came to no answer: it timed out, or was out of memory, as the words of the exception say.
+
+    >>> try:
+    ...     check("examples/blocks.sas", [], program=["sh", "-c", "sleep 60"], seconds=0.1)
+    ... except Stopped as why:
+    ...     print(why)
+    timed out
+    """
 
 
 class End(NamedTuple):
@@ -761,11 +775,21 @@ def read_task(text: str) -> Task:
 
 
 def holds(facts: List[Tuple[int, int]], values: Sequence[int]) -> bool:
+    """Whether each fact, a variable and a value, is one of these values.
+
+    >>> holds([(0, 1)], [1, 0]), holds([(0, 1), (1, 1)], [1, 0])
+    (True, False)
+    """
     return all(values[variable] == value for variable, value in facts)
 
 
 def closed(task: Task, state: Sequence[int]) -> List[int]:
-    """All values in a state: derived variables layer by layer, each layer until no rule of it derives more."""
+    """All values in a state: derived variables layer by layer, each layer until no rule of it derives more.
+
+    >>> task = read_task(text_of("examples/axiom.sas"))
+    >>> closed(task, (0, 0)), closed(task, (1, 0))
+    ([0, 0], [1, 1])
+    """
     values = [value if layer == -1 else first for value, first, layer in zip(state, task.initial, task.layers)]
     for layer in sorted({task.layers[rule.variable] for rule in task.rules}):
         rules, grows = [rule for rule in task.rules if task.layers[rule.variable] == layer], True
@@ -778,7 +802,12 @@ def closed(task: Task, state: Sequence[int]) -> List[int]:
 
 
 def successor(operator: Operator, state: Sequence[int], values: Sequence[int]) -> Tuple[int, ...]:
-    """The state after the operator. Effects fire by the old values, and the later of two on one variable stands."""
+    """The state after the operator. Effects fire by the old values, and the later of two on one variable stands.
+
+    >>> task = read_task(text_of("examples/one-switch.sas"))
+    >>> successor(task.operators[0], task.initial, closed(task, task.initial))
+    (1,)
+    """
     following = list(state)
     for conditions, variable, value in operator.effects:
         if holds(conditions, values):
@@ -797,6 +826,10 @@ class PlanFiles:
     run from the initial state to the goal. Where this leaves more than one way, the first one is taken, by the operators' numbers; of
     files with the same lines each takes the next way. Where no way leads to the goal, the first operator that applies is taken, or else
     the first of the name: a check then says what fails. `say` is told of both. Letters may be large or small.
+
+    >>> files = PlanFiles(read_task(text_of("examples/two-switches.sas")))
+    >>> files.plan(steps_of("(B-ON)\\n(a-on) ; a comment\\n"))
+    Plan((1, 0), ('b-on', 'a-on'), 2, number=1)
     """
 
     def __init__(self, task: Task):
@@ -883,11 +916,20 @@ def way(state: Any, layers: List[Dict[Any, List[Any]]], counts: List[Dict[Any, i
 
 
 def folded(name: str) -> str:
+    """A name in small letters, with one space between its words.
+
+    >>> folded(" Unstack  B3 b2")
+    'unstack b3 b2'
+    """
     return " ".join(name.lower().split())
 
 
 def steps_of(text: str) -> Iterator[Tuple[int, str]]:
-    """The names of a plan file's steps, each with its line's number."""
+    """The names of a plan file's steps, each with its line's number; `Unlisted` where a line is no step.
+
+    >>> list(steps_of("; a comment\\n(switch-on)\\n"))
+    [(2, 'switch-on')]
+    """
     for number, line in enumerate(text.split("\n"), 1):
         line = line.split(";")[0].strip()
         if line and not (line.startswith("(") and line.endswith(")")):
@@ -1181,6 +1223,7 @@ class _Record:
 
 
 def main(words: List[str]) -> int:
+    """The command line: its words after the program's name; the status that it ends with."""
     for number in (signal.SIGTERM, signal.SIGHUP):
         if signal.getsignal(number) == signal.SIG_DFL:
             signal.signal(number, lambda number, _: sys.exit(128 + number))

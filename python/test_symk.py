@@ -30,6 +30,9 @@ NAMED = os.environ.get("SYMK_PROGRAM") or str(TOP / ".symk" / "symk")
 PROGRAM = os.path.abspath(NAMED) if os.path.isfile(NAMED) else None
 if PROGRAM:
     os.environ["SYMK_PROGRAM"] = PROGRAM
+# What rt try compiled is some tens of times slower, and doesn't run within a limit of memory; it gets fewer drawn tasks.
+WITHIN = ["sh", "-c", 'ulimit -v 1000000; exec "$0" demo 1', PROGRAM or "false"]
+DRAWN = 200 if subprocess.run(WITHIN, stdout=subprocess.DEVNULL, stderr=subprocess.DEVNULL).returncode == 0 else 20
 needs_program = unittest.skipUnless(PROGRAM, "no built program: neither SYMK_PROGRAM nor .symk/symk")
 ONE = "; plan 1\n; ops 0\n(switch-on)\n; cost = 1 (unit cost)\n"
 TWO = "; plan 2\n; ops 0 1 0\n(switch-on)\n(switch-off)\n(switch-on)\n; cost = 3 (unit cost)\n"
@@ -132,7 +135,7 @@ class Hostile(Case):
 
     def test_it_hangs(self):
         for text, plans, then in (("", 0, "sleep 60"), (ONE, 1, "sleep 60"), (ONE + TWO[:20], 1, "sleep 60"), (ONE, 1, "exec >&-; sleep 60")):
-            found, start = symk.plans("task.sas", 3, program=self.program(text, 0, then), seconds=0.3), time.monotonic()
+            found, start = symk.plans("task.sas", 3, program=self.program(text, 0, then), seconds=1.5), time.monotonic()
             self.assertEqual((len(list(found)), found.end), (plans, symk.End("timed out", plans)))
             self.assertLess(time.monotonic() - start, 10)
             self.assertTrue(self.is_gone())
@@ -176,8 +179,8 @@ class Hostile(Case):
             symk.refute("task.sas", "cert.txt", program=self.program("", 40))
 
     def test_limits_and_words(self):
-        told = "; plan 1\n; ops\n; cost = '$(ulimit -v)' (unit cost)\n; reached 1\n"
-        path = self.program("", 0, "echo '%s'; echo \"$@\" >%s/words; exit 0" % (told.rstrip("\n"), self.folder))
+        told = "; plan 1\n; ops\n; cost = '$(ulimit -v)' (unit cost)\n; reached 1"
+        path = self.program("", 0, "echo \"$@\" >%s/words; echo '%s'" % (self.folder, told))
         plan = next(symk.plans("-task.sas", 7, mode="topk", search="forward", more=True, bound=9, after="earlier", mutex=True,
                                megabytes=100, program=path))
         self.assertEqual(plan.cost, 100_000_000 // 1024)
@@ -248,7 +251,7 @@ class Hostile(Case):
         self.assertEqual(json.loads(out), {"plans": [], "end": "exhausted 0", "unsolvable": True, "timeout_triggered": False})
         self.assertEqual(self.command("t", "--k", 2, program=self.program("line 2: wanted 3\n", 20))[::2],
                          (20, "symk.py: the program refused it: line 2: wanted 3\n"))
-        self.assertEqual(self.command("t", "--k", 2, "--seconds", 0.3, program=self.program(ONE, 0, "sleep 60")),
+        self.assertEqual(self.command("t", "--k", 2, "--seconds", 1.5, program=self.program(ONE, 0, "sleep 60")),
                          (124, ONE, "symk.py: timed out\n"))
         self.assertEqual(self.command("t", "--k", 2, program=self.program(ONE + TWO[:9], 3))[:2], (70, ONE))
 
@@ -285,7 +288,7 @@ class Hostile(Case):
         said = os.read(ours, 100_000).decode()
         os.close(ours)
         self.assertEqual(done.stdout.decode(), ONE + TWO + "; reached 2\n")
-        self.assertIn("2 plans, the last costs 3, 0 s", said)
+        self.assertRegex(said, r"2 plans, the last costs 3, \d+ s")
         self.assertTrue(said.endswith("\r\x1b[K"))
 
 
@@ -583,7 +586,7 @@ class Audit(Case):
 
     def test_drawn_tasks(self):
         tried, draw = {"right": 0, "left out": 0, "left out at the end": 0, "exchanged": 0, "doubled": 0, "spoilt": 0}, random.Random(0)
-        for seed, text, task, mode, found, following in drawn_lists(200):
+        for seed, text, task, mode, found, following in drawn_lists(DRAWN):
             path, plans = self.write("task.sas", text), as_plans(task, found)
             costs = [cost for cost, _ in found]
             self.assertEqual(self.said(path, plans, mode), self.after(found, following), (seed, mode))
@@ -618,8 +621,9 @@ class Audit(Case):
                 verdict = next(symk.audit(path, spoilt, mode=mode))
                 self.assertEqual((verdict.good, verdict.plan), (False, place + 1), (seed, mode, place))
                 tried["spoilt"] += 1
-        self.assertEqual(tried["right"], 200)
-        self.assertGreater(min(tried.values()), 20, tried)
+        self.assertEqual(tried["right"], DRAWN)
+        self.assertGreater(min(tried.values()), DRAWN // 10, tried)
+        print("audited lists of drawn tasks: %s%s" % (tried, "" if DRAWN == 200 else " (fewer than 200: the program isn't optimised)"))
 
     def test_files_of_other_planners(self):
         task = EXAMPLES / "blocks.sas"

@@ -21,10 +21,9 @@ TOP = Path(__file__).resolve().parent.parent
 ROOM = 2_500_000
 SECONDS = 300
 # Tests that would take too long without optimisation: of a crate the file, what is looked for in it, what stands there instead, and what is said.
-LONG = "reads_a_text_of_the_greatest_length|refuses_long_texts|refuses_a_long_certificate"
 SHORTER = {
     "list_agreement": ("src/tests.rt", r"(?m)^(const SEEDS: u64 = )300;$", r"\g<1>20;", "with 20 of its 300 seeds"),
-    "symk_cli": ("src/tests/large.rt", r"#\[test\]\n(?=fn (?:%s)\()" % LONG, "", "without its three tests of texts of 268,435,456 bytes"),
+    "symk_cli": ("src/tests/large.rt", r"#\[test\]\n(?=fn refuses_long_texts\()", "", "without its test of texts of 268,435,456 bytes"),
 }
 RESULT = re.compile(r"test result: \w+\. (\d+) passed; (\d+) failed")
 

@@ -8,7 +8,7 @@ use Rattle.space_api.proofs.Trading.{trades_stays}
 use Rattle.cost_layers.specs.declared.layers.Layers.{Layers}
 use Rattle.entry_laws.specs.Entries.{Plain, Stands}
 use Rattle.entry_turns.specs.Entries.{operators_in, plain, plains, EntryOk, HasSet, SetIn, AreDistinct, Makes, member_in}
-use Rattle.entry_turns.specs.Turned.{GoesOrGives, given, Follows, IsQueue, Turns, GivesBack, Replaces}
+use Rattle.entry_turns.specs.Turned.{GoesOrGives, given, Follows, IsQueue, Turns, IsLast, Takes, GivesBack, Replaces}
 use Rattle.entry_turns.specs.declared.entries.Entry.{Entry}
 use Rattle.entry_turns.proofs.Kept.{plains_append, plains_same}
 use Rattle.entry_turns.proofs.Sets.{all_kept, in_valid, in_append, put_trades, put_distinct, put_ok, distinct_split}
@@ -46,6 +46,27 @@ middle_out [] e es zero h = refl
 middle_out [] e es (suc i) h = absurd (omega (arith, h))
 middle_out (x ∷ others) e es zero h = absurd (omega (arith, h, length-append others (e ∷ [])))
 middle_out (x ∷ others) e es (suc i) h = ap (λ q. x ∷ q) (middle_out others e es i (omega (arith, h)))
+
+-- the entry at the last place
+pub last_is : {Set : Type 0} (old : List (Entry Set)) (entry : Entry Set) (i : ℕ) → 0 < length old → i + 1 ≡ length old → entry ≡ get_or old i entry → IsLast old entry
+last_is old entry i some at is =
+    let s = last_split old some in
+    let same : entry ≡ s.1 = is ∙ ap (λ (xs : List _). get_or xs i entry) s.2 ∙ last_at s.0 s.1 entry i (at ∙ ap length s.2) in
+    (s.0, s.2 ∙ ap (λ (x : Entry _). s.0 ++ x ∷ []) (sym same))
+
+-- the entry is taken out of the middle
+pub takes_last : {Set : Type 0} (old es now : List (Entry Set)) (entry : Entry Set) (i : ℕ) → 0 < length old → i + 1 ≡ length old → entry ≡ get_or (old ++ es) i entry → now ≡ remove (old ++ es) i → Takes old now es entry
+takes_last old es now entry i some at is out =
+    let s = last_split old some in
+    let here : i + 1 ≡ length (s.0 ++ s.1 ∷ []) = at ∙ ap length s.2 in
+    let same : entry ≡ s.1 = is ∙ ap (λ (xs : List _). get_or (xs ++ es) i entry) s.2 ∙ middle_at s.0 s.1 entry es i here in
+    (s.0, s.2 ∙ ap (λ (x : Entry _). s.0 ++ x ∷ []) (sym same), out ∙ ap (λ (xs : List _). remove (xs ++ es) i) s.2 ∙ middle_out s.0 s.1 es i here)
+
+-- a list has one last entry
+same_last : {Set : Type 0} (old others : List (Entry Set)) (x e : Entry Set) → IsLast old x → old ≡ others ++ e ∷ [] → x ≡ e
+same_last old others x e l is =
+    let lt : length l.0 + 1 ≡ length (l.0 ++ x ∷ []) = omega (arith, length-append l.0 (x ∷ [])) in
+    sym (last_at l.0 x x (length l.0) lt) ∙ ap (λ (xs : List _). get_or xs (length l.0) x) (sym l.1 ∙ is) ∙ last_at others e x (length l.0) (lt ∙ ap length (sym l.1 ∙ is))
 
 module _ {Set : Type 0} (u v w : View Set) (old new es : List (Entry Set)) (done : Bool) (o : Option (List ℕ)) (q : IsQueue u old) (m : Makes u v es) (r : Replaces v w old new es done o) where
   abbrev others : List (Entry Set)
@@ -106,32 +127,24 @@ module _ {Set : Type 0} {X : Type 0} {E : Type 0} (items : X → List ℕ) (u v 
   turn_owns (Ok (Some p)) h back same = (replaced_queue u v w old new es done (Some (items p)) q m h, replaced_trades u v w old new es done (Some (items p)) q m h)
   turn_owns (Err x) h back same = rw same (queue_stays u w old (back u m) q, trades_none u w old (back u m) q)
 
-  pub turn_tells : (front back : Layers Set) (x : Entry Set) (i : ℕ) (r : Result (Option X) E) → i + 1 ≡ length old → x ≡ get_or old i x → Follows u v front back x es done → Told r → IfOk r (λ o. MatchOption o (Turns u w front back old new None) (λ p. Turns u w front back old new (Some (items p))))
-  turn_tells front back x i (Ok None) lt is fol h =
-      replaced_turns u v w old new es done None q m h front back x (is ∙ ap (λ (xs : List (Entry Set)). get_or xs i x) h.2 ∙ last_at h.0 h.1 x i (lt ∙ ap length h.2)) fol
-  turn_tells front back x i (Ok (Some p)) lt is fol h =
-      replaced_turns u v w old new es done (Some (items p)) q m h front back x (is ∙ ap (λ (xs : List (Entry Set)). get_or xs i x) h.2 ∙ last_at h.0 h.1 x i (lt ∙ ap length h.2)) fol
-  turn_tells front back x i (Err y) lt is fol h = tt
+  pub turn_tells : (front back : Layers Set) (x : Entry Set) (r : Result (Option X) E) → IsLast old x → Follows u v front back x es done → Told r → IfOk r (λ o. MatchOption o (Turns u w front back old new None) (λ p. Turns u w front back old new (Some (items p))))
+  turn_tells front back x (Ok None) last fol h = replaced_turns u v w old new es done None q m h front back x (same_last old h.0 x h.1 last h.2) fol
+  turn_tells front back x (Ok (Some p)) last fol h = replaced_turns u v w old new es done (Some (items p)) q m h front back x (same_last old h.0 x h.1 last h.2) fol
+  turn_tells front back x (Err y) last fol h = tt
 
   pub turn_stays : (r : Result (Option X) E) → OnErr r ((x : View Set) → Makes x v es → Stays x w) → OnErr r (Stays u w)
   turn_stays (Ok o) back = tt
   turn_stays (Err x) back = back u m
 
 -- the set of the entry that is taken is valid
-pub taken_valid : {Set : Type 0} (u v : View Set) (old es : List (Entry Set)) (entry : Entry Set) (i : ℕ) → 0 < length old → i + 1 ≡ length old → entry ≡ get_or (old ++ es) i entry → IsQueue u old → Makes u v es → (a : Set) → HasSet entry a → Valid v a
-taken_valid u v old es entry i some at is q m a has =
-    let s = last_split old some in
-    let same : entry ≡ s.1 = is ∙ ap (λ (xs : List _). get_or (xs ++ es) i entry) s.2 ∙ middle_at s.0 s.1 entry es i (at ∙ ap length s.2) in
-    let last : SetIn (s.0 ++ s.1 ∷ []) a = (in_append s.0 (s.1 ∷ []) a).1 (inr (inl (subst (λ (x : Entry _). HasSet x a) same has))) in
-    m.kept.valid a (in_valid u old a q.each (subst (λ (xs : List _). SetIn xs a) (sym s.2) last))
+pub taken_valid : {Set : Type 0} (u v : View Set) (old now es : List (Entry Set)) (entry : Entry Set) → Takes old now es entry → IsQueue u old → Makes u v es → (a : Set) → HasSet entry a → Valid v a
+taken_valid u v old now es entry t q m a has =
+    let last : SetIn (t.0 ++ entry ∷ []) a = (in_append t.0 (entry ∷ []) a).1 (inr (inl has)) in
+    m.kept.valid a (in_valid u old a q.each (subst (λ (xs : List _). SetIn xs a) (sym t.1) last))
 
--- the entry is taken out of the middle
-pub taken_out : {Set : Type 0} (v w : View Set) (old es now : List (Entry Set)) (entry : Entry Set) (i : ℕ) (done : Bool) → 0 < length old → i + 1 ≡ length old → entry ≡ get_or (old ++ es) i entry → now ≡ remove (old ++ es) i → GivesBack v w entry → Replaces v w old now es done (given done entry)
-taken_out v w old es now entry i done some at is out f =
-    let s = last_split old some in
-    let here : i + 1 ≡ length (s.0 ++ s.1 ∷ []) = at ∙ ap length s.2 in
-    let same : entry ≡ s.1 = is ∙ ap (λ (xs : List _). get_or (xs ++ es) i entry) s.2 ∙ middle_at s.0 s.1 entry es i here in
-    (s.0, s.1, s.2, out ∙ ap (λ (xs : List _). remove (xs ++ es) i) s.2 ∙ middle_out s.0 s.1 es i here, subst (λ (x : Entry _). GivesBack v w x) same f, ap (λ (x : Entry _). given done x) same)
+-- the entry is taken, and its set given back
+pub taken_out : {Set : Type 0} (v w : View Set) (old now es : List (Entry Set)) (entry : Entry Set) (done : Bool) → Takes old now es entry → GivesBack v w entry → Replaces v w old now es done (given done entry)
+taken_out v w old now es entry done t f = (t.0, entry, t.1, t.2, f, refl)
 
 -- a plan is handed out where the entry is done
 pub told : {Set : Type 0} {X : Type 0} (items : X → List ℕ) (v w : View Set) (old now es : List (Entry Set)) (done : Bool) (entry : Entry Set) (ops : List ℕ) (r : Option X) → ops ≡ operators_in entry → MatchOption r (IsFalse done) (λ p. IsTrue done × (items p ≡ ops)) → Replaces v w old now es done (given done entry) → MatchOption r (Replaces v w old now es done None) (λ p. Replaces v w old now es done (Some (items p)))

@@ -67,6 +67,14 @@ abbrev pub Turns : {Set : Type 0} → View Set → View Set → Layers Set → L
 Turns v w front back old new o = (f b listed : ℕ) → RightSides v.system v front back f b → AllByRecursion (Stands v.system f b listed) (plains v old)
     → GoesOrGives v.system (member_in v front) (member_in v back) (plains v old) (plains w new) o
 
+-- the queue has this entry last
+abbrev pub IsLast : {Set : Type 0} → List (Entry Set) → Entry Set → Type 0
+IsLast {Set} es e = (others : List (Entry Set)) × (es ≡ others ++ e ∷ [])
+
+-- the last entry e was taken out of the queue, and the others of the list stand in its place
+abbrev pub Takes : {Set : Type 0} → List (Entry Set) → List (Entry Set) → List (Entry Set) → Entry Set → Type 0
+Takes {Set} old new es e = (others : List (Entry Set)) × (old ≡ others ++ e ∷ []) × (new ≡ others ++ es)
+
 -- the set of the entry, where it has one, is given back
 abbrev pub GivesBack : {Set : Type 0} → View Set → View Set → Entry Set → Type 0
 GivesBack v w e = Trades v w (HasSet e) (λ a. ⊥)

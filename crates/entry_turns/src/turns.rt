@@ -9,7 +9,7 @@ pub(crate) struct Next<T> {
     pub(crate) done: bool,
 }
 
-ghost use Rattle.std.specs.Prelude.{◌≡◌, ◌<◌, ◌≤◌, ◌↔◌, ◌⊎◌, ◌++◌, ◌∷◌, [], ℕ, List, IsTrue, IsFalse, IfOk, OnOk, OnErr, MatchOption, None, Some, length};
+ghost use Rattle.std.specs.Prelude.{◌≡◌, ◌+◌, ◌<◌, ◌≤◌, ◌↔◌, ◌⊎◌, ◌++◌, ◌∷◌, [], ℕ, List, IsTrue, IsFalse, IfOk, OnOk, OnErr, MatchOption, None, Some, length};
 ghost use Rattle.std.specs.List.{AllByRecursion};
 ghost use Rattle.task_system.specs.System.{State, Runs};
 ghost use Rattle.space_api.specs.View.{View, Valid, Has};
@@ -24,11 +24,14 @@ ghost use Rattle.entry_turns.specs.Turned.{IsDone, Starts, Begun, BeginsToo, beg
 use crate::entries::{Prefix, Suffix, give_back, give_back_entries, into_operators};
 use crate::expand::expand;
 use crate::expansions::Expansions;
+use crate::queue::Queue;
 use crate::states::{is_goal, reached, values_of};
 use crate::ways::first_ring;
 use cost_layers::Layers;
+use lazy_plans::Steps;
 use space_api::{Space, SpaceFault};
 use std::alloc::{AllocError, Global};
+use std::sync::ledger::Ledger;
 
 /// Nothing is left to place, and the state is a goal: as is remembered, or by the state's values.
 fn ends<S: Space>(
@@ -182,27 +185,28 @@ fn plan_of(done: bool, operators: Vec<u32>) -> Option<Vec<u32>>
     if done { Some(operators) } else { None }
 }
 
-/// Puts what follows in the place of the last entry, and gives its set back. Want of memory leaves the queue as it
-/// was, and gives back what was made.
-fn replace_last<S: Space>(
+/// Takes the last entry, puts what follows in its place, and gives its set back. Want of memory takes nothing, and
+/// gives back what was made.
+fn replace_last<S: Space, L: Ledger>(
     space: &mut S,
-    queue: &mut Vec<Entry<S::Set>>,
+    queue: &mut Queue<S::Set>,
     next: Next<S::Set>,
+    steps: &mut Steps<L>,
 ) -> Result<Option<Vec<u32>>, SpaceFault>
-    requires made { (u : View S.Set) × Makes u (S.view space.old) next.entries.items × IsQueue u queue.old.items }
-    requires some { 0 < length queue.old.items }
+    requires made { (u : View S.Set) × Makes u (S.view space.old) next.entries.items × IsQueue u queue.old }
+    requires some { 0 < length queue.old }
     ensures ok { IfOk result (λ o. MatchOption o (Replaces (S.view space.old) (S.view space.new)
-        queue.old.items queue.new.items next.entries.items next.done None) (λ p. Replaces (S.view space.old)
-        (S.view space.new) queue.old.items queue.new.items next.entries.items next.done (Some p.items))) }
+        queue.old queue.new next.entries.items next.done None) (λ p. Replaces (S.view space.old)
+        (S.view space.new) queue.old queue.new next.entries.items next.done (Some p.items))) }
     ensures back { OnErr result ((u : View S.Set) → Makes u (S.view space.old) next.entries.items
         → Stays u (S.view space.new)) }
-    ensures err { OnErr result (queue.new.items ≡ queue.old.items) }
+    ensures err { OnErr result (queue.new ≡ queue.old) }
+    ensures counted { OnOk result (steps.new ≡ steps.old + 1) }
+    ensures uncounted { OnErr result (steps.new ≡ steps.old) }
 {
     let Next { mut entries, done } = next;
-    let last = queue.len() - 1;
-    match queue.append(&mut entries) {
-        Ok(()) => {
-            let entry = queue.remove(last);
+    match queue.take(&mut entries, steps) {
+        Ok(entry) => {
             give_back(space, &entry);
             let operators = into_operators(entry);
             Ok(plan_of(done, operators))
@@ -216,30 +220,33 @@ fn replace_last<S: Space>(
 
 /// One turn: takes the last entry, and puts what follows it in its place. Gives its operators where they are a plan.
 ///
-/// The set of the entry is given back. Want of memory leaves the queue and all sets as they were.
-pub fn turn<S: Space>(
+/// The set of the entry is given back, and `steps` has one more. Want of memory leaves the queue, all sets and the
+/// count as they were.
+pub fn turn<S: Space, L: Ledger>(
     alloc: Global,
     space: &mut S,
     front: &Layers<S::Set>,
     back: &Layers<S::Set>,
-    queue: &mut Vec<Entry<S::Set>>,
+    queue: &mut Queue<S::Set>,
     memo: &mut Expansions,
+    steps: &mut Steps<L>,
 ) -> Result<Option<Vec<u32>>, SpaceFault>
     requires front { Held (S.view space.old) front.now }
     requires back { Held (S.view space.old) back.now }
-    requires queue { IsQueue (S.view space.old) queue.old.items }
-    requires some { 0 < length queue.old.items }
+    requires queue { IsQueue (S.view space.old) queue.old }
+    requires some { 0 < length queue.old }
     requires memo { AreRight (S.view space.old) back.now memo.old }
-    ensures queue { IsQueue (S.view space.new) queue.new.items }
-    ensures trades { Trades (S.view space.old) (S.view space.new) (SetIn queue.old.items) (SetIn queue.new.items) }
+    ensures queue { IsQueue (S.view space.new) queue.new }
+    ensures trades { Trades (S.view space.old) (S.view space.new) (SetIn queue.old) (SetIn queue.new) }
     ensures ok { IfOk result (λ o. MatchOption o (Turns (S.view space.old) (S.view space.new) front.now
-        back.now queue.old.items queue.new.items None) (λ p. Turns (S.view space.old) (S.view space.new)
-        front.now back.now queue.old.items queue.new.items (Some p.items))) }
+        back.now queue.old queue.new None) (λ p. Turns (S.view space.old) (S.view space.new)
+        front.now back.now queue.old queue.new (Some p.items))) }
     ensures stays { OnErr result (Stays (S.view space.old) (S.view space.new)) }
-    ensures err { OnErr result (queue.new.items ≡ queue.old.items) }
+    ensures err { OnErr result (queue.new ≡ queue.old) }
     ensures memo { AreRight (S.view space.old) back.now memo.new }
+    ensures counted { OnOk result (steps.new ≡ steps.old + 1) }
+    ensures uncounted { OnErr result (steps.new ≡ steps.old) }
 {
-    let last = queue.len() - 1;
-    let next = follow(alloc, space, front, back, &queue[last], memo)?;
-    replace_last(space, queue, next)
+    let next = follow(alloc, space, front, back, queue.last(), memo)?;
+    replace_last(space, queue, next, steps)
 }

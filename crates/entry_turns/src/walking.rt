@@ -10,8 +10,8 @@ ghost use Rattle.entry_turns.specs.Expansions.{AreRight};
 ghost use Rattle.entry_turns.specs.Turned.{IsQueue};
 ghost use Rattle.entry_turns.specs.Walked.{AreApart, IsLawful, OwesOn, GaveFrom};
 
-use crate::entries::Entry;
 use crate::expansions::Expansions;
+use crate::queue::Queue;
 use crate::turns::turn;
 use cost_layers::Layers;
 use lazy_plans::Steps;
@@ -19,7 +19,7 @@ use space_api::{Space, SpaceFault};
 use std::alloc::Global;
 use std::sync::ledger::Ledger;
 
-/// Turns until a plan is given: at most as many as it has operators, and two.
+/// Turns until a plan is given: at least one, and at most as many as it has operators, and two.
 ///
 /// Want of memory leaves a queue that owes what it owed; no set is lost.
 pub fn walk<S: Space, L: Ledger>(
@@ -28,7 +28,7 @@ pub fn walk<S: Space, L: Ledger>(
     front: &Layers<S::Set>,
     back: &Layers<S::Set>,
     cost: u64,
-    queue: &mut Vec<Entry<S::Set>>,
+    queue: &mut Queue<S::Set>,
     memo: &mut Expansions,
     steps: &mut Steps<L>,
 ) -> Result<Vec<u32>, SpaceFault>
@@ -36,25 +36,24 @@ pub fn walk<S: Space, L: Ledger>(
     requires back { Held (S.view space.old) back.now }
     requires sides { RightSides (S.view space.old).system (S.view space.old) front.now back.now
         (known_of front.now) (known_of back.now) }
-    requires queue { IsQueue (S.view space.old) queue.old.items }
-    requires some { 0 < length queue.old.items }
-    requires front_apart { AreApart queue.old.items front.now }
-    requires back_apart { AreApart queue.old.items back.now }
+    requires queue { IsQueue (S.view space.old) queue.old }
+    requires some { 0 < length queue.old }
+    requires front_apart { AreApart queue.old front.now }
+    requires back_apart { AreApart queue.old back.now }
     requires memo { AreRight (S.view space.old) back.now memo.old }
     requires lawful { (undrawn : Cut → Bool) × IsLawful (S.view space.old) front.now back.now cost
-        queue.old.items undrawn }
-    ensures queue { IsQueue (S.view space.new) queue.new.items }
-    ensures trades { Trades (S.view space.old) (S.view space.new) (SetIn queue.old.items) (SetIn queue.new.items) }
+        queue.old undrawn }
+    ensures queue { IsQueue (S.view space.new) queue.new }
+    ensures trades { Trades (S.view space.old) (S.view space.new) (SetIn queue.old) (SetIn queue.new) }
     ensures memo { AreRight (S.view space.new) back.now memo.new }
     ensures gave { IfOk result (λ p. GaveFrom (S.view space.old) (S.view space.new) front.now back.now cost
-        queue.old.items queue.new.items p.items) }
-    ensures steps { IfOk result (λ p. steps.new ≤ steps.old + length p.items + 2) }
+        queue.old queue.new p.items) }
+    ensures steps { IfOk result (λ p. (steps.old < steps.new) × (steps.new ≤ steps.old + length p.items + 2)) }
     ensures owes { OnErr result (OwesOn (S.view space.old) (S.view space.new) front.now back.now cost
-        queue.old.items queue.new.items) }
+        queue.old queue.new) }
 {
     'turns: loop {
-        steps.tick();
-        match turn(alloc, space, front, back, queue, memo)? {
+        match turn(alloc, space, front, back, queue, memo, steps)? {
             Some(plan) => return Ok(plan),
             None => {}
         }

@@ -76,7 +76,7 @@ pending_fair most v back listed queue held ended range holds = record {
 
 -- the same of an engine
 pub engine_fair : {S P Set : Type 0} (view : S → View Set) (x : TopPlans S P Set) → IsEngine view x → Fair (system_of view x) TopK (most_of x) (Pends view x)
-engine_fair view x l = pending_fair x.most (view x.space) (back_layers x.both) x.listed x.queue.items x.held x.ended l.ready.range l.holds
+engine_fair view x l = pending_fair x.most (view x.space) (back_layers x.both) x.listed x.queue x.held x.ended l.ready.range l.holds
 
 pub engine_told : {S P Set : Type 0} (view : S → View Set) (x : TopPlans S P Set) (p : List ℕ) → Decides (tells view x p) (Pends view x p)
-engine_told view x p = pending_told (view x.space) (back_layers x.both) x.listed x.queue.items x.held p
+engine_told view x p = pending_told (view x.space) (back_layers x.both) x.listed x.queue x.held p

@@ -60,8 +60,8 @@ Fills y most Owing queue Ready = 0 < length queue
 Fills y most Owing queue Never = NoneLeft y most Owing
 Fills y most Owing queue Beyond = Stops y most Owing CostRange
 
--- at most two turns more than the plan has operators; none where no plan is left
+-- a turn, and at most two turns more than the plan has operators; none where no plan is left
 abbrev pub FewTurns : ℕ → ℕ → Result (Option (List ℕ)) Stop → Type 0
-FewTurns old new (Ok (Some p)) = new ≤ old + length p + 2
+FewTurns old new (Ok (Some p)) = (old < new) × (new ≤ old + length p + 2)
 FewTurns old new (Ok None) = new ≡ old
 FewTurns old new (Err stop) = Unit {0}

@@ -8,7 +8,7 @@ ghost use Rattle.reconstruct.specs.Engine.{IsReadyFor, IsNew};
 
 use crate::engine::TopPlans;
 use bidirectional::{Both, Choose};
-use entry_turns::Expansions;
+use entry_turns::{Expansions, Queue};
 use space_api::Space;
 use std::alloc::Global;
 use symk_task::Memory;
@@ -49,7 +49,7 @@ fn begin<S: Space + Drop, P: Choose + Drop>(
         most,
         within,
         listed: None,
-        queue: Vec::new(alloc),
+        queue: Queue::new(alloc),
         memo: Expansions::new(alloc),
         held: None,
         ended: None,

@@ -31,7 +31,7 @@ ghost use Rattle.reconstruct.specs.Listing.{IsSame, AreReadyAt, Lists, DrawsNext
 ghost use Rattle.reconstruct.specs.Going.{HasMore};
 
 use bidirectional::{Both, Choose};
-use entry_turns::{give_back, open_cut};
+use entry_turns::{Queue, give_back, open_cut};
 use space_api::{Space, SpaceFault};
 use std::alloc::{AllocError, Global};
 
@@ -98,14 +98,14 @@ fn next_entry<S: Space, P: Choose>(
 fn put<S: Space>(
     space: &mut S,
     place: &mut Place,
-    queue: &mut Vec<Entry<S::Set>>,
+    queue: &mut Queue<S::Set>,
     drawn: Drawn<S::Set>,
 ) -> Result<(), SpaceFault>
     requires set { (a : S.Set) → HasSet drawn.entry a → Valid (S.view space.old) a }
-    requires empty { queue.old.items ≡ [] }
-    ensures ok { OnOk result (PutsOne (S.view space.old) (S.view space.new) place.old place.new queue.new.items drawn) }
+    requires empty { queue.old ≡ [] }
+    ensures ok { OnOk result (PutsOne (S.view space.old) (S.view space.new) place.old place.new queue.new drawn) }
     ensures err { OnErr result (LeavesAll (S.view space.old) (S.view space.new) place.old place.new
-        queue.old.items queue.new.items drawn) }
+        queue.old queue.new drawn) }
 {
     let Drawn { cut, entry } = drawn;
     match queue.push(entry) {
@@ -127,16 +127,16 @@ pub(crate) fn draw<S: Space, P: Choose>(
     space: &mut S,
     both: &Both<S::Set, P>,
     place: &mut Place,
-    queue: &mut Vec<Entry<S::Set>>,
+    queue: &mut Queue<S::Set>,
 ) -> Result<(), SpaceFault>
     requires both { IsBoth (S.view space.old) both.now }
-    requires listing { Lists (S.view space.old) both.now place.old queue.old.items }
-    requires empty { queue.old.items ≡ [] }
+    requires listing { Lists (S.view space.old) both.now place.old queue.old }
+    requires empty { queue.old ≡ [] }
     requires left { IsTrue place.old.left }
-    ensures draws { Draws (S.view space.old) (S.view space.new) both.now place.old place.new queue.old.items
-        queue.new.items }
-    ensures err { OnErr result (queue.new.items ≡ queue.old.items) }
-    ensures ok { OnOk result (HasMore queue.new.items (Some place.new)) }
+    ensures draws { Draws (S.view space.old) (S.view space.new) both.now place.old place.new queue.old
+        queue.new }
+    ensures err { OnErr result (queue.new ≡ queue.old) }
+    ensures ok { OnOk result (HasMore queue.new (Some place.new)) }
 {
     match next_entry(alloc, space, both, place)? {
         None => {

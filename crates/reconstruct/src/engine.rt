@@ -2,7 +2,7 @@
 
 use crate::drawing::Place;
 use bidirectional::{Both, Choose};
-use entry_turns::{Entry, Expansions};
+use entry_turns::{Expansions, Queue};
 use lazy_plans::Stop;
 use space_api::Space;
 use std::alloc::Global;
@@ -18,7 +18,7 @@ pub struct TopPlans<S: Space, P: Choose> {
     /// The set to which the backward side was kept at first, where one was handed over.
     pub(crate) within: Option<S::Set>,
     pub(crate) listed: Option<Place>,
-    pub(crate) queue: Vec<Entry<S::Set>>,
+    pub(crate) queue: Queue<S::Set>,
     /// What leads on from states, of the cost that is listed.
     pub(crate) memo: Expansions,
     /// A plan that was found when the space could not be tidied.
@@ -96,8 +96,8 @@ impl<S: Space, P: Choose> LazyPlans for TopPlans<S, P> {
 
     ghost last = { λ x. ended_by x };
 
-    /// The next plan. One turn is one step: a plan takes at most as many turns as it has operators, and two; None
-    /// takes none. After each call every valid set is one that the engine keeps, and after a plan or None the space
+    /// The next plan. One turn is one step: a plan takes at most as many turns as it has operators, and two, and at
+    /// least one; None takes none. After each call every valid set is one that the engine keeps, and after a plan or None the space
     /// is tidy.
     fn next_plan<L: Ledger>(
         &mut self,

@@ -19,7 +19,7 @@ ghost use Rattle.reconstruct.specs.Going.{Rests, cost_at, GoesTo};
 
 use crate::drawing::{Place, draw};
 use bidirectional::{Both, Choose, Next, Within};
-use entry_turns::Entry;
+use entry_turns::Queue;
 use space_api::{Space, SpaceFault};
 use std::alloc::Global;
 use std::collections::VecDeque;
@@ -66,18 +66,18 @@ pub(crate) fn go_on<S: Space, P: Choose>(
     both: &mut Both<S::Set, P>,
     most: Option<u64>,
     listed: &mut Option<Place>,
-    queue: &mut Vec<Entry<S::Set>>,
+    queue: &mut Queue<S::Set>,
 ) -> Result<Filled, SpaceFault>
     requires both { IsBoth (S.view space.old) both.old }
     requires rests { Rests listed.old }
-    requires empty { queue.old.items ≡ [] }
+    requires empty { queue.old ≡ [] }
     ensures both { IsBoth (S.view space.new) both.new }
     ensures trades { Trades (S.view space.old) (S.view space.new) (IsOwnOf both.old) (λ a. IsOwnOf both.new a
-        ⊎ SetIn queue.new.items a) }
+        ⊎ SetIn queue.new a) }
     ensures ok { IfOk result (GoesTo (S.view space.old) (S.view space.new) both.new most listed.old listed.new
-        queue.new.items) }
+        queue.new) }
     ensures listed { OnErr result (listed.new ≡ listed.old) }
-    ensures queue { OnErr result (queue.new.items ≡ []) }
+    ensures queue { OnErr result (queue.new ≡ []) }
 {
     match next_cost(alloc, space, both, cost_of(listed), most)? {
         Next::Never => Ok(Filled::Never),

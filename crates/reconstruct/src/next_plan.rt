@@ -13,7 +13,7 @@ ghost use Rattle.reconstruct.specs.Working.{IsWorking, InRange, Owes, Moves, Tra
 use crate::drawing::{Place, draw};
 use crate::going::{Filled, go_on};
 use bidirectional::{Both, Choose};
-use entry_turns::{Entry, Expansions, walk};
+use entry_turns::{Expansions, Queue, walk};
 use lazy_plans::{Steps, Stop};
 use space_api::{Space, SpaceFault};
 use std::alloc::Global;
@@ -26,16 +26,16 @@ fn draw_next<S: Space, P: Choose>(
     space: &mut S,
     both: &Both<S::Set, P>,
     listed: &mut Option<Place>,
-    queue: &mut Vec<Entry<S::Set>>,
+    queue: &mut Queue<S::Set>,
 ) -> Result<(), SpaceFault>
-    requires working { IsWorking (S.view space.old) both.now listed.old queue.old.items }
-    requires empty { queue.old.items ≡ [] }
+    requires working { IsWorking (S.view space.old) both.now listed.old queue.old }
+    requires empty { queue.old ≡ [] }
     ensures both { IsBoth (S.view space.new) both.now }
     ensures moves { Moves (S.view space.old) (S.view space.new) both.now both.now listed.old listed.new
-        queue.old.items queue.new.items }
+        queue.old queue.new }
     ensures kept { Kept (S.view space.old) (S.view space.new) }
     ensures cost { cost_at listed.new ≡ cost_at listed.old }
-    ensures ok { OnOk result (HasMore queue.new.items listed.new) }
+    ensures ok { OnOk result (HasMore queue.new listed.new) }
 {
     match listed {
         None => Ok(()),
@@ -57,19 +57,19 @@ fn fill<S: Space, P: Choose>(
     both: &mut Both<S::Set, P>,
     most: Option<u64>,
     listed: &mut Option<Place>,
-    queue: &mut Vec<Entry<S::Set>>,
+    queue: &mut Queue<S::Set>,
     memo: &mut Expansions,
 ) -> Result<Filled, SpaceFault>
-    requires working { IsWorking (S.view space.old) both.old listed.old queue.old.items }
+    requires working { IsWorking (S.view space.old) both.old listed.old queue.old }
     requires range { InRange most listed.old }
     requires memo { AreRight (S.view space.old) (back_layers both.old) memo.old }
     ensures both { IsBoth (S.view space.new) both.new }
     ensures moves { Moves (S.view space.old) (S.view space.new) both.old both.new listed.old listed.new
-        queue.old.items queue.new.items }
+        queue.old queue.new }
     ensures range { InRange most listed.new }
     ensures memo { AreRight (S.view space.new) (back_layers both.new) memo.new }
     ensures ok { IfOk result (Fills (S.view space.old).system most
-        (Owes (S.view space.old) (back_layers both.old) listed.old queue.old.items) queue.new.items) }
+        (Owes (S.view space.old) (back_layers both.old) listed.old queue.old) queue.new) }
 {
     if !queue.is_empty() {
         return Ok(Filled::Ready);
@@ -89,20 +89,20 @@ fn walk_on<S: Space, P: Choose, L: Ledger>(
     both: &Both<S::Set, P>,
     most: Option<u64>,
     listed: &Option<Place>,
-    queue: &mut Vec<Entry<S::Set>>,
+    queue: &mut Queue<S::Set>,
     memo: &mut Expansions,
     steps: &mut Steps<L>,
 ) -> Result<Option<Plan>, Stop>
-    requires working { IsWorking (S.view space.old) both.now listed.now queue.old.items }
+    requires working { IsWorking (S.view space.old) both.now listed.now queue.old }
     requires range { InRange most listed.now }
-    requires some { 0 < length queue.old.items }
+    requires some { 0 < length queue.old }
     requires memo { AreRight (S.view space.old) (back_layers both.now) memo.old }
-    ensures working { IsWorking (S.view space.new) both.now listed.now queue.new.items }
+    ensures working { IsWorking (S.view space.new) both.now listed.now queue.new }
     ensures memo { AreRight (S.view space.new) (back_layers both.now) memo.new }
-    ensures trades { TradesAll (S.view space.old) (S.view space.new) both.now both.now queue.old.items queue.new.items }
+    ensures trades { TradesAll (S.view space.old) (S.view space.new) both.now both.now queue.old queue.new }
     ensures turned { Turned (S.view space.old).system TopK most
-        (Owes (S.view space.old) (back_layers both.now) listed.now queue.old.items)
-        (Owes (S.view space.new) (back_layers both.now) listed.now queue.new.items) result }
+        (Owes (S.view space.old) (back_layers both.now) listed.now queue.old)
+        (Owes (S.view space.new) (back_layers both.now) listed.now queue.new) result }
     ensures steps { FewTurns steps.old steps.new result }
 {
     match listed {
@@ -132,20 +132,20 @@ pub(crate) fn give<S: Space, P: Choose, L: Ledger>(
     both: &mut Both<S::Set, P>,
     most: Option<u64>,
     listed: &mut Option<Place>,
-    queue: &mut Vec<Entry<S::Set>>,
+    queue: &mut Queue<S::Set>,
     memo: &mut Expansions,
     steps: &mut Steps<L>,
 ) -> Result<Option<Plan>, Stop>
-    requires working { IsWorking (S.view space.old) both.old listed.old queue.old.items }
+    requires working { IsWorking (S.view space.old) both.old listed.old queue.old }
     requires range { InRange most listed.old }
     requires memo { AreRight (S.view space.old) (back_layers both.old) memo.old }
-    ensures working { IsWorking (S.view space.new) both.new listed.new queue.new.items }
+    ensures working { IsWorking (S.view space.new) both.new listed.new queue.new }
     ensures range { InRange most listed.new }
     ensures memo { AreRight (S.view space.new) (back_layers both.new) memo.new }
-    ensures trades { TradesAll (S.view space.old) (S.view space.new) both.old both.new queue.old.items queue.new.items }
+    ensures trades { TradesAll (S.view space.old) (S.view space.new) both.old both.new queue.old queue.new }
     ensures turned { Turned (S.view space.old).system TopK most
-        (Owes (S.view space.old) (back_layers both.old) listed.old queue.old.items)
-        (Owes (S.view space.new) (back_layers both.new) listed.new queue.new.items) result }
+        (Owes (S.view space.old) (back_layers both.old) listed.old queue.old)
+        (Owes (S.view space.new) (back_layers both.new) listed.new queue.new) result }
     ensures steps { FewTurns steps.old steps.new result }
 {
     match fill(alloc, space, both, most, listed, queue, memo) {

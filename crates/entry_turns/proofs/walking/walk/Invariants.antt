@@ -14,13 +14,14 @@ invariant-turns g l =
     let u = view l.fn.space in
     let v = view l.space in
     record {
-      trades : Trades u v (SetIn l.fn.queue.items) (SetIn l.queue.items);
-      queue : IsQueue v l.queue.items;
-      some : 0 < length l.queue.items;
-      walked : WalkedTo u l.front l.back l.cost l.fn.queue.items (plains v l.queue.items);
+      trades : Trades u v (SetIn l.fn.queue) (SetIn l.queue);
+      queue : IsQueue v l.queue;
+      some : 0 < length l.queue;
+      walked : WalkedTo u l.front l.back l.cost l.fn.queue (plains v l.queue);
       memo : AreRight u l.back l.memo;
-      steps : l.steps ≤ l.fn.steps + last_by weight (plains v l.queue.items);
+      from : l.fn.steps ≤ l.steps;
+      steps : l.steps ≤ l.fn.steps + last_by weight (plains v l.queue);
     }
 
 abbrev pub decreases-turns : goal.decreases-turns
-decreases-turns g l = last_by height (plains (g.S.Space.view l.space) l.queue.items)
+decreases-turns g l = last_by height (plains (g.S.Space.view l.space) l.queue)

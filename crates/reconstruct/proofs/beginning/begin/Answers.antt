@@ -12,9 +12,9 @@ returns g c =
     let both = c.in_ok-both.both in
     let t = c.in_ok-both.ensures.trades in
     record {
-      lawful = engine_begins c.args.most c.args.within u v both c.new.result.items c.new-2.result c.requires t c.in_ok-both.ensures.both c.new.ensures.items c.new-2.ensures;
+      lawful = engine_begins c.args.most c.args.within u v both c.new.result c.new-2.result c.requires t c.in_ok-both.ensures.both c.new.ensures c.new-2.ensures;
       system = t.system;
       most_is = refl;
-      all = pends_all u v (back_layers both) c.new.result.items t.system;
+      all = pends_all u v (back_layers both) c.new.result t.system;
       goes_on = refl;
     }

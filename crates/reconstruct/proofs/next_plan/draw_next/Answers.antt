@@ -10,7 +10,7 @@ returns-in-None-clause-moves g c =
     let v = g.S.Space.view c.args.space.now in
     let x = c.args.both.now in
     let z = c.requires.working in
-    moved_not v (IsOwnOf x) (IsBeneath x) (front_layers x) (back_layers x) c.args.listed.now c.args.queue.now.items (λ a u. valid_ends v x z.stands a (owned_ends x a u)) z.at
+    moved_not v (IsOwnOf x) (IsBeneath x) (front_layers x) (back_layers x) c.args.listed.now c.args.queue.now (λ a u. valid_ends v x z.stands a (owned_ends x a u)) z.at
 
 pub returns-then-place-clause-moves : goal.returns-then-place-clause-moves
 returns-then-place-clause-moves g c =
@@ -20,9 +20,9 @@ returns-then-place-clause-moves g c =
     let x = c.args.both.now in
     let z = c.requires.working in
     let place = c.in-Some.place in
-    let l = listing_of v (IsBeneath x) (front_layers x) (back_layers x) place c.args.queue.now.items c.if-place.true (rw c.in-Some.is at z.at) in
+    let l = listing_of v (IsBeneath x) (front_layers x) (back_layers x) place c.args.queue.now c.if-place.true (rw c.in-Some.is at z.at) in
     let d = c.draw.ensures.draws.1 in
-    rw c.in-Some.is (moved_drawn v w (IsOwnOf x) (IsBeneath x) (front_layers x) (back_layers x) place c.draw.new.place c.args.queue.now.items c.draw.new.queue.items (valid_ends v x z.stands) (owned_ends x) l d.listing d.trades d.owes)
+    rw c.in-Some.is (moved_drawn v w (IsOwnOf x) (IsBeneath x) (front_layers x) (back_layers x) place c.draw.new.place c.args.queue.now c.draw.new.queue (valid_ends v x z.stands) (owned_ends x) l d.listing d.trades d.owes)
 
 pub returns-else-place-clause-moves : goal.returns-else-place-clause-moves
 returns-else-place-clause-moves g c =
@@ -30,7 +30,7 @@ returns-else-place-clause-moves g c =
     let x = c.args.both.now in
     let z = c.requires.working in
     let at = rw c.in-Some.is at z.at in
-    rw c.in-Some.is (moved_not v (IsOwnOf x) (IsBeneath x) (front_layers x) (back_layers x) (Some c.in-Some.place) c.args.queue.now.items (λ a u. valid_ends v x z.stands a (owned_ends x a u)) at)
+    rw c.in-Some.is (moved_not v (IsOwnOf x) (IsBeneath x) (front_layers x) (back_layers x) (Some c.in-Some.place) c.args.queue.now (λ a u. valid_ends v x z.stands a (owned_ends x a u)) at)
 
 pub returns-in-None-clause-kept : goal.returns-in-None-clause-kept
 returns-in-None-clause-kept g c = kept_refl (g.S.Space.view c.args.space.now)

@@ -28,8 +28,8 @@ returns-in-Ok-Ready-clause-turned g c =
     let v1 = view c.fill.new.space in
     let w = view c.walk_on.new.space in
     let m = c.fill.ensures.moves in
-    let before = Owes v (back_layers c.args.both.now) c.args.listed.now c.args.queue.now.items in
-    let between = Owes v1 (back_layers c.fill.new.both) c.fill.new.listed c.fill.new.queue.items in
-    let after = Owes w (back_layers c.fill.new.both) c.fill.new.listed c.walk_on.new.queue.items in
+    let before = Owes v (back_layers c.args.both.now) c.args.listed.now c.args.queue.now in
+    let between = Owes v1 (back_layers c.fill.new.both) c.fill.new.listed c.fill.new.queue in
+    let after = Owes w (back_layers c.fill.new.both) c.fill.new.listed c.walk_on.new.queue in
     turned_from v.system TopK c.args.most before between after c.walk_on.result m.owes
     (subst (λ (y : System). Turned y TopK c.args.most between after c.walk_on.result) m.trades.system c.walk_on.ensures.turned)

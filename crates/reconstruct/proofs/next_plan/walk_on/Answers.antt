@@ -21,7 +21,7 @@ pub walk-requires-clause-back_apart : goal.walk-requires-clause-back_apart
 walk-requires-clause-back_apart g c =
     let v = g.S.Space.view c.args.space.now in
     let x = c.args.both.now in
-    let l = listing_some v (IsBeneath x) (front_layers x) (back_layers x) c.in-Some.place c.args.queue.now.items c.requires.some (rw c.in-Some.is at c.requires.working.at) in
+    let l = listing_some v (IsBeneath x) (front_layers x) (back_layers x) c.in-Some.place c.args.queue.now c.requires.some (rw c.in-Some.is at c.requires.working.at) in
     rw c.backward_layers.ensures.value (λ a s k. l.apart a s (keeps_ends x a (inr k)))
 
 pub returns-in-Ok-clause-working : goal.returns-in-Ok-clause-working
@@ -31,10 +31,10 @@ returns-in-Ok-clause-working g c =
     let w = view c.walk.new.space in
     let x = c.args.both.now in
     let place = c.in-Some.place in
-    let l = listing_some v (IsBeneath x) (front_layers x) (back_layers x) place c.args.queue.now.items c.requires.some (rw c.in-Some.is at c.requires.working.at) in
+    let l = listing_some v (IsBeneath x) (front_layers x) (back_layers x) place c.args.queue.now c.requires.some (rw c.in-Some.is at c.requires.working.at) in
     let range = rw c.in-Some.is at c.requires.range in
     let gave = rw (c.forward_layers.ensures.value, c.backward_layers.ensures.value) at c.in-Ok.ensures.gave in
-    rw c.in-Some.is (walked_working v w x place c.args.queue.now.items c.walk.new.queue.items c.requires.working.stands l c.walk.ensures.trades c.walk.ensures.queue (gave c.args.most range (undrawn place.left place.after) l.lawful).0)
+    rw c.in-Some.is (walked_working v w x place c.args.queue.now c.walk.new.queue c.requires.working.stands l c.walk.ensures.trades c.walk.ensures.queue (gave c.args.most range (undrawn place.left place.after) l.lawful).0)
 
 pub returns-in-Ok-clause-turned : goal.returns-in-Ok-clause-turned
 returns-in-Ok-clause-turned g c =
@@ -42,7 +42,7 @@ returns-in-Ok-clause-turned g c =
     let v = view c.args.space.now in
     let x = c.args.both.now in
     let place = c.in-Some.place in
-    let l = listing_some v (IsBeneath x) (front_layers x) (back_layers x) place c.args.queue.now.items c.requires.some (rw c.in-Some.is at c.requires.working.at) in
+    let l = listing_some v (IsBeneath x) (front_layers x) (back_layers x) place c.args.queue.now c.requires.some (rw c.in-Some.is at c.requires.working.at) in
     let range = rw c.in-Some.is at c.requires.range in
     let gave = rw (c.forward_layers.ensures.value, c.backward_layers.ensures.value) at c.in-Ok.ensures.gave in
     rw (c.in-Some.is, c.of.ensures) ((gave c.args.most range (undrawn place.left place.after) l.lawful).1)
@@ -54,9 +54,9 @@ returns-in-Err-clause-working g c =
     let w = view c.walk.new.space in
     let x = c.args.both.now in
     let place = c.in-Some.place in
-    let l = listing_some v (IsBeneath x) (front_layers x) (back_layers x) place c.args.queue.now.items c.requires.some (rw c.in-Some.is at c.requires.working.at) in
+    let l = listing_some v (IsBeneath x) (front_layers x) (back_layers x) place c.args.queue.now c.requires.some (rw c.in-Some.is at c.requires.working.at) in
     let owes = rw (c.forward_layers.ensures.value, c.backward_layers.ensures.value) at c.in-Err.ensures.owes in
-    rw c.in-Some.is (walked_working v w x place c.args.queue.now.items c.walk.new.queue.items c.requires.working.stands l c.walk.ensures.trades c.walk.ensures.queue (owes (undrawn place.left place.after) l.lawful).0)
+    rw c.in-Some.is (walked_working v w x place c.args.queue.now c.walk.new.queue c.requires.working.stands l c.walk.ensures.trades c.walk.ensures.queue (owes (undrawn place.left place.after) l.lawful).0)
 
 pub returns-in-Err-clause-turned : goal.returns-in-Err-clause-turned
 returns-in-Err-clause-turned g c =
@@ -64,29 +64,29 @@ returns-in-Err-clause-turned g c =
     let v = view c.args.space.now in
     let x = c.args.both.now in
     let place = c.in-Some.place in
-    let l = listing_some v (IsBeneath x) (front_layers x) (back_layers x) place c.args.queue.now.items c.requires.some (rw c.in-Some.is at c.requires.working.at) in
+    let l = listing_some v (IsBeneath x) (front_layers x) (back_layers x) place c.args.queue.now c.requires.some (rw c.in-Some.is at c.requires.working.at) in
     let owes = rw (c.forward_layers.ensures.value, c.backward_layers.ensures.value) at c.in-Err.ensures.owes in
-    rw c.in-Some.is (memory_stops v.system c.args.most (Owes v (back_layers x) (Some place) c.args.queue.now.items), (owes (undrawn place.left place.after) l.lawful).1)
+    rw c.in-Some.is (memory_stops v.system c.args.most (Owes v (back_layers x) (Some place) c.args.queue.now), (owes (undrawn place.left place.after) l.lawful).1)
 
 pub walk-requires-clause-front_apart : goal.walk-requires-clause-front_apart
 walk-requires-clause-front_apart g c =
     let v = g.S.Space.view c.args.space.now in
     let x = c.args.both.now in
-    let l = listing_some v (IsBeneath x) (front_layers x) (back_layers x) c.in-Some.place c.args.queue.now.items c.requires.some (rw c.in-Some.is at c.requires.working.at) in
+    let l = listing_some v (IsBeneath x) (front_layers x) (back_layers x) c.in-Some.place c.args.queue.now c.requires.some (rw c.in-Some.is at c.requires.working.at) in
     rw c.forward_layers.ensures.value (λ a s k. l.apart a s (keeps_ends x a (inl k)))
 
 pub returns-in-Ok-clause-trades : goal.returns-in-Ok-clause-trades
 returns-in-Ok-clause-trades g c =
     let v = g.S.Space.view c.args.space.now in
     let x = c.args.both.now in
-    let l = listing_some v (IsBeneath x) (front_layers x) (back_layers x) c.in-Some.place c.args.queue.now.items c.requires.some (rw c.in-Some.is at c.requires.working.at) in
+    let l = listing_some v (IsBeneath x) (front_layers x) (back_layers x) c.in-Some.place c.args.queue.now c.requires.some (rw c.in-Some.is at c.requires.working.at) in
     trades_beside (IsOwnOf x) c.walk.ensures.trades (λ a o. let u = owned_ends x a o in (valid_ends v x c.requires.working.stands a u, λ s. l.apart a s u))
 
 pub returns-in-Err-clause-trades : goal.returns-in-Err-clause-trades
 returns-in-Err-clause-trades g c =
     let v = g.S.Space.view c.args.space.now in
     let x = c.args.both.now in
-    let l = listing_some v (IsBeneath x) (front_layers x) (back_layers x) c.in-Some.place c.args.queue.now.items c.requires.some (rw c.in-Some.is at c.requires.working.at) in
+    let l = listing_some v (IsBeneath x) (front_layers x) (back_layers x) c.in-Some.place c.args.queue.now c.requires.some (rw c.in-Some.is at c.requires.working.at) in
     trades_beside (IsOwnOf x) c.walk.ensures.trades (λ a o. let u = owned_ends x a o in (valid_ends v x c.requires.working.stands a u, λ s. l.apart a s u))
 
 pub walk-requires-clause-memo : goal.walk-requires-clause-memo

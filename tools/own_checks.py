@@ -3,17 +3,28 @@
 
 Tests of python/symk.py (test_symk.py), of tools/to_list.py (test_to_list.py) and of tools/table.py (test_table.py), and the names that the
 pages give (check_docs.py). Tests that run the planner take the program of SYMK_PROGRAM, else .symk/symk, else what a check of one's own
-left in crates/symk_cli/out; where there is none they are skipped, which is said.
+left in crates/symk_cli/out, else what `./symk` compiles of the sources as they stand; where there is none they are skipped, which is said.
 """
 import os
+import subprocess
 import sys
 import unittest
 from pathlib import Path
 
 TOP = Path(__file__).resolve().parent.parent
-BUILT = [TOP / ".symk" / "symk", TOP / "crates" / "symk_cli" / "out" / "symk_cli"]
+
+
+def program():
+    """The program that the tests run, if there is one."""
+    built = [it for it in (TOP / ".symk" / "symk", TOP / "crates" / "symk_cli" / "out" / "symk_cli") if it.is_file()]
+    if not built:
+        subprocess.run([str(TOP / "symk"), "demo", "1"], stdin=subprocess.DEVNULL, stdout=subprocess.DEVNULL, stderr=subprocess.DEVNULL)
+        built = sorted((TOP / ".symk").glob("tried-*"))
+    return [str(it) for it in built[:1]]
+
+
 if not os.environ.get("SYMK_PROGRAM"):
-    os.environ.update({"SYMK_PROGRAM": str(path) for path in BUILT[::-1] if path.is_file()})
+    os.environ.update({"SYMK_PROGRAM": it for it in program()})
 sys.path[:0] = [str(TOP / "tools"), str(TOP / "python")]
 import check_docs  # noqa: E402
 import test_symk  # noqa: E402

@@ -1,5 +1,5 @@
 #!/usr/bin/env python3
-"""quick_tests.py PROGRAM: every test of every crate by rt try, and the README's commands by PROGRAM.
+"""quick_tests.py PROGRAM: every test of every crate by rt try, and by PROGRAM the commands of the pages and the checks of our own.
 
 `./symk test` calls it. Where PROGRAM isn't there yet, it is what `./symk` makes of the sources as they stand. Nothing is proved by it, and must-fail edits are not tried: `rt ci` does that. A line tells of each crate, the last
 one is `N passed, N failed`, and the status is 0 where none failed.
@@ -81,23 +81,27 @@ def try_tests(crate):
     return passed, failed
 
 
-def readme(program):
-    """Runs the README's commands by the program, says what came of them, and returns how many passed and failed."""
+def pages_and_python(program):
+    """Runs the pages' commands and the tests of python/ by the program, says what came of them, and returns how many passed and failed."""
     if not Path(program).exists():
         subprocess.run([str(TOP / "symk"), "demo", "1"], stdout=subprocess.DEVNULL, stderr=subprocess.DEVNULL)
-    words = [sys.executable, "-B", str(TOP / "tools/run_readme.py")]
-    ran = subprocess.run(words, env={**os.environ, "SYMK_PROGRAM": program}, stdout=subprocess.PIPE, errors="replace")
-    lines = ran.stdout.splitlines()
-    found = re.fullmatch(r"(\d+) passed, (\d+) failed", lines[-1] if lines else "")
-    passed, failed = (int(found.group(1)), int(found.group(2))) if found else (0, 1)
-    print("\n".join((lines[:-1] if failed else []) + ["README.md: %d passed, %d failed" % (passed, failed)]), flush=True)
+    passed, failed = 0, 0
+    for name, file in (("README.md, docs/USING.md", "tools/run_readme.py"), ("python, tools and names in the pages", "tools/own_checks.py")):
+        began, how = time.monotonic(), {"stdin": subprocess.DEVNULL, "stdout": subprocess.PIPE, "stderr": subprocess.STDOUT, "errors": "replace"}
+        ran = subprocess.run([sys.executable, "-B", str(TOP / file)], env={**os.environ, "SYMK_PROGRAM": program}, **how)
+        lines = ran.stdout.splitlines()
+        found = re.fullmatch(r"(\d+) passed, (\d+) failed", lines[-1] if lines else "")
+        good, bad = (int(found.group(1)), int(found.group(2))) if found else (0, 1)
+        told = "%s: %d passed, %d failed (%d s)" % (name, good, bad, time.monotonic() - began)
+        print("\n".join((lines[-40:] if bad else []) + [told]), flush=True)
+        passed, failed = passed + good, failed + bad
     return passed, failed
 
 
 def main(program):
     signal.signal(signal.SIGTERM, lambda number, _: sys.exit(128 + number))
     with ThreadPoolExecutor(lanes()) as pool:
-        runs = [pool.submit(readme, program)] + [pool.submit(try_tests, it) for it in tested()]
+        runs = [pool.submit(pages_and_python, program)] + [pool.submit(try_tests, it) for it in tested()]
     passed, failed = (sum(it) for it in zip(*(run.result() for run in runs)))
     print("%d passed, %d failed" % (passed, failed))
     return 1 if failed else 0

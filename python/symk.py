@@ -450,10 +450,10 @@ def plans(task: PathLike, k: int, *, mode: Optional[str] = None, search: Optiona
     past these `.end` says so, and the plans that came are right. The program begins with the first plan that is asked for, and is ended
     where the loop is left. Only the block at hand is held. `Refused` and `Broken` come from the loop.
 
-    >>> for plan in plans("examples/blocks.sas", 100, quality=100):
-    ...     print(plan.cost, plan.names[0])
-    8 unstack b3 b2
-    8 unstack b3 b2
+    >>> for plan in plans("examples/switch-and-back.sas", 100, bound=4):
+    ...     print(plan.cost, *plan.names)
+    1 switch-on
+    3 switch-on switch-off switch-on
     >>> first = list(plans("examples/switch-and-back.sas", 2))
     >>> [plan.cost for plan in plans("examples/switch-and-back.sas", 2, after=first)]
     [5, 7]
@@ -582,9 +582,9 @@ def plan_topq(domain_file: Optional[PathLike] = None, problem_file: Optional[Pat
               number_of_plans_bound: Optional[int] = None, timeout: Optional[float] = None, **wishes: Any) -> Dict[str, Any]:
     """All plans that cost at most `quality_bound` times the least cost; else as `plan_topk`.
 
-    >>> found = plan_topq(sas_file="examples/blocks.sas", quality_bound=1.25)
-    >>> len(found["plans"]), found["end"]
-    (46, 'bounded 46')
+    >>> found = plan_topq(sas_file="examples/switch-and-back.sas", quality_bound=5.5)
+    >>> [plan["cost"] for plan in found["plans"]], found["end"]
+    ([1, 3, 5], 'bounded 3')
     """
     return _packaged("topk", domain_file, problem_file, number_of_plans_bound, quality_bound, timeout, **wishes)
 

@@ -364,15 +364,16 @@ class Examples(Case):
         self.assertEqual(self.listed("switch-and-back", 9, bound=4), ([1, 3], "bounded 2"))
         self.assertEqual(self.listed("blocks", 99, quality=100), ([8, 8], "bounded 2"))
         for search in ("forward", "backward", "bidirectional"):
-            self.assertEqual(self.listed("blocks", 3, search=search, mutex=True), ([8, 8, 9], "reached 3"))
+            self.assertEqual(self.listed("near-and-far", 3, search=search, mutex=True), ([10 ** 12, 10 ** 12 + 1], "exhausted 2"))
         first = list(symk.plans(EXAMPLES / "switch-and-back.sas", 2))
         found = symk.plans(EXAMPLES / "switch-and-back.sas", 2, after=first)
         self.assertEqual(([plan.number for plan in found], found.end), ([3, 4], symk.End("reached", 4)))
 
     def test_names_are_those_of_the_operators(self):
-        task = symk.read_task(symk.text_of(EXAMPLES / "blocks.sas"))
-        for plan in symk.plans(EXAMPLES / "blocks.sas", 9):
-            self.assertEqual(plan.names, tuple(task.operators[one].name for one in plan.operators))
+        for name in ("switch-and-back", "tiles"):
+            task = symk.read_task(symk.text_of(EXAMPLES / ("%s.sas" % name)))
+            for plan in symk.plans(EXAMPLES / ("%s.sas" % name), 9):
+                self.assertEqual(plan.names, tuple(task.operators[one].name for one in plan.operators))
 
     def test_refusals(self):
         cut = (EXAMPLES / "switch-and-back.sas").read_text().split("\n")[:20]
@@ -457,11 +458,11 @@ class Packages(Case):
         self.assertEqual((found["plans"], found["end"]), ([{"cost": 1, "actions": ["switch-on"]}], "exhausted 1"))
 
     def test_qualities(self):
-        problem = self.problem("blocks")
-        for bound, count in ((1.0, 2), (1.2, 4), (1.25, 46), (1.333, 46)):
+        problem = self.problem("switch-and-back")
+        for bound, count in ((1.0, 1), (3.0, 2), (4.99, 2), (5, 3), (7.0001, 4), (101.5, 51)):
             found = symk.plan_topq(self.domain, problem, quality_bound=bound, translator=self.translator)
             self.assertEqual((len(found["plans"]), found["end"]), (count, "bounded %d" % count), bound)
-        self.assertEqual(symk.plan_topq(self.domain, problem, 1.2, number_of_plans_bound=3, translator=self.translator)["end"], "reached 3")
+        self.assertEqual(symk.plan_topq(self.domain, problem, 9.5, number_of_plans_bound=3, translator=self.translator)["end"], "reached 3")
         self.assertEqual(len(symk.plan_unordered_topq(sas_file=EXAMPLES / "two-switches.sas", quality_bound=101)["plans"]), 1)
         self.assertEqual(symk.plan_loopless(sas_file=EXAMPLES / "switch-and-back.sas", quality_bound=2.5)["end"], "bounded 1")
         self.assertTrue(symk.plan_topq(sas_file=EXAMPLES / "no-plan.sas", quality_bound=1.333)["unsolvable"])
@@ -626,16 +627,16 @@ class Audit(Case):
         print("audited lists of drawn tasks: %s%s" % (tried, "" if DRAWN == 200 else " (fewer than 200: the program isn't optimised)"))
 
     def test_files_of_other_planners(self):
-        task = EXAMPLES / "blocks.sas"
+        task = EXAMPLES / "switch-and-back.sas"
         for number, plan in enumerate(symk.plans(task, 12), 1):
             self.write("sas_plan.%d" % number, "".join("(%s)\n" % name.upper() for name in plan.names) + "; cost = %d (unit cost)\n" % plan.cost)
         self.assertEqual([verdict.good for verdict in symk.audit(task, self.folder)], [True, True])
         files = [self.folder / ("sas_plan.%d" % number) for number in range(12, 0, -1)]
-        self.assertEqual([verdict.said for verdict in symk.audit(task, files)], ["bad plan 9: cheaper than plan 8 (sas_plan.4)"])
+        self.assertEqual([verdict.said for verdict in symk.audit(task, files)], ["bad plan 2: cheaper than plan 1 (sas_plan.11)"])
         self.assertEqual([verdict.good for verdict in symk.audit(task, files, by_cost=True)], [True, True])
-        self.assertEqual([verdict.said for verdict in symk.audit(task, files[:-1], by_cost=True)][1], "missing: a plan of cost 8")
-        self.write("sas_plan.2", (self.folder / "sas_plan.2").read_text().replace("cost = 8", "cost = 7"))
-        self.assertEqual([verdict.said for verdict in symk.audit(task, self.folder)], ["bad plan 2: costs 8 (sas_plan.2)"])
+        self.assertEqual([verdict.said for verdict in symk.audit(task, files[:4] + files[5:], by_cost=True)][1], "missing: a plan of cost 15")
+        self.write("sas_plan.2", (self.folder / "sas_plan.2").read_text().replace("cost = 3", "cost = 2"))
+        self.assertEqual([verdict.said for verdict in symk.audit(task, self.folder)], ["bad plan 2: costs 3 (sas_plan.2)"])
         self.write("sas_plan.2", "(fly home)\n")
         self.assertEqual(next(symk.audit(task, self.folder)),
                          (False, "bad plan 2: line 1: no operator of the task is named (fly home) (sas_plan.2)", 2,
@@ -657,12 +658,13 @@ class Audit(Case):
                 self.assertTrue(one.startswith(wanted), said)
 
     def test_complete_up_to_a_cost(self):
-        task, plans = EXAMPLES / "blocks.sas", list(symk.plans(EXAMPLES / "blocks.sas", 5))
-        for count, wishes, said in ((4, {"bound": 9}, "complete: there is no other plan of cost at most 9"),
-                                    (4, {"quality": 124}, "complete: there is no other plan of cost at most 9"),
-                                    (4, {"bound": 10}, "not complete: the next plan costs 10"), (5, {"bound": 9}, "complete: there is no other"),
-                                    (4, {"quality": 125}, "not complete: the next plan costs 10"), (1, {"quality": 100}, "not complete: the next"),
-                                    (0, {"bound": 7}, "complete: there is no other"), (0, {"quality": 100}, "not complete: the next plan costs 8")):
+        task = EXAMPLES / "switch-and-back.sas"
+        plans = list(symk.plans(task, 5))
+        for count, wishes, said in ((4, {"bound": 8}, "complete: there is no other plan of cost at most 8"),
+                                    (4, {"quality": 899}, "complete: there is no other plan of cost at most 8"),
+                                    (4, {"bound": 9}, "not complete: the next plan costs 9"), (5, {"bound": 8}, "complete: there is no other"),
+                                    (4, {"quality": 900}, "not complete: the next plan costs 9"), (1, {"quality": 100}, "complete: there is no"),
+                                    (0, {"bound": 0}, "complete: there is no other"), (0, {"quality": 100}, "not complete: the next plan costs 1")):
             self.assertTrue(list(symk.audit(task, plans[:count], **wishes))[-1].said.startswith(said), (count, wishes))
         self.assertEqual(self.command("audit", EXAMPLES / "two-switches.sas", self.write("none", ""), "--bound", 1)[0], 0)
         self.assertTrue(list(symk.audit(EXAMPLES / "no-plan.sas", [], quality=100))[-1])
@@ -675,7 +677,7 @@ class Audit(Case):
         self.assertEqual(said, ["bad plan 1: it costs 18446744073709551616, more than 64 bits hold (dear)"])
 
     def test_statuses(self):
-        task, plans = EXAMPLES / "blocks.sas", list(symk.plans(EXAMPLES / "blocks.sas", 3))
+        task, plans = EXAMPLES / "switch-and-back.sas", list(symk.plans(EXAMPLES / "switch-and-back.sas", 3))
         text = lambda plans: "".join(plan.block(number).decode() for number, plan in enumerate(plans, 1))
         for listed, options, status in ((plans, (), 0), (plans, ("--complete",), 17), (plans[1:], (), 14), (plans[::-1], (), 11),
                                         (plans[::-1], ("--by-cost",), 0)):

@@ -667,6 +667,8 @@ def _translated(domain_file: Optional[PathLike], problem_file: Optional[PathLike
 # Tasks, and plan files of other planners.
 
 class Operator(NamedTuple):
+    """An operator: its name, the facts that it asks for, of each effect its conditions, variable and value, and what it costs by the metric."""
+
     name: str
     conditions: List[Tuple[int, int]]
     effects: List[Tuple[List[Tuple[int, int]], int, int]]
@@ -674,13 +676,15 @@ class Operator(NamedTuple):
 
 
 class Rule(NamedTuple):
+    """A rule: the facts under which a derived variable has a value."""
+
     conditions: List[Tuple[int, int]]
     variable: int
     value: int
 
 
 class Task(NamedTuple):
-    """A task as its file has it; of the rules those to values that aren't the default, and of operators what they cost by the metric."""
+    """A task as its file has it, and of the rules those to values that aren't the default."""
 
     ranges: List[int]
     layers: List[int]
@@ -816,7 +820,14 @@ def successor(operator: Operator, state: Sequence[int], values: Sequence[int]) -
 
 
 class Unlisted(Exception):
-    """Why a plan file can't stand in a list."""
+    """Why a plan file can't stand in a list.
+
+    >>> try:
+    ...     list(steps_of("switch-on\\n"))
+    ... except Unlisted as why:
+    ...     print(why)
+    line 1 is no step
+    """
 
 
 class PlanFiles:
@@ -857,7 +868,7 @@ class PlanFiles:
     def chosen(self, candidates: List[List[int]], say: Callable[[str], None]) -> List[int]:
         """Of each step's candidates the one that is taken."""
         layers, ends = self.layers(candidates)
-        counts = ways_of(layers, ends)
+        counts = _ways_of(layers, ends)
         ways = counts[0].get(self.task.initial, 0)
         if ways == 0:
             say("no choice of operators of these names leads to the goal")
@@ -867,7 +878,7 @@ class PlanFiles:
         self.seen[key] = index + 1
         if ways > 1:
             say("%d ways have these names and lead to the goal; way %d is taken" % (ways, index % ways + 1))
-        return way(self.task.initial, layers, counts, index % ways)
+        return _way(self.task.initial, layers, counts, index % ways)
 
     def layers(self, candidates: List[List[int]]) -> Tuple[List[Dict[Any, List[Any]]], Any]:
         """Step by step the states that the candidates reach, each with those that apply there and where they lead; and the goal states."""
@@ -893,7 +904,7 @@ class PlanFiles:
         return chosen
 
 
-def ways_of(layers: List[Dict[Any, List[Any]]], ends: Any) -> List[Dict[Any, int]]:
+def _ways_of(layers: List[Dict[Any, List[Any]]], ends: Any) -> List[Dict[Any, int]]:
     """For each step and state how many ways lead from there to an end."""
     counts = [{state: 1 for state in ends}]
     for arcs in reversed(layers):
@@ -902,7 +913,7 @@ def ways_of(layers: List[Dict[Any, List[Any]]], ends: Any) -> List[Dict[Any, int
     return counts[::-1]
 
 
-def way(state: Any, layers: List[Dict[Any, List[Any]]], counts: List[Dict[Any, int]], index: int) -> List[int]:
+def _way(state: Any, layers: List[Dict[Any, List[Any]]], counts: List[Dict[Any, int]], index: int) -> List[int]:
     """The way of this index among those to an end, by the operators' numbers."""
     chosen = []
     for arcs, later in zip(layers, counts[1:]):
@@ -939,7 +950,11 @@ def steps_of(text: str) -> Iterator[Tuple[int, str]]:
 
 
 def text_of(path: PathLike) -> str:
-    """The text of a file, in which each byte that is no UTF-8 can be written again."""
+    """The text of a file, in which each byte that is no UTF-8 can be written again.
+
+    >>> text_of("examples/one-switch.sas").split("\\n")[0]
+    'begin_version'
+    """
     with open(path, encoding="utf-8", errors="surrogateescape", newline="") as file:
         return file.read()
 

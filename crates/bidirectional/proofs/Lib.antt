@@ -1,6 +1,7 @@
 pub mod Pairs
 pub mod Moving
 pub mod Above
+pub mod Stepping
 pub mod Least
 pub mod Past
 pub mod Known

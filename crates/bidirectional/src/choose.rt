@@ -1,17 +1,22 @@
 //! Which side goes on.
 
-ghost use Rattle.std.specs.Prelude.{◌≡◌, ◌<◌, ◌≤◌, ◌⊎◌, ◌↔◌, IsTrue, IsFalse, if◌then◌else◌};
-ghost use Rattle.bidirectional.specs.Choices.{Prefers, noted};
+ghost use Rattle.std.specs.Prelude.{◌≡◌, ℕ, ◌<◌, ◌≤◌, ◌⊎◌, ◌↔◌, IsTrue, if◌then◌else◌};
+ghost use Rattle.bidirectional.specs.Choices.{PrefersLighter, Prefers, noted};
 
 /// Chooses the side that goes on.
 pub trait Choose {
+    /// Whether it prefers the forward side, where that is known below a first cost and the other below a second.
+    ghost prefers: { Self → ℕ → ℕ → Type 0 };
+
     /// Whether the forward side goes on, from what the forward layers (`f`) and the backward layers (`b`) are known
-    /// below.
-    fn forward_next(&mut self, f: u128, b: u128) -> bool;
+    /// below: whether it is preferred. To be asked changes no preference.
+    fn forward_next(&mut self, f: u128, b: u128) -> bool
+        ensures answers { IsTrue result ↔ prefers self.old f b }
+        ensures same { (x y : ℕ) → prefers self.new x y ↔ prefers self.old x y };
 
     /// Is told of each step of a side once it is done: whether it was the forward side's, and how much work it was by
-    /// the space's count, with the test before it whether the sides meet.
-    fn note_step(&mut self, forward: bool, work: u64);
+    /// the space's count, with the test before it whether the sides meet. Of itself it notes nothing.
+    fn note_step(&mut self, _forward: bool, _work: u64) {}
 }
 
 /// Always the forward side.
@@ -58,46 +63,36 @@ pub enum Choice {
 }
 
 impl Choose for AlwaysForward {
-    fn forward_next(&mut self, _f: u128, _b: u128) -> bool
-        ensures { IsTrue result }
-    {
+    ghost prefers = { λ x f b. Unit {0} };
+
+    fn forward_next(&mut self, _f: u128, _b: u128) -> bool {
         true
     }
-
-    fn note_step(&mut self, _forward: bool, _work: u64)
-        ensures { self.new ≡ self.old }
-    {}
 }
 
 impl Choose for AlwaysBackward {
-    fn forward_next(&mut self, _f: u128, _b: u128) -> bool
-        ensures { IsFalse result }
-    {
+    ghost prefers = { λ x f b. ⊥ };
+
+    fn forward_next(&mut self, _f: u128, _b: u128) -> bool {
         false
     }
-
-    fn note_step(&mut self, _forward: bool, _work: u64)
-        ensures { self.new ≡ self.old }
-    {}
 }
 
 impl Choose for Lower {
-    fn forward_next(&mut self, f: u128, b: u128) -> bool
-        ensures { IsTrue result ↔ (f ≤ b) }
-    {
+    ghost prefers = { λ x f b. f ≤ b };
+
+    fn forward_next(&mut self, f: u128, b: u128) -> bool {
         f <= b
     }
-
-    fn note_step(&mut self, _forward: bool, _work: u64)
-        ensures { self.new ≡ self.old }
-    {}
 }
 
 impl Choose for Lighter {
+    ghost prefers = { PrefersLighter };
+
     fn forward_next(&mut self, f: u128, b: u128) -> bool
-        ensures same { self.new ≡ self.old }
-        ensures lighter { IsTrue result ↔ ((self.old.ahead < self.old.back)
-            ⊎ ((self.old.ahead ≡ self.old.back) × (f ≤ b))) }
+        ensures answers { IsTrue result ↔ PrefersLighter self.old f b }
+        ensures same { (x y : ℕ) → PrefersLighter self.new x y ↔ PrefersLighter self.old x y }
+        ensures unchanged { self.new ≡ self.old }
     {
         if self.ahead == self.back {
             f <= b
@@ -119,9 +114,12 @@ impl Choose for Lighter {
 }
 
 impl Choose for Choice {
+    ghost prefers = { Prefers };
+
     fn forward_next(&mut self, f: u128, b: u128) -> bool
-        ensures same { self.new ≡ self.old }
-        ensures prefers { IsTrue result ↔ Prefers self.old f b }
+        ensures answers { IsTrue result ↔ Prefers self.old f b }
+        ensures same { (x y : ℕ) → Prefers self.new x y ↔ Prefers self.old x y }
+        ensures unchanged { self.new ≡ self.old }
     {
         match self {
             Choice::Forward => AlwaysForward.forward_next(f, b),

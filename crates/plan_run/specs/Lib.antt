@@ -3,4 +3,5 @@ pub mod Earlier
 pub mod Lists
 pub mod Reaches
 pub mod Engines
+pub mod Choosing
 pub mod Costs

@@ -1,5 +1,8 @@
 //! Which side of a search goes on, by the direction that is asked for.
 
+ghost use Rattle.std.specs.Prelude.{◌≡◌, ℕ, ◌↔◌, IsTrue};
+ghost use Rattle.plan_run.specs.Choosing.{PrefersPatient};
+
 use crate::options::Direction;
 use bidirectional::{Choice, Choose, Lighter};
 
@@ -44,7 +47,13 @@ impl Patient {
 }
 
 impl Choose for Patient {
-    fn forward_next(&mut self, f: u128, b: u128) -> bool {
+    ghost prefers = { PrefersPatient };
+
+    fn forward_next(&mut self, f: u128, b: u128) -> bool
+        ensures answers { IsTrue result ↔ PrefersPatient self.old f b }
+        ensures same { (x y : ℕ) → PrefersPatient self.new x y ↔ PrefersPatient self.old x y }
+        ensures unchanged { self.new ≡ self.old }
+    {
         let forward = self.choice.forward_next(f, b);
         match self.choice {
             // A side that is asked for goes on alone.

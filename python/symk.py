@@ -366,6 +366,17 @@ def _words_of(program: Program) -> List[str]:
     return words
 
 
+@lru_cache(maxsize=None)
+def _bound_to_python() -> Tuple[str, ...]:
+    """Words by which the system ends a program where Python dies, however it does; none where it has no such command (util-linux)."""
+    words = ("setpriv", "--pdeathsig", "KILL")
+    try:
+        quiet = subprocess.DEVNULL
+        return words if subprocess.run([*words, "true"], stdin=quiet, stdout=quiet, stderr=quiet).returncode == 0 else ()
+    except OSError:
+        return ()
+
+
 def _kill(process: subprocess.Popen[bytes]) -> None:
     """Ends the program and what it started. Until it is waited for, its number is no other's."""
     if process.returncode is None:
@@ -382,6 +393,9 @@ class _Run:
         command = [*_words_of(program), *words]
         if megabytes is not None:
             command = ["/bin/sh", "-c", 'ulimit -v "$0" && exec "$@"', str(int(megabytes * 1_000_000) // 1024), *command]
+        # (the system would end it with the thread that began it, so another thread's program isn't bound)
+        if threading.current_thread() is threading.main_thread():
+            command = [*_bound_to_python(), *command]
         self.late = False
         self.process = subprocess.Popen(command, stdin=subprocess.DEVNULL, stdout=subprocess.PIPE, bufsize=0, start_new_session=True)
         self.read = self.process.stdout.read

@@ -13,9 +13,11 @@ import os
 import pty
 import random
 import shutil
+import signal
 import subprocess
 import sys
 import tempfile
+import threading
 import time
 import tracemalloc
 import unittest
@@ -56,10 +58,13 @@ class Case(unittest.TestCase):
         return path
 
     def is_gone(self):
-        """Whether the program has ended, some tenths of a second later at most."""
+        """Whether the program has ended, a second later at most; where Python was killed, nobody may have waited for it yet."""
         pid = int((self.folder / "pid").read_text())
         for _ in range(50):
-            if not Path("/proc/%d" % pid).exists():
+            try:
+                if Path("/proc/%d/stat" % pid).read_text().rpartition(")")[2].split()[0] == "Z":
+                    return True
+            except OSError:
                 return True
             time.sleep(0.02)
         return False
@@ -273,11 +278,22 @@ class Hostile(Case):
 
     def test_an_ended_command_ends_the_program(self):
         words = [sys.executable, "-B", str(TOP / "python" / "symk.py"), "t", "--k", "2", "--program", self.program(ONE, 0, "sleep 60")]
-        with subprocess.Popen(words, stdout=subprocess.PIPE) as process:
-            process.stdout.readline()
-            process.terminate()
-            process.wait()
-        self.assertTrue(self.is_gone())
+        for end in (signal.SIGTERM, signal.SIGINT, *([signal.SIGKILL] if shutil.which("setpriv") else [])):
+            with subprocess.Popen(words, stdout=subprocess.PIPE) as process:
+                process.stdout.readline()
+                process.send_signal(end)
+                process.wait()
+            self.assertTrue(self.is_gone(), end)
+
+    def test_threads(self):
+        program, found = self.program(ONE, 0, "sleep 0.5; echo '; reached 1'"), []
+        threads = [threading.Thread(target=lambda: found.append(symk.plans("task.sas", 3, program=program))) for _ in range(3)]
+        first = symk.plans("task.sas", 3, program=program)
+        threads.append(threading.Thread(target=lambda: next(first)))
+        for thread in threads:
+            thread.start()
+            thread.join()
+        self.assertEqual([len(list(one)) for one in found] + [len(list(first)), str(first.end)], [1, 1, 1, 0, "reached 1"])
 
     def test_progress_on_a_terminal(self):
         ours, theirs = pty.openpty()

@@ -14,7 +14,6 @@ mod mutexes;
 mod plans;
 mod refusals;
 mod rows;
-mod searches;
 mod words;
 
 use crate::{Status, run};

@@ -3,7 +3,6 @@ use Rattle.std.proofs.Common.{◌≡◌, ℕ, zero, suc, ◌/◌, ◌%◌, ◌<�
 use Rattle.std.specs.Option.{option_map_or}
 use Rattle.std.proofs.lemmas.Bool.{cases_lt, ne_eqb}
 use Rattle.std.proofs.lemmas.List.{get_or-map}
-use Rattle.symk_task.specs.declared.bits.TheConstants.{STATE_BITS}
 use Rattle.symk_task.specs.declared.parts.TaskParts.{TaskParts}
 use Rattle.bdd_table.specs.declared.node.Node.{Node}
 use Rattle.bdd_table.specs.Diagram.{Bits, bits_of, level_of, means, IsReduced, put}
@@ -36,10 +35,10 @@ module _ (places : List ℕ) (indexes : List (Option ℕ)) (count : ℕ) (are : 
     | inr far ↦ (let many = are.many in let z : Some j ≡ None = sym e ∙ past_end indexes i (omega (arith, many, far)) in absurd (let f : ⊥ = cc in f))
   ]
 
-  pub small : length places ≤ STATE_BITS → AreSmall indexes
+  pub small : length places ≤ 65536 → AreSmall indexes
   small most i = by_index (get_or indexes i None) refl
     where
-      by_index : (x : Option ℕ) → get_or indexes i None ≡ x → IfSome x (λ bit. bit < STATE_BITS)
+      by_index : (x : Option ℕ) → get_or indexes i None ≡ x → IfSome x (λ bit. bit < 65536)
       by_index None e = tt
       by_index (Some j) e = (let h = index_below i j e in omega (arith, h, most))
 
@@ -115,10 +114,10 @@ module _ (task : TaskParts) (o : Layout) (order : IsOrderOf task o) (places : Li
 pub record Shown (task : TaskParts) (o : Layout) (places : List ℕ) (indexes : List (Option ℕ)) : Type 0 where
   pub same : places ≡ places_of task o
   pub many : length places ≡ state_width task
-  pub most : length places ≤ STATE_BITS
+  pub most : length places ≤ 65536
   pub are : AreIndexes places indexes (bits o)
 
-pub shown : (task : TaskParts) (o : Layout) (items shown_places : List ℕ) (indexes shown_indexes : List (Option ℕ)) (count : ℕ) → items ≡ places_of task o → length items ≡ state_width task → length items ≤ STATE_BITS → shown_places ≡ items → shown_indexes ≡ indexes → count ≡ bits o
+pub shown : (task : TaskParts) (o : Layout) (items shown_places : List ℕ) (indexes shown_indexes : List (Option ℕ)) (count : ℕ) → items ≡ places_of task o → length items ≡ state_width task → length items ≤ 65536 → shown_places ≡ items → shown_indexes ≡ indexes → count ≡ bits o
     → AreIndexes shown_places indexes count → Shown task o items shown_indexes
 shown task o items shown_places indexes shown_indexes count same many most e f n are = record {
   same = same;

@@ -1,7 +1,6 @@
 -- What is written of a closed set is a certificate that the task has no plan.
 use Rattle.std.proofs.Common.{◌≡◌, ℕ, ◌+◌, ◌^◌, ◌<◌, ◌≤◌, List, length, sym, ◌∙◌, ap, subst, arith}
 use Rattle.symk_text.specs.Lines.{lines}
-use Rattle.symk_task.specs.declared.bits.TheConstants.{STATE_BITS}
 use Rattle.symk_task.specs.declared.parts.TaskParts.{TaskParts}
 use Rattle.var_order.specs.Layout.{Layout, IsOrderOf, bits}
 use Rattle.certificates.specs.declared.node.Certificate.{Certificate}
@@ -13,7 +12,7 @@ use Rattle.cert_out.specs.CertText.{cert_text}
 use Rattle.cert_out.specs.Written.{IsProof}
 use Rattle.cert_out.proofs.TextLines.{text_states}
 
-pub proof_of : (task : TaskParts) (o : Layout) (width : ℕ) (cert : Certificate) (text : List ℕ) → IsOrderOf task o → width ≡ bits o → width ≤ STATE_BITS → IsInOrder (state_width task) cert → length cert.nodes + 2 < 2 ^ 63
+pub proof_of : (task : TaskParts) (o : Layout) (width : ℕ) (cert : Certificate) (text : List ℕ) → IsOrderOf task o → width ≡ bits o → width ≤ 65536 → IsInOrder (state_width task) cert → length cert.nodes + 2 < 2 ^ 63
     → IsTidy cert → IsInductive task (Named task cert) → text ≡ cert_text width cert → IsProof task text
 proof_of task o width cert text order wide most in_order few tidy inductive written =
     let same : width ≡ state_width task = wide ∙ order.bits in

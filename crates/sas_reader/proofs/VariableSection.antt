@@ -8,7 +8,6 @@ use Rattle.symk_text.specs.Lines.{IsLine}
 use Rattle.symk_task.specs.declared.parts.Variable.{Variable}
 use Rattle.symk_task.specs.Variables.{range, width, doublings}
 use Rattle.symk_task.specs.Fits.{bits_of}
-use Rattle.symk_task.specs.declared.bits.TheConstants.{STATE_BITS}
 use Rattle.sas_reader.specs.declared.fault.Shape.TheVariants as shape
 use Rattle.line_grammar.specs.Rows.{Lines}
 use Rattle.line_grammar.specs.Reading.{row_at, both_at, before_at}
@@ -40,12 +39,12 @@ layer_again (Some n) f = (let t : nat_le n 65535 ≡ true = grind (arith, nat_te
 layer_is : RowIs shape.Layer layer_in (λ layer. numbers shape.Layer (layer ∷ [])) IsLayer
 layer_is = picked_are shape.Layer only_number if_layer (λ layer. layer ∷ []) IsLayer layer_taken layer_again None tt (tt, tt)
 
-some_range : (layer : Option ℕ) (used : ℕ) → used ≤ STATE_BITS → (n : ℕ) × (may_have layer used n ≡ true) × (n < 2 ^ 64)
+some_range : (layer : Option ℕ) (used : ℕ) → used ≤ 65536 → (n : ℕ) × (may_have layer used n ≡ true) × (n < 2 ^ 64)
 unfolding width doublings
 some_range (Some layer) used small = (2, refl, omega arith)
-some_range None used small = (1, (let t : nat_le (used + 0) STATE_BITS ≡ true = grind (arith, nat_tests) in t), omega arith)
+some_range None used small = (1, (let t : nat_le (used + 0) 65536 ≡ true = grind (arith, nat_tests) in t), omega arith)
 
-range_is : (layer : Option ℕ) (used : ℕ) → used ≤ STATE_BITS → RowIs shape.Range (number_that (may_have layer used)) (number shape.Range) (λ n. may_have layer used n ≡ true)
+range_is : (layer : Option ℕ) (used : ℕ) → used ≤ 65536 → RowIs shape.Range (number_that (may_have layer used)) (number shape.Range) (λ n. may_have layer used n ≡ true)
 range_is layer used small = (let s = some_range layer used small in number_is shape.Range (may_have layer used) (λ n. may_have layer used n ≡ true) (λ n e. e) (λ n e. e) s.0 s.1 s.2)
 
 abbrev pub AreLines : List (List ℕ) → Type 0
@@ -54,7 +53,7 @@ AreLines = FitFrom {X = List ℕ} {T = Unit {0}} (λ _ x. IsLine x) kept (tt {0}
 abbrev pub ValuesFit : Option ℕ → ℕ → List (List ℕ) → Type 0
 ValuesFit layer used values = (may_have layer used (length values) ≡ true) × AreLines values
 
-exact_values : (layer : Option ℕ) (used : ℕ) → used ≤ STATE_BITS → Exact (values_at layer used) (λ values. number shape.Range (length values) ∷ flat_map name_rows values) (ValuesFit layer used)
+exact_values : (layer : Option ℕ) (used : ℕ) → used ≤ 65536 → Exact (values_at layer used) (λ values. number shape.Range (length values) ∷ flat_map name_rows values) (ValuesFit layer used)
 exact_values layer used small =
     joining.exact_counted shape_of IsSpelled name_at kept name_rows (λ _ x. IsLine x) (λ _. Unit {0}) (λ _ _. exact_name) (λ _ _ _ _. tt)
     shape.Range (number_that (may_have layer used)) (number shape.Range) (λ n. may_have layer used n ≡ true) tt (range_is layer used small) (λ _ _ _. tt)
@@ -65,7 +64,7 @@ VariableFits used v = IsLine v.name × (IsLayer v.layer × ValuesFit v.layer use
 abbrev parts_of : Variable → List ℕ × (Option ℕ × List (List ℕ))
 parts_of v = (v.name, (v.layer, v.values))
 
-pub exact_variable : (used : ℕ) → used ≤ STATE_BITS → Exact (variable_at used) variable_rows (VariableFits used)
+pub exact_variable : (used : ℕ) → used ≤ 65536 → Exact (variable_at used) variable_rows (VariableFits used)
 unfolding variable_at
 exact_variable used small =
     joining.exact_made shape_of IsSpelled variable_of parts_of (λ a. refl) (λ v. refl) _ _ (λ x. IsLine x.0 × (IsLayer x.1.0 × ValuesFit x.1.0 used x.1.1))
@@ -83,15 +82,15 @@ exact_variable used small =
 
 -- what is used with a variable
 
-bits_within : (layer : Option ℕ) (used n : ℕ) → used ≤ STATE_BITS → may_have layer used n ≡ true → (1 ≤ n) × (n ≤ 65536) × (used + cond (is_none layer) (width n) 0 ≤ STATE_BITS)
+bits_within : (layer : Option ℕ) (used n : ℕ) → used ≤ 65536 → may_have layer used n ≡ true → (1 ≤ n) × (n ≤ 65536) × (used + cond (is_none layer) (width n) 0 ≤ 65536)
 bits_within (Some layer) used n small e = (grind (arith, nat_tests), grind (arith, nat_tests), omega arith)
 bits_within None used n small e = (grind (arith, nat_tests), grind (arith, nat_tests), grind (arith, nat_tests))
 
-pub variable_within : (used : ℕ) (v : Variable) → used ≤ STATE_BITS → VariableFits used v → (1 ≤ range v) × (range v ≤ 65536) × (used + bits_of v ≤ STATE_BITS)
+pub variable_within : (used : ℕ) (v : Variable) → used ≤ 65536 → VariableFits used v → (1 ≤ range v) × (range v ≤ 65536) × (used + bits_of v ≤ 65536)
 variable_within used v small f = bits_within v.layer used (length v.values) small f.1.1.0
 
 -- a variable that was read
-pub variable_read : (used : ℕ) (lines rest : Lines) (v : Variable) → used ≤ STATE_BITS → variable_at used lines ≡ Ok (v, rest) → (1 ≤ range v) × (range v ≤ 65536) × (used + bits_of v ≤ STATE_BITS)
+pub variable_read : (used : ℕ) (lines rest : Lines) (v : Variable) → used ≤ 65536 → variable_at used lines ≡ Ok (v, rest) → (1 ≤ range v) × (range v ≤ 65536) × (used + bits_of v ≤ 65536)
 variable_read used lines rest v small e = variable_within used v small ((exact_variable used small).takes lines v rest e).fits
 
 abbrev pub VariablesFit : List Variable → Type 0
@@ -99,5 +98,5 @@ VariablesFit vs = (length vs ≤ 65536) × FitFrom VariableFits used_after 0 vs
 
 pub exact_variables : Exact variables_at (counted_rows variable_rows) VariablesFit
 exact_variables =
-    joining.exact_counted shape_of IsSpelled variable_at used_after variable_rows VariableFits (λ used. used ≤ STATE_BITS) exact_variable (λ used v small f. (variable_within used v small f).2)
+    joining.exact_counted shape_of IsSpelled variable_at used_after variable_rows VariableFits (λ used. used ≤ 65536) exact_variable (λ used v small f. (variable_within used v small f).2)
     shape.Count (count_to 65536) (number shape.Count) (λ n. n ≤ 65536) 0 (count_is shape.Count 65536) (λ _ _ _. omega arith)

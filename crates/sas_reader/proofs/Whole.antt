@@ -13,7 +13,6 @@ use Rattle.symk_task.specs.declared.parts.Rule.{Rule}
 use Rattle.symk_task.specs.declared.parts.TaskParts.{TaskParts}
 use Rattle.symk_task.specs.Variables.{range, width}
 use Rattle.symk_task.specs.Fits.{bits_of, AreFacts, FitsVariable, FitsOperator, FitsRule, Fits}
-use Rattle.symk_task.specs.declared.bits.TheConstants.{STATE_BITS}
 use Rattle.sas_reader.specs.declared.fault.Shape.{Shape}
 use Rattle.sas_reader.specs.declared.fault.Shape.TheVariants.{Blank}
 use Rattle.sas_reader.specs.Numbers.{is_blank}
@@ -38,15 +37,15 @@ derived_two : (layer : Option ℕ) (used n : ℕ) → may_have layer used n ≡ 
 derived_two None used n e = tt
 derived_two (Some layer) used n e = grind (arith, nat_tests)
 
-may_have_so : (layer : Option ℕ) (used n : ℕ) → 1 ≤ n → n ≤ 65536 → IfSome layer (λ _. n ≡ 2) → used + cond (is_none layer) (width n) 0 ≤ STATE_BITS → may_have layer used n ≡ true
+may_have_so : (layer : Option ℕ) (used n : ℕ) → 1 ≤ n → n ≤ 65536 → IfSome layer (λ _. n ≡ 2) → used + cond (is_none layer) (width n) 0 ≤ 65536 → may_have layer used n ≡ true
 may_have_so (Some layer) used n some most two bits = (let e : n ≡ 2 = two in grind (arith, nat_tests))
 may_have_so None used n some most two bits =
     let a : nat_le 1 n ≡ true = grind (arith, nat_tests) in
     let b : nat_le n 65536 ≡ true = grind (arith, nat_tests) in
-    let c : nat_le (used + width n) STATE_BITS ≡ true = grind (arith, nat_tests) in
+    let c : nat_le (used + width n) 65536 ≡ true = grind (arith, nat_tests) in
     rw (a, b, c) refl
 
-variable_fits : (used : ℕ) (v : Variable) → used ≤ STATE_BITS → VariableFits used v → FitsVariable v
+variable_fits : (used : ℕ) (v : Variable) → used ≤ 65536 → VariableFits used v → FitsVariable v
 variable_fits used v small f =
     let w = variable_within used v small f in
     let lines : All IsLine v.values = all_fit IsLine v.values f.1.1.1 in
@@ -56,17 +55,17 @@ variable_fits used v small f =
       range = record { some = w.0; most = w.1; derived = derived_two v.layer used (range v) f.1.1.0; layer_most = f.1.0 };
     }
 
-fits_variable : (used : ℕ) (v : Variable) → FitsVariable v → used + bits_of v ≤ STATE_BITS → VariableFits used v
+fits_variable : (used : ℕ) (v : Variable) → FitsVariable v → used + bits_of v ≤ 65536 → VariableFits used v
 fits_variable used v f bits = (f.name.line, (f.range.layer_most, (may_have_so v.layer used (range v) f.range.some f.range.most f.range.derived bits, fit_all IsLine v.values (λ k d lt. (f.values k d lt).line))))
 
-variables_fit : (used : ℕ) (vs : List Variable) → used ≤ STATE_BITS → FitFrom VariableFits used_after used vs → All FitsVariable vs × (used + sum_by bits_of vs ≤ STATE_BITS)
+variables_fit : (used : ℕ) (vs : List Variable) → used ≤ 65536 → FitFrom VariableFits used_after used vs → All FitsVariable vs × (used + sum_by bits_of vs ≤ 65536)
 variables_fit used [] small f = (All-nil FitsVariable, omega arith)
 variables_fit used (v ∷ vs) small f =
     let w = variable_within used v small f.0 in
     let rest = variables_fit (used_after used v) vs w.2 f.1 in
     (All-cons FitsVariable v vs (variable_fits used v small f.0) rest.0, omega (arith, sum_by-cons bits_of v vs, rest.1))
 
-fit_variables : (used : ℕ) (vs : List Variable) → All FitsVariable vs → used + sum_by bits_of vs ≤ STATE_BITS → FitFrom VariableFits used_after used vs
+fit_variables : (used : ℕ) (vs : List Variable) → All FitsVariable vs → used + sum_by bits_of vs ≤ 65536 → FitFrom VariableFits used_after used vs
 fit_variables used [] each sum = tt
 fit_variables used (v ∷ vs) each sum =
     let s = sum_by-cons bits_of v vs in

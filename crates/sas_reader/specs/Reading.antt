@@ -13,7 +13,6 @@ use Rattle.symk_task.specs.declared.parts.Rule.{Rule}
 use Rattle.symk_task.specs.declared.parts.TaskParts.{TaskParts}
 use Rattle.symk_task.specs.Variables.{range, width, is_base}
 use Rattle.symk_task.specs.Fits.{bits_of}
-use Rattle.symk_task.specs.declared.bits.TheConstants.{STATE_BITS}
 use Rattle.line_grammar.specs.Reading.{Reading, row_at, many_at, both_at, made_at, after_at, before_at, counted_at, whole_at}
 use Rattle.sas_reader.specs.Numbers.{is_blank, numbers_of, only_number, two_numbers, three_numbers}
 
@@ -50,7 +49,7 @@ layer_in line = option_and_then if_layer (option_and_then only_number (numbers_o
 -- a derived variable has two values; a base one so many that the bits of the state, with those used before it, are not too many
 abbrev pub may_have : Option ℕ → ℕ → ℕ → Bool
 may_have (Some layer) used n = n == 2
-may_have None used n = nat_le 1 n && nat_le n 65536 && nat_le (used + width n) STATE_BITS
+may_have None used n = nat_le 1 n && nat_le n 65536 && nat_le (used + width n) 65536
 
 abbrev pub in_range : List Variable → ℕ → ℕ → Bool
 in_range variables var val = option_map_or (λ v. nat_lt val (range v)) (slice_get variables var) false

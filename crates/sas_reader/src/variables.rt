@@ -4,7 +4,6 @@ ghost use Rattle.std.specs.Prelude.{◌≡◌, ◌≤◌, ◌+◌, ◌<◌};
 ghost use Rattle.line_grammar.specs.Reading.{Gives, row_at, many_at};
 ghost use Rattle.symk_task.specs.Variables.{width, range};
 ghost use Rattle.symk_task.specs.Fits.{bits_of};
-ghost use Rattle.symk_task.specs.declared.bits.TheConstants.{STATE_BITS};
 ghost use Rattle.sas_reader.specs.Reading.{name_at, kept, values_at, variable_at, variables_at, used_after, layer_in, may_have, number_that};
 ghost use Rattle.sas_reader.specs.declared.fault.Shape.TheVariants.{Layer, Range};
 
@@ -57,7 +56,7 @@ fn layer_of<'a>(lines: Rest<'a>) -> Result<(Option<u32>, Rest<'a>), Stopped<Shap
 
 /// A variable of this layer may have so many values, where so many bits are used before it.
 fn may_have(layer: Option<u32>, used: u64, values: u64) -> bool
-    requires { used ≤ STATE_BITS }
+    requires { used ≤ 65536 }
     ensures { result ≡ may_have layer used values }
 {
     match layer {
@@ -74,7 +73,7 @@ fn range_of<'a>(
     used: u64,
     lines: Rest<'a>,
 ) -> Result<(u64, Rest<'a>), Stopped<Shape>>
-    requires { used ≤ STATE_BITS }
+    requires { used ≤ 65536 }
     ensures { Gives (λ x. (x.0, x.1)) result (row_at Range (number_that (may_have layer used)) lines.entry) }
 {
     let left = lines.len();
@@ -118,7 +117,7 @@ fn values_of<'a>(
     used: u64,
     lines: Rest<'a>,
 ) -> Result<(List<Name>, Rest<'a>), Stopped<Shape>>
-    requires { used ≤ STATE_BITS }
+    requires { used ≤ 65536 }
     ensures { Gives (λ x. (x.0, x.1)) result (values_at layer used lines.entry) }
 {
     let (count, rest) = range_of(layer, used, lines)?;
@@ -132,7 +131,7 @@ fn variable_of<'a>(
     used: u64,
     lines: Rest<'a>,
 ) -> Result<(Variable, Rest<'a>), Stopped<Shape>>
-    requires { used ≤ STATE_BITS }
+    requires { used ≤ 65536 }
     ensures { Gives (λ x. (x.0, x.1)) result (variable_at used lines.entry) }
 {
     let rest = word_of(Shape::BeginVariable, b"begin_variable", lines)?;
@@ -153,7 +152,7 @@ fn variable_of<'a>(
 /// How many bits are used with the variable.
 fn used_after(used: u64, variable: &Variable) -> u64
     requires few { range variable.now ≤ 65536 }
-    requires fits { used + bits_of variable.now ≤ STATE_BITS }
+    requires fits { used + bits_of variable.now ≤ 65536 }
     ensures { result ≡ used_after used variable.now }
 {
     match variable.layer {

@@ -6,7 +6,6 @@ use Rattle.symk_task.specs.declared.parts.Effect.{Effect}
 use Rattle.symk_task.specs.declared.parts.Operator.{Operator}
 use Rattle.symk_task.specs.declared.parts.Rule.{Rule}
 use Rattle.symk_task.specs.declared.parts.TaskParts.{TaskParts}
-use Rattle.symk_task.specs.declared.bits.TheConstants.{STATE_BITS}
 use Rattle.symk_task.specs.Variables.{range, width, is_base, IsBase, HasLayer, other_value}
 
 -- A name is one line, so it has no LF.
@@ -42,7 +41,7 @@ pub record FitsVariable (v : Variable) : Type 0 where
   pub range : FitsRange v.layer (range v)
 
 abbrev pub FitsVariables : List Variable → Type 0
-FitsVariables variables = (length variables ≤ 65536) × All FitsVariable variables × (sum_by bits_of variables ≤ STATE_BITS)
+FitsVariables variables = (length variables ≤ 65536) × All FitsVariable variables × (sum_by bits_of variables ≤ 65536)
 
 abbrev pub FitsMutexes : List Variable → List (List Fact) → Type 0
 FitsMutexes variables groups = (length groups ≤ 1000000) × All (AreFacts variables) groups
@@ -83,7 +82,7 @@ pub record Fits (task : TaskParts) : Type 0 where
   pub metric : task.metric < 2
   pub variables : length task.variables ≤ 65536
   pub each_variable : All FitsVariable task.variables
-  pub bits : sum_by bits_of task.variables ≤ STATE_BITS
+  pub bits : sum_by bits_of task.variables ≤ 65536
   pub mutexes : length task.mutexes ≤ 1000000
   pub each_mutex : All (AreFacts task.variables) task.mutexes
   pub initial : length task.initial ≡ length task.variables

@@ -36,7 +36,7 @@ fn bits_of(variable: &Variable) -> u32
 
 /// Whether the values of a state take few enough bits.
 pub fn bits_fit(variables: &[Variable]) -> bool
-    ensures { IsTrue result ↔ (sum_by bits_of variables.now ≤ STATE_BITS) }
+    ensures { IsTrue result ↔ (sum_by bits_of variables.now ≤ 65536) }
 {
     let mut bits = 0;
     for variable in variables {

@@ -3,7 +3,6 @@ use Rattle.std.proofs.Common.{◌≡◌, ℕ, ◌+◌, ◌-◌, ◌<◌, ◌≤�
 use Rattle.std.proofs.lemmas.Bool.{cases_lt, cases_eq}
 use Rattle.std.proofs.lemmas.List.{get_or_append_left, get_or_push, get_or_past, length_push, get_or-append_right, get_or-replicate, length-replicate}
 use Rattle.std.proofs.lemmas.List.Sums.{sum_by_push}
-use Rattle.symk_task.specs.declared.bits.TheConstants.{STATE_BITS}
 use Rattle.symk_task.specs.Variables.{width}
 use Rattle.var_order.specs.declared.block.Block.{Block}
 use Rattle.var_order.specs.Layout.{Layout, IsLayout, IsSized, IsInside, no_block, slot_of, block_at, owner_at, bits}
@@ -129,7 +128,7 @@ used_more o n l slot lt = elim (cases_lt slot (length o.blocks)) [
       let e : length o.blocks ≡ slot = omega (arith, late, lt, more) in (length o.slots, get_or_push o.slots (Some (length o.blocks)) None (length o.slots) refl ∙ ap (λ (x : ℕ). Some x) e))
 ]
 
-pub layout_base : (o : Layout) (n : ℕ) → IsLayout o → 1 ≤ n → n ≤ 65536 → bits o + width n ≤ STATE_BITS → IsLayout (with_base o n)
+pub layout_base : (o : Layout) (n : ℕ) → IsLayout o → 1 ≤ n → n ≤ 65536 → bits o + width n ≤ 65536 → IsLayout (with_base o n)
 layout_base o n l some most fits =
     let block : Block = record { first = length o.owners; width = width n; values = n } in
     let all = length-append o.owners (replicate (width n) (length o.blocks)) in

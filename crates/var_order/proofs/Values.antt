@@ -6,7 +6,6 @@ use Rattle.std.specs.Option.{option_map_or, is_some}
 use Rattle.std.proofs.lemmas.Bool.{true≢false}
 use Rattle.std.proofs.lemmas.List.{get_or_read}
 use Rattle.std.proofs.lemmas.Nat.Bits.{shr_and_one}
-use Rattle.symk_task.specs.declared.bits.TheConstants.{STATE_BITS}
 use Rattle.symk_task.specs.declared.parts.Variable.{Variable}
 use Rattle.symk_task.specs.declared.parts.TaskParts.{TaskParts}
 use Rattle.symk_task.specs.Variables.{IsBase, range, width, place}
@@ -76,7 +75,7 @@ pub record Reads (o : Layout) (place slot : ℕ) (block : Block) : Type 0 where
   pub from : block.first ≤ place
   pub before : place < block.first + block.width
   pub narrow : block.width ≤ 16
-  pub below : place < STATE_BITS
+  pub below : place < 65536
 
 pub reads : (o : Layout) (place slot : ℕ) (block : Block) → IsLayout o → place < bits o → slot ≡ get_or o.owners place slot → block ≡ get_or o.blocks slot block → Reads o place slot block
 reads o place slot block l lt is_slot is_block =

@@ -3,7 +3,6 @@ use Rattle.std.specs.Prelude.{◌≡◌, ℕ, ◌+◌, ◌*◌, ◌<◌, ◌≤�
 use Rattle.std.specs.Option.{option_map_or}
 use Rattle.symk_task.specs.declared.parts.Variable.{Variable}
 use Rattle.symk_task.specs.declared.parts.TaskParts.{TaskParts}
-use Rattle.symk_task.specs.declared.bits.TheConstants.{STATE_BITS}
 use Rattle.symk_task.specs.Variables.{is_base, range, width, place}
 use Rattle.symk_task.specs.Fits.{bits_of}
 use Rattle.var_order.specs.declared.block.Block.{Block}
@@ -65,7 +64,7 @@ pub record IsInside (block : Block) (place : ℕ) : Type 0 where
 -- Blocks share no place and leave none out, and each is that of one variable.
 pub record IsLayout (o : Layout) : Type 0 where
   pub sum : bits o ≡ sum_by (λ (block : Block). block.width) o.blocks
-  pub most : bits o ≤ STATE_BITS
+  pub most : bits o ≤ 65536
   pub sized : (slot : ℕ) → slot < length o.blocks → IsSized (block_at o slot)
   pub owned : (slot place : ℕ) → IsInside (block_at o slot) place → (place < bits o) × (owner_at o place ≡ slot)
   pub inside : (place : ℕ) → place < bits o → (owner_at o place < length o.blocks) × IsInside (block_at o (owner_at o place)) place

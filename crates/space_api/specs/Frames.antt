@@ -30,7 +30,7 @@ pub record MakesSet {Set : Type 0} (v w : View Set) (P : State → Type 0) (resu
   pub last : w.last ≡ v.last
   pub task : w.task ≡ v.task
 
--- a is no longer valid, and all else stays
+-- a is no longer valid, and all else stays; nothing is collected
 pub record Forgot {Set : Type 0} (v w : View Set) (a : Set) : Type 0 where
   pub task : w.task ≡ v.task
   pub system : w.system ≡ v.system
@@ -38,6 +38,7 @@ pub record Forgot {Set : Type 0} (v w : View Set) (a : Set) : Type 0 where
   pub valid : (b : Set) → Valid v b → b ≢ a → Valid w b
   pub only : (b : Set) → Valid w b → Valid v b
   pub same : (b : Set) → Valid w b → (s : State) → w.has b s ≡ v.has b s
+  pub held : w.held ≡ v.held
   pub last : w.last ≡ v.last
 
 -- the same sets are valid, and each has the same states

@@ -101,7 +101,7 @@ pub trait Space {
         requires op { op < (view self.old).system.operators }
         ensures { MakesSet (view self.old) (view self.new) (Preimage (view self.old) op a within) result };
 
-    /// Gives a set back. It takes no memory.
+    /// Gives a set back. It takes no memory and collects nothing.
     fn forget(&mut self, a: Self::Set)
         requires { Valid (view self.old) a }
         ensures { Forgot (view self.old) (view self.new) a };

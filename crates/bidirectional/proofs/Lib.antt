@@ -1,3 +1,4 @@
+pub mod Below
 pub mod Pairs
 pub mod Moving
 pub mod Above

@@ -1,11 +1,14 @@
 //! Rows.
 
-ghost use Rattle.std.specs.Prelude.{◌≡◌, IsTrue};
+ghost use Rattle.std.specs.Prelude.{◌≡◌, ◌↔◌, All, IsTrue};
 ghost use Rattle.symk_task.specs.Variables.{IsBase};
+ghost use Rattle.space_api.specs.View.{Valid};
+ghost use Rattle.space_api.specs.Frames.{Kept};
+ghost use Rattle.mutex_use.specs.Groups.{AreBase, IsBaseGroup};
 
 use bdd_space::BddSpace;
 use explicit_space::{ExplicitSpace, FuseSpace};
-use mutex_use::{inductive_groups, within};
+use mutex_use::{inductive_groups, keeping, within};
 use sas_reader::{ReadFault, read_task};
 use space_api::{Space, SpaceFault};
 use std::alloc::{AllocError, Global};
@@ -70,11 +73,11 @@ fn groups_that_hold_are_found_and_no_others(rt: HostRuntime) -> Result<(), Fail>
     Ok(())
 }
 
-/// Whether the first variable is there and has no layer.
-fn begins_with_base(task: &Task) -> bool
-    ensures { IsTrue result → IsBase task.now 0 }
+/// Whether the variable is there and has no layer.
+fn is_base(task: &Task, var: u32) -> bool
+    ensures { IsTrue result ↔ IsBase task.now var }
 {
-    match task.parts().variables.as_slice().first() {
+    match task.parts().variables.as_slice().get(var as usize) {
         Some(variable) => variable.layer.is_none(),
         None => false,
     }
@@ -98,7 +101,7 @@ fn splits_by_a_fact<S: Space + Drop>(space: S) -> Result<bool, SpaceFault>
 
 /// Whether each space splits its states by the first variable, where that isn't derived.
 fn both_split_by_a_fact(alloc: Global, task: &Task) -> Result<bool, SpaceFault> {
-    if !begins_with_base(task) {
+    if !is_base(task, 0) {
         return Ok(false);
     }
     Ok(
@@ -145,6 +148,103 @@ fn the_states_of_a_plan_are_those_that_keep_the_groups(rt: HostRuntime) -> Resul
     let alloc = rt.alloc();
     let task = task_of(&rt, alloc, MOVED)?;
     assert!(rt; each_keeps_both(&rt, alloc, &task)?);
+    Ok(())
+}
+
+/// Whether each fact is one of a base variable.
+fn are_base(task: &Task, facts: &[Fact]) -> bool
+    ensures { IsTrue result ↔ AreBase task.now facts.now }
+{
+    facts.iter().all(|fact| is_base(task, fact.var))
+}
+
+/// Whether the group is there, over base variables alone.
+fn is_base_group(task: &Task, group: u32) -> bool
+    ensures { IsTrue result → IsBaseGroup task.now group }
+{
+    let groups = task.parts().mutexes.as_slice();
+    if group as usize >= groups.len() {
+        return false;
+    }
+    are_base(task, groups[group as usize].as_slice())
+}
+
+/// Whether each group is there, over base variables alone.
+fn are_base_groups(task: &Task, groups: &[u32]) -> bool
+    ensures { IsTrue result → All (IsBaseGroup task.now) groups.now }
+{
+    groups.iter().all(|group| is_base_group(task, *group))
+}
+
+/// Whether the states that keep the groups, which are over base variables alone, are those of the set.
+fn are_kept_by<S: Space>(
+    alloc: Global,
+    space: &mut S,
+    task: &Task,
+    groups: &[u32],
+    set: S::Set,
+) -> Result<bool, SpaceFault>
+    requires task { (S.view space.old).task ≡ task.now }
+    requires set { Valid (S.view space.old) set }
+    ensures task { (S.view space.new).task ≡ task.now }
+    ensures kept { Kept (S.view space.old) (S.view space.new) }
+{
+    if !are_base_groups(task, groups) {
+        return Ok(false);
+    }
+    let kept = keeping(alloc, space, task, groups)?;
+    Ok(space.same(kept, set))
+}
+
+/// Whether no groups keep all states, the first two the initial one and the one to which the operator leads, and the
+/// third, which fails at the start, all but the initial one.
+fn keeps_by_groups<S: Space>(
+    rt: &impl Abort,
+    alloc: Global,
+    space: &mut S,
+    task: &Task,
+) -> Result<bool, SpaceFault>
+    requires { (S.view space.old).task ≡ task.now }
+{
+    let all = space.all()?;
+    let init = space.init()?;
+    assert!(rt; space.operators() > 0);
+    let moved = space.image_op(0, init)?;
+    let both = space.unite(init, moved)?;
+    let others = space.minus(all, init)?;
+    let none_keep = are_kept_by(alloc, space, task, &[], all)?;
+    let two_keep = are_kept_by(alloc, space, task, &[0, 1], both)?;
+    let third_keeps = are_kept_by(alloc, space, task, &[2], others)?;
+    Ok(none_keep && two_keep && third_keeps)
+}
+
+/// Whether they do over this space.
+fn is_kept_over<S: Space + Drop>(
+    rt: &impl Abort,
+    alloc: Global,
+    space: S,
+    task: &Task,
+) -> Result<bool, SpaceFault>
+    requires { (S.view space).task ≡ task.now }
+{
+    let mut space = space;
+    keeps_by_groups(rt, alloc, &mut space, task)
+}
+
+/// Whether they do over each space.
+fn is_kept_over_both(rt: &impl Abort, alloc: Global, task: &Task) -> Result<bool, SpaceFault> {
+    let by_states = is_kept_over(rt, alloc, ExplicitSpace::of(alloc, task)?, task)?;
+    let by_diagrams = is_kept_over(rt, alloc, BddSpace::of(alloc, task)?, task)?;
+    Ok(by_states && by_diagrams)
+}
+
+#[test]
+fn groups_that_are_handed_over_are_kept_whether_they_hold_or_not(
+    rt: HostRuntime,
+) -> Result<(), Fail> {
+    let alloc = rt.alloc();
+    let task = task_of(&rt, alloc, MOVED)?;
+    assert!(rt; is_kept_over_both(&rt, alloc, &task)?);
     Ok(())
 }
 

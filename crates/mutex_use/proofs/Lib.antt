@@ -3,6 +3,7 @@ pub mod Holding
 pub mod Noting
 pub mod Keying
 pub mod Counting
+pub mod Balancing
 pub mod Stable
 pub mod Leaving
 pub mod Narrowing

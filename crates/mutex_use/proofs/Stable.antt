@@ -1,15 +1,11 @@
 -- When a group stands, told by calls of a space.
-use Rattle.std.proofs.Common.{◌≡◌, ◌≢◌, ℕ, ◌+◌, ◌<◌, ◌⊎◌, ◌↔◌, inl, inr, Bool, false, IsTrue, IsFalse, List, ◌∷◌, length, get_or, take, Option, Some, None, IsSomeAnd, slice_get, refl, sym, ◌∙◌, ap, subst, arith}
+use Rattle.std.proofs.Common.{◌≡◌, ◌≢◌, ℕ, ◌+◌, ◌<◌, ◌⊎◌, ◌↔◌, inl, inr, Bool, false, IsTrue, IsFalse, List, length, get_or, take, sym, ◌∙◌, ap, subst}
 use Rattle.std.specs.List.{Contains}
 use Rattle.std.proofs.lemmas.Bool.{cases_eq}
-use Rattle.std.proofs.lemmas.Option.{slice_get_within}
-use Rattle.std.proofs.lemmas.List.Elements.{All-contains, Contains-append_right}
 use Rattle.symk_task.specs.declared.parts.Fact.{Fact}
-use Rattle.symk_task.specs.declared.parts.Effect.{Effect}
-use Rattle.symk_task.specs.declared.parts.Operator.{Operator}
 use Rattle.symk_task.specs.declared.parts.TaskParts.{TaskParts}
-use Rattle.symk_task.specs.Variables.{IsBase, IsState, place}
-use Rattle.symk_task.specs.Steps.{Holds, Fires, ValueAfter, Step}
+use Rattle.symk_task.specs.Variables.{IsState}
+use Rattle.symk_task.specs.Steps.{Step}
 use Rattle.symk_task.specs.Fits.{Fits}
 use Rattle.symk_task.specs.Plans.{IsInitial}
 use Rattle.symk_task.proofs.Running.{step_state}
@@ -19,14 +15,13 @@ use Rattle.task_system.specs.Computed.{system_of}
 use Rattle.task_system.proofs.RunsLaw.{leads_law}
 use Rattle.space_api.specs.View.{View, Valid, Has, Preimage}
 use Rattle.space_api.specs.Frames.{Kept, Gives}
-use Rattle.space_api.proofs.Facts.{base_holds}
 use Rattle.space_api.proofs.Trading.{valid_clash}
-use Rattle.mutex_use.specs.Groups.{group_at, HasAtMostOne, Keeps, AreBase, IsBaseGroup}
+use Rattle.mutex_use.specs.Groups.{group_at, HasAtMostOne, Keeps, IsBaseGroup}
 use Rattle.mutex_use.specs.Counts.{HasTwo}
 use Rattle.mutex_use.specs.Rounds.{StandsFrom}
 use Rattle.mutex_use.specs.Sets.{HasAll, IsSafe}
-use Rattle.mutex_use.specs.Writers.{Touches, HaveTouching}
-use Rattle.mutex_use.proofs.Lists.{told, more, in_list}
+use Rattle.mutex_use.specs.Balance.{HaveBreaking}
+use Rattle.mutex_use.proofs.Lists.{told, more}
 
 -- At most one fact holds where no two different ones do.
 
@@ -42,37 +37,11 @@ at_most_one task facts s n f h cf ch hf hh = elim (same_fact f h) [ inl e ↦ e 
 pub not_two : (task : TaskParts) (facts : List Fact) (s : State) → HasAtMostOne task facts s → ¬ HasTwo task facts s
 not_two task facts s most (f, h, cf, ch, ne, hf, hh) = ne (most f h cf ch hf hh)
 
--- An operator that has no effect on a variable leaves its value.
-
-module _ (task : TaskParts) (facts : List Fact) (s t : State) (a : ℕ) (base : AreBase task facts) (step : Step task s a t) (idle : ¬ Touches task a facts) where
-  value_stays : (f : Fact) → Contains facts f → get_or t (place task f.var) 0 ≡ get_or s (place task f.var) 0
-  value_stays f has = by (slice_get task.operators a) refl step.1.values
-    where
-      by : (o : Option Operator) → slice_get task.operators a ≡ o
-          → IsSomeAnd o (λ operator. (var : ℕ) → IsBase task var → ValueAfter (Fires task s) operator.effects var (get_or s (place task var) 0) (get_or t (place task var) 0))
-          → get_or t (place task f.var) 0 ≡ get_or s (place task f.var) 0
-      by None is h = absurd h
-      by (Some operator) is h = elim (h f.var (All-contains (λ (z : Fact). IsBase task z.var) facts f base has)) [
-        | inl (last, on, e) ↦ absurd (idle (f, has, (operator, last, is, subst (λ (z : List Effect). Contains z last) (sym on.here) (Contains-append_right on.before (last ∷ on.later) last (0, omega arith, refl)), on.on)))
-        | inr x ↦ x.1
-      ]
-
-  holds_before : (f : Fact) → Contains facts f → Holds task t f → Holds task s f
-  holds_before f has h =
-      let is = All-contains (λ (z : Fact). IsBase task z.var) facts f base has in
-      (base_holds task s f is).1 (sym (value_stays f has) ∙ (base_holds task t f is).0 h)
-
-  pub idle_keeps : HasAtMostOne task facts s → HasAtMostOne task facts t
-  idle_keeps most f h cf ch hf hh = most f h cf ch (holds_before f cf hf) (holds_before h ch hh)
-
--- The initial state and the operators that touch the group are looked at.
+-- The initial state and the operators that may break the group are looked at.
 
 module _ {Set : Type 0} (task : TaskParts) (v w : View Set) (g : ℕ) (facts : List Fact) (operators : List ℕ) (all kept broken : Set) (fits : Fits task) (is : v.task ≡ task) (system : v.system ≡ system_of v.task)
-    (same : facts ≡ group_at task g) (base : IsBaseGroup task g) (touching : HaveTouching task facts operators) (every : HasAll v all) (keeps : (s : State) → Has v kept s → IsState task s × Keeps task s g)
+    (same : facts ≡ group_at task g) (base : IsBaseGroup task g) (breaking : HaveBreaking task facts operators) (every : HasAll v all) (keeps : (s : State) → Has v kept s → IsState task s × Keeps task s g)
     (valid : Valid v kept) (k : Kept v w) (gives : Gives v w (λ s. Has v all s × HasTwo v.task facts s) broken) where
-  are_base : AreBase task facts
-  are_base = subst (AreBase task) (sym same) base.1
-
   system_is : w.system ≡ system_of task
   system_is = k.system ∙ system ∙ ap system_of is
 
@@ -95,17 +64,16 @@ module _ {Set : Type 0} (task : TaskParts) (v w : View Set) (g : ℕ) (facts : L
   start = subst (λ (y : System). IsInitial task y.initial) (sym system_is) (start_law task fits)
 
   steps_from : IsSafe w operators kept broken → (s t : State) (a : ℕ) → IsState task s → Has v kept s → Step task s a t → Keeps task t g
-  steps_from safe s t a state from step = elim (in_list operators a) [
-    | inl has ↦ outside t (step_state task s a t fits state step) (safe.steps a s t has (k.same kept valid s ∙ from) leads)
-    | inr not ↦ subst (λ (z : List Fact). HasAtMostOne task z t) same
-        (idle_keeps task facts s t a are_base step (λ touches. not (touching.all a (number touches) touches)) (subst (λ (z : List Fact). HasAtMostOne task z s) (sym same) (keeps s from).1))
+  steps_from safe s t a state from step = elim (told (w.has broken t)) [
+    | inl m ↦ absurd (valid_clash m (safe.steps a s t (breaking.all a s t most step (λ k. not_two task facts t k (broken_has t m))) (k.same kept valid s ∙ from) leads))
+    | inr out ↦ outside t (step_state task s a t fits state step) out
   ]
     where
+      most : HasAtMostOne task facts s
+      most = subst (λ (z : List Fact). HasAtMostOne task z s) (sym same) (keeps s from).1
+
       leads : Leads w.system a s t
       leads = subst (λ (y : System). Leads y a s t) (sym system_is) ((leads_law task s a t fits state).1 step)
-
-      number : Touches task a facts → a < length task.operators
-      number touches = (let writes = touches.2 in slice_get_within task.operators a writes.0 writes.2)
 
   pub safe_stands : IsSafe w operators kept broken → StandsFrom task (Has v kept) g
   safe_stands safe = record {

@@ -10,6 +10,7 @@
 //! `run_graph` for what a useful state is.
 #![tactic(auto)]
 
+mod balance;
 mod counts;
 mod groups;
 mod keepers;

@@ -12,10 +12,11 @@ ghost use Rattle.mutex_use.specs.Rounds.{StandsFrom, IsRound, AreLeft};
 ghost use Rattle.mutex_use.specs.Sets.{HasAll, IsSafe, KeepsGreatest, Reaches};
 ghost use Rattle.mutex_use.specs.Writers.{AreWriters};
 
+use crate::balance::breaking_operators;
 use crate::counts::breaking;
 use crate::groups::{base_groups, facts_of};
 use crate::keepers::{keep_each, keeping};
-use crate::writers::{touching, writers_of};
+use crate::writers::writers_of;
 use space_api::{Space, SpaceFault};
 use std::alloc::Global;
 use symk_task::{List, Task};
@@ -81,8 +82,8 @@ fn is_safe<S: Space>(
 /// Whether the group stands: the initial state keeps it, and no operator leads from a state of `kept` to one that
 /// doesn't.
 ///
-/// An operator that has no effect on a variable of the group is not tried: it leads from a state that keeps the group
-/// to one that does.
+/// An operator that has no effect on a variable of the group, or is balanced, is not tried: it leads from a state that
+/// keeps the group to one that does.
 fn stands<S: Space>(
     alloc: Global,
     space: &mut S,
@@ -103,7 +104,7 @@ fn stands<S: Space>(
     ensures ok { IfOk result (λ r. IsTrue r ↔ StandsFrom task.now (Has (S.view space.old) kept) group) }
     ensures task { (S.view space.new).task ≡ (S.view space.old).task }
 {
-    let operators = touching(alloc, task, writers, group)?;
+    let operators = breaking_operators(alloc, task, writers, group)?;
     let broken = breaking(alloc, space, all, facts_of(task, group))?;
     let stands = is_safe(space, &operators, kept, broken);
     space.forget(broken);
@@ -204,7 +205,8 @@ fn greatest<S: Space>(
 /// state that keeps all of them to one that does. The numbers count from 0 in the order of the file. Want of memory is
 /// the one refusal. The valid sets are those from before.
 ///
-/// Invariants by throwing out what fails, until nothing does: Rintanen 2000. Mutex groups: Helmert 2009.
+/// Invariants by throwing out what fails, until nothing does: Rintanen 2000. Mutex groups, and balanced operators:
+/// Helmert 2009.
 pub fn inductive_groups<S: Space>(
     alloc: Global,
     space: &mut S,

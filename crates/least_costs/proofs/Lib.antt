@@ -1,0 +1,5 @@
+pub mod Settling
+pub mod Leading
+pub mod Counting
+pub mod Ending
+pub mod Standing

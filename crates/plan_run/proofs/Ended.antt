@@ -13,7 +13,7 @@ use Rattle.plan_out.specs.declared.end.End.TheVariants as end
 use Rattle.plan_out.specs.Texts.{block, end_line}
 use Rattle.run_status.specs.Sent.{TookPiece, TookFront}
 use Rattle.run_status.specs.Ends.{Ends, Puts}
-use Rattle.plan_run.specs.Earlier.{Misses}
+use Rattle.plan_run.specs.Missed.{Misses}
 use Rattle.plan_run.specs.Lists.{Aim, aim_after, OrPart, IsEndOf, all_end, asked, end_status, gap_text}
 use Rattle.plan_run.specs.declared.options.Wanted.{Wanted}
 use Rattle.plan_run.specs.declared.earlier.Earlier.{Earlier}

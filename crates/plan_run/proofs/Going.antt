@@ -20,7 +20,8 @@ use Rattle.lazy_plans.specs.Rest.{Rest, IsGood, EndsBy}
 use Rattle.lazy_plans.specs.declared.stop.Stop.TheVariants.{CostRange}
 use Rattle.lazy_plans.proofs.ListLaw.{right_up_to, right_all, exhausted}
 use Rattle.plan_run.specs.declared.earlier.Earlier.{Earlier}
-use Rattle.plan_run.specs.Earlier.{IsEarlier, Misses, last_cost}
+use Rattle.plan_run.specs.Earlier.{IsEarlier, last_cost}
+use Rattle.plan_run.specs.Missed.{Misses}
 use Rattle.plan_run.specs.Listable.{IsListable}
 use Rattle.plan_run.proofs.Given.{IsGiven, IsHeld, none_within, plan_operators, given_more}
 

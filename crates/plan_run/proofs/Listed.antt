@@ -6,7 +6,7 @@ use Rattle.symk_task.specs.declared.parts.TaskParts.{TaskParts}
 use Rattle.plan_out.specs.declared.end.End.{End}
 use Rattle.plan_out.specs.declared.end.End.TheVariants as end
 use Rattle.plan_out.specs.Texts.{block, end_line}
-use Rattle.plan_run.specs.Earlier.{Misses}
+use Rattle.plan_run.specs.Missed.{Misses}
 use Rattle.run_status.specs.Sent.{Sent, nothing, Took, TookPiece, TookFront, IsFront}
 use Rattle.run_status.specs.Ends.{Ends, FrontOf, Puts}
 use Rattle.plan_run.specs.Lists.{Aim, blocks_from, list_pieces, IsListOf, IsEndOf, end_status, gap_text, Listing, MayCome, PartListing, OrPart}

@@ -1,5 +1,6 @@
 pub mod Listable
 pub mod Earlier
+pub mod Missed
 pub mod Lists
 pub mod Reaches
 pub mod Engines

@@ -7,7 +7,7 @@ use Rattle.symk_task.specs.Plans.{IsPlanOf, IsListed, IsRight, AllListed, AllInR
 use Rattle.plan_out.specs.declared.end.End.{End}
 use Rattle.plan_out.specs.declared.end.End.TheVariants as end
 use Rattle.plan_out.specs.Texts.{block, end_line}
-use Rattle.plan_run.specs.Earlier.{Misses}
+use Rattle.plan_run.specs.Missed.{Misses}
 use Rattle.run_status.specs.Ends.{FrontOf}
 use Rattle.run_status.specs.Sent.{Sent, IsWhole, IsFront}
 use Rattle.plan_run.specs.Listable.{IsListable}

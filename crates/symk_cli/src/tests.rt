@@ -14,6 +14,8 @@ mod mutexes;
 mod plans;
 mod refusals;
 mod rows;
+mod searches;
+mod texts;
 mod words;
 
 use crate::{Status, run};

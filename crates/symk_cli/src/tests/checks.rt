@@ -1,9 +1,14 @@
 //! Lists of plans that are checked, and demonstrations.
 
+use super::faults::LISTED;
 use super::files::*;
 use super::rows::{ask, ask_check, holds};
 use crate::Status;
 use std::test::Fail;
+
+// Three plans, of which the first two are exchanged.
+pub const EXCHANGED: &[u8] =
+    b"; plan 1\n; ops 0 1 0\n(switch-on)\n(switch-off)\n(switch-on)\n; cost = 3 (unit cost)\n; plan 2\n; ops 0\n(switch-on)\n; cost = 1 (unit cost)\n; plan 3\n; ops 0 1 0 1 0\n(switch-on)\n(switch-off)\n(switch-on)\n(switch-off)\n(switch-on)\n; cost = 5 (unit cost)\n; reached 3\n";
 
 #[test]
 fn checks_lists(rt: HostRuntime) -> Result<(), Fail> {
@@ -11,21 +16,21 @@ fn checks_lists(rt: HostRuntime) -> Result<(), Fail> {
         ask_check(
             "check FILE PLANS",
             SWITCH_AND_BACK,
-            b"; plan 1\n; ops 0\n(switch-on)\n; cost = 1 (unit cost)\n; plan 2\n; ops 0 1 0\n(switch-on)\n(switch-off)\n(switch-on)\n; cost = 3 (unit cost)\n; plan 3\n; ops 0 1 0 1 0\n(switch-on)\n(switch-off)\n(switch-on)\n(switch-off)\n(switch-on)\n; cost = 5 (unit cost)\n; reached 3\n",
+            LISTED,
             Status::Good,
             b"good 3\n",
         ),
         ask_check(
             "check FILE PLANS",
             SWITCH_AND_BACK,
-            b"; plan 1\n; ops 0 1 0\n(switch-on)\n(switch-off)\n(switch-on)\n; cost = 3 (unit cost)\n; plan 2\n; ops 0\n(switch-on)\n; cost = 1 (unit cost)\n; plan 3\n; ops 0 1 0 1 0\n(switch-on)\n(switch-off)\n(switch-on)\n(switch-off)\n(switch-on)\n; cost = 5 (unit cost)\n; reached 3\n",
+            EXCHANGED,
             Status::BadList,
             b"bad plan 2: cheaper than plan 1\n",
         ),
         ask_check(
             "check FILE PLANS --mode loopless",
             SWITCH_AND_BACK,
-            b"; plan 1\n; ops 0\n(switch-on)\n; cost = 1 (unit cost)\n; plan 2\n; ops 0 1 0\n(switch-on)\n(switch-off)\n(switch-on)\n; cost = 3 (unit cost)\n; plan 3\n; ops 0 1 0 1 0\n(switch-on)\n(switch-off)\n(switch-on)\n(switch-off)\n(switch-on)\n; cost = 5 (unit cost)\n; reached 3\n",
+            LISTED,
             Status::BadList,
             b"bad plan 2: loops at step 2\n",
         ),

@@ -1,8 +1,9 @@
 //! Texts that are cut after each line.
 
+use super::World;
 use super::faults::LISTED;
 use super::files::*;
-use super::{World, answer};
+use super::rows::gives;
 use crate::Status;
 use std::test::Fail;
 
@@ -48,9 +49,16 @@ fn names_the_line_where_a_file_is_cut(rt: HostRuntime) -> Result<(), Fail> {
         .split_inclusive(|byte| *byte == b'\n')
         .zip(WANTED)
     {
-        let given = answer(rt.alloc(), &World::of(&front, b""), "plan FILE --k 3")?;
-        assert!(&rt; given.status == Status::Offending, "{wanted}");
-        assert!(&rt; given.bytes.as_slice() == wanted.as_bytes(), "{wanted}");
+        let world = World::of(&front, b"");
+        let wanted = wanted.as_bytes();
+        gives(
+            &rt,
+            rt.alloc(),
+            &world,
+            "plan FILE --k 3",
+            Status::Offending,
+            wanted,
+        )?;
         front.extend_from_slice(line)?;
     }
     Ok(())
@@ -84,14 +92,13 @@ fn judges_a_list_where_it_is_cut(rt: HostRuntime) -> Result<(), Fail> {
     let mut front = Vec::new(rt.alloc());
     for (line, verdict) in LISTED.split_inclusive(|byte| *byte == b'\n').zip(VERDICTS) {
         let world = World::of(SWITCH_AND_BACK, &front);
-        let given = answer(rt.alloc(), &world, "check FILE PLANS")?;
         let status = if verdict.starts_with("good") {
             Status::Good
         } else {
             Status::Offending
         };
-        assert!(&rt; given.status == status, "{verdict}");
-        assert!(&rt; given.bytes.as_slice() == verdict.as_bytes(), "{verdict}");
+        let verdict = verdict.as_bytes();
+        gives(&rt, rt.alloc(), &world, "check FILE PLANS", status, verdict)?;
         front.extend_from_slice(line)?;
     }
     Ok(())

@@ -1,5 +1,6 @@
 //! Lists that go on from an earlier one.
 
+use super::checks::EXCHANGED;
 use super::files::*;
 use super::rows::{ask_check, holds};
 use crate::Status;
@@ -78,7 +79,7 @@ fn goes_on_from_a_list(rt: HostRuntime) -> Result<(), Fail> {
     holds(&rt, rt.alloc(), &rows)
 }
 
-const FIRST_AND_END: &[u8] =
+pub const FIRST_AND_END: &[u8] =
     b"; plan 1\n; ops 0\n(switch-on)\n; cost = 1 (unit cost)\n; exhausted 1\n";
 
 #[test]
@@ -94,7 +95,7 @@ fn refuses_an_earlier_list(rt: HostRuntime) -> Result<(), Fail> {
         ask_check(
             "plan FILE --k 1 --after PLANS",
             SWITCH_AND_BACK,
-            b"; plan 1\n; ops 0 1 0\n(switch-on)\n(switch-off)\n(switch-on)\n; cost = 3 (unit cost)\n; plan 2\n; ops 0\n(switch-on)\n; cost = 1 (unit cost)\n",
+            EXCHANGED,
             Status::BadList,
             b"bad plan 2: cheaper than plan 1\n",
         ),

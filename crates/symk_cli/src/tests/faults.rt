@@ -71,7 +71,7 @@ fn stops_at_each_call_of_the_files(rt: HostRuntime) -> Result<(), Fail> {
     ];
     for (words, call, text) in rows {
         let failing = [call];
-        let mut world = World::of(ONE_SWITCH, LISTED);
+        let mut world = World::of(SWITCH_AND_BACK, LISTED);
         world.failing_files = &failing;
         let given = answer(rt.alloc(), &world, words)?;
         assert!(&rt; given.status == Status::Unreadable, "{words}: call {call}");

@@ -106,12 +106,6 @@ fn plans_in_order(rt: HostRuntime) -> Result<(), Fail> {
             Status::Exhausted,
             b"; plan 1\n; ops 0\n(big)\n; cost = 18446744073709551615 (general cost)\n; exhausted 1\n",
         ),
-        ask(
-            "plan FILE --k 007",
-            ONE_SWITCH,
-            Status::Exhausted,
-            b"; plan 1\n; ops 0\n(switch-on)\n; cost = 1 (unit cost)\n; exhausted 1\n",
-        ),
     ];
     holds(&rt, rt.alloc(), &rows)
 }

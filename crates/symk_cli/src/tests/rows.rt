@@ -58,18 +58,42 @@ pub fn ask_check<'a>(
     }
 }
 
+/// The words are answered over these files by the status and the text.
+pub fn gives(
+    rt: &impl Abort,
+    alloc: Global,
+    world: &World,
+    words: &str,
+    status: Status,
+    text: &[u8],
+) -> Result<(), Fail> {
+    gives_either(rt, alloc, world, words, status, text, text)
+}
+
+// The words are answered over these files by the status and one of the texts.
+fn gives_either(
+    rt: &impl Abort,
+    alloc: Global,
+    world: &World,
+    words: &str,
+    status: Status,
+    text: &[u8],
+    other: &[u8],
+) -> Result<(), Fail> {
+    let given = answer(alloc, world, words)?;
+    let bytes = given.bytes.as_slice();
+    assert!(rt; given.status == status, "{words}: {:?}", given.status);
+    assert!(rt; text == bytes || other == bytes, "{words}: {bytes:?}");
+    Ok(())
+}
+
 /// Each request is answered by its status and one of its texts.
 pub fn holds(rt: &impl Abort, alloc: Global, rows: &[Row]) -> Result<(), Fail> {
     for row in rows {
-        let words = row.words;
         let world = World::of(row.file, row.plans);
-        let given = answer(alloc, &world, words)?;
-        let bytes = given.bytes.as_slice();
-        assert!(rt; given.status == row.status, "{words}: {:?}", given.status);
-        assert!(rt;
-            row.text == bytes || row.other == bytes,
-            "{words}: {bytes:?}"
-        );
+        gives_either(
+            rt, alloc, &world, row.words, row.status, row.text, row.other,
+        )?;
     }
     Ok(())
 }

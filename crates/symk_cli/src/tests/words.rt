@@ -1,8 +1,8 @@
 //! Words that are taken, and words that are answered by the usage text.
 
+use super::World;
 use super::files::*;
-use super::rows::{ask, holds};
-use super::{World, answer};
+use super::rows::{ask, gives, holds};
 use crate::Status;
 use crate::top::USAGE;
 use std::test::Fail;
@@ -81,9 +81,8 @@ fn refuses_words(rt: HostRuntime) -> Result<(), Fail> {
         "plan OTHER --k 0",
     ];
     for words in refused {
-        let given = answer(rt.alloc(), &World::of(ONE_SWITCH, b""), words)?;
-        assert!(&rt; given.status == Status::Usage, "{words}");
-        assert!(&rt; given.bytes.as_slice() == USAGE, "{words}");
+        let world = World::of(ONE_SWITCH, b"");
+        gives(&rt, rt.alloc(), &world, words, Status::Usage, USAGE)?;
     }
     Ok(())
 }

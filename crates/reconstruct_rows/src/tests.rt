@@ -1,7 +1,9 @@
 //! Rows.
 
 use lazy_plans::Stop;
-use plan_listing::{CHOICES, Choice, Ending, Engine, Request, Sets, listed, lists, stops_well};
+use plan_listing::{
+    CHOICES, Choice, Ending, Engine, First, Request, Sets, first_plan, listed, lists, stops_well,
+};
 use small_tasks::{
     axioms, conditional_effects, goal_at_start, near_and_far, no_operator, no_plan, one_switch,
     past_64_bits, same_name_twice, switch_and_back, two_switches, zero_costs,
@@ -181,6 +183,32 @@ fn the_first_plans_of_a_switch(rt: HostRuntime) -> Result<(), Fail> {
     let rows: [&[u32]; 3] = [&[0], &[0, 1, 0], &[0, 1, 0, 1, 0]];
     for choice in CHOICES {
         assert!(rt; begins(alloc, choice, &rows)?);
+    }
+    Ok(())
+}
+
+/// The first plan where one is wanted, over a space that is passed no call more than that takes.
+fn first_by_fewest_calls(alloc: Global, task: &Task, choice: Choice) -> Option<First> {
+    for calls in 0..1000 {
+        if let Ok(Some(first)) = first_plan(alloc, task, Sets::States { calls }, choice) {
+            return Some(first);
+        }
+    }
+    None
+}
+
+/// Whether the plan by operator 0 came, and nothing after it.
+fn is_switch_on(first: Option<First>) -> bool {
+    first.is_some_and(|first| first.alone && first.plan.as_slice() == [0].as_slice())
+}
+
+#[test]
+fn nothing_is_asked_after_the_one_plan_that_is_wanted(rt: HostRuntime) -> Result<(), Fail> {
+    let alloc = rt.alloc();
+    let task = switch_and_back(alloc)?;
+    for choice in CHOICES {
+        assert!(rt; is_switch_on(first_plan(alloc, &task, Sets::Diagrams, choice)?));
+        assert!(rt; is_switch_on(first_by_fewest_calls(alloc, &task, choice)));
     }
     Ok(())
 }

@@ -1,6 +1,9 @@
--- Both searches stand where calls keep all sets.
+-- Both searches, and layers, stand where calls keep all sets.
 use Rattle.space_api.specs.View.{View}
 use Rattle.space_api.specs.Frames.{Kept}
+use Rattle.cost_layers.specs.declared.layers.Layers.{Layers}
+use Rattle.cost_layers.specs.Layers.{rings_at, whole_at, Held}
+use Rattle.cost_layers.proofs.Holding.{holds_kept}
 use Rattle.cost_search.specs.Directed.{Forward, Backward, IsForward, IsBackward}
 use Rattle.cost_search.proofs.Directing.{directed_kept}
 
@@ -9,3 +12,6 @@ forward_stays = directed_kept
 
 pub backward_stays : {Set : Type 0} (v w : View Set) (f : Backward Set) → Kept v w → IsBackward v f → IsBackward w f
 backward_stays = directed_kept
+
+pub layers_stay : {Set : Type 0} (v w : View Set) (l : Layers Set) → Kept v w → Held v l → Held w l
+layers_stay v w l = holds_kept v w (rings_at l) (whole_at l)

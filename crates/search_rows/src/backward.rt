@@ -77,7 +77,20 @@ fn least_cost<S: Space>(
     backward.least_at(space, init)
 }
 
-/// On a switch: layer 0 has on and layer 1 off, there is no layer 2, and the least cost of off is 1.
+/// The least cost at which a layer has a state of the empty set.
+#[tactic(auto, using(crate::proofs::Standing::backward_stays))]
+fn cost_of_none<S: Space>(
+    space: &mut S,
+    backward: &Backward<S::Set>,
+) -> Result<Option<u64>, SpaceFault>
+    requires { IsBackward (S.view space.old) backward.now }
+    ensures { IsBackward (S.view space.new) backward.now }
+{
+    let none = space.empty()?;
+    backward.least_at(space, none)
+}
+
+/// On a switch: layer 0 has on and layer 1 off, there is no layer 2; the least cost of off is 1, and no state has none.
 fn once_each<S: Space>(rt: &impl Abort, alloc: Global, space: &mut S) -> Result<(), SpaceFault> {
     let mut backward = begin(alloc, space, Kind::Least)?;
     assert!(rt; settles(alloc, space, &mut backward, 3)?);
@@ -86,6 +99,7 @@ fn once_each<S: Space>(rt: &impl Abort, alloc: Global, space: &mut S) -> Result<
     assert_eq!(rt; layer_has_init(space, &backward, 1), Some(true));
     assert_eq!(rt; layer_has_init(space, &backward, 2), None);
     assert!(rt; backward.found().is_some());
+    assert_eq!(rt; cost_of_none(space, &backward)?, None);
     assert_eq!(rt; least_cost(space, &backward)?, Some(1));
     Ok(())
 }

@@ -8,7 +8,10 @@ ghost use Rattle.cost_search.specs.Directed.{IsForward};
 use bdd_space::BddSpace;
 use explicit_space::{ExplicitSpace, FuseSpace};
 use forward_search::{Forward, Step};
-use small_tasks::{past_64_bits, switch_and_back, zero_costs};
+use small_tasks::{
+    Draft, EffectDraft, OperatorDraft, VariableDraft, drafted, past_64_bits, switch_and_back,
+    zero_costs,
+};
 use space_api::{Space, SpaceFault};
 use std::alloc::Global;
 use std::process::Abort;
@@ -145,6 +148,110 @@ fn is_beyond_unless_cut<S: Space + Drop>(
 fn a_cost_past_the_range_is_marked_unless_its_states_were_cut(rt: HostRuntime) -> Result<(), Fail> {
     let task = past_64_bits(rt.alloc())?;
     is_beyond_unless_cut(&rt, rt.alloc(), ExplicitSpace::of(rt.alloc(), &task)?)?;
+    Ok(())
+}
+
+/// A place from which two operators lead at cost 0: the first to a dead end, the second to the goal.
+const FORK: Draft<'_> = Draft {
+    metric: 1,
+    variables: &[VariableDraft {
+        layer: None,
+        values: 3,
+    }],
+    initial: &[0],
+    goal: &[(0, 2)],
+    operators: &[
+        OperatorDraft {
+            name: b"lose",
+            effects: &[EffectDraft {
+                conds: &[],
+                var: 0,
+                pre: Some(0),
+                post: 1,
+            }],
+            cost: 0,
+        },
+        OperatorDraft {
+            name: b"win",
+            effects: &[EffectDraft {
+                conds: &[],
+                var: 0,
+                pre: Some(0),
+                post: 2,
+            }],
+            cost: 0,
+        },
+    ],
+    rules: &[],
+};
+
+/// Cuts the layers to the initial state and the goal states.
+#[tactic(auto, using(crate::proofs::Standing::forward_stays))]
+fn keep_ends<S: Space>(
+    alloc: Global,
+    space: &mut S,
+    forward: &mut Forward<S::Set>,
+) -> Result<(), SpaceFault>
+    requires { IsForward (S.view space.old) forward.old }
+    ensures { IsForward (S.view space.new) forward.new }
+{
+    let init = space.init()?;
+    let all = space.all()?;
+    let goal = space.goal_in(all)?;
+    let ends = space.unite(init, goal)?;
+    forward.narrow(alloc, space, ends)
+}
+
+/// Whether the second ring of cost 0 has the goal states alone.
+#[tactic(auto, using(crate::proofs::Standing::forward_stays))]
+fn second_is_goal<S: Space>(space: &mut S, forward: &Forward<S::Set>) -> Result<bool, SpaceFault>
+    requires { IsForward (S.view space.old) forward.now }
+    ensures { IsForward (S.view space.new) forward.now }
+{
+    let all = space.all()?;
+    let goal = space.goal_in(all)?;
+    match forward.layers().ring(0, 1) {
+        Some(ring) => Ok(space.same(ring, goal)),
+        None => Ok(false),
+    }
+}
+
+/// On the fork: the dead end goes from the second ring of cost 0, which keeps its number and the goal state.
+fn one_member_goes<S: Space>(
+    rt: &impl Abort,
+    alloc: Global,
+    space: &mut S,
+) -> Result<(), SpaceFault> {
+    let mut forward = begin(alloc, space)?;
+    assert!(rt; goes(alloc, space, &mut forward)? == Some(0));
+    assert_eq!(rt; forward.layers().rings(0), 2);
+    assert!(rt; !second_is_goal(space, &forward)?);
+    keep_ends(alloc, space, &mut forward)?;
+    assert_eq!(rt; forward.layers().rings(0), 2);
+    assert!(rt; second_is_goal(space, &forward)?);
+    Ok(())
+}
+
+fn loses_one_member<S: Space + Drop>(
+    rt: &impl Abort,
+    alloc: Global,
+    space: S,
+) -> Result<(), SpaceFault> {
+    let mut space = space;
+    one_member_goes(rt, alloc, &mut space)
+}
+
+fn both_lose_one_member(rt: &impl Abort, alloc: Global, task: &Task) -> Result<(), SpaceFault> {
+    loses_one_member(rt, alloc, ExplicitSpace::of(alloc, task)?)?;
+    loses_one_member(rt, alloc, BddSpace::of(alloc, task)?)
+}
+
+#[test]
+fn a_member_that_is_not_useful_goes_and_its_ring_keeps_its_number(
+    rt: HostRuntime,
+) -> Result<(), Fail> {
+    let task = drafted(rt.alloc(), &FORK)?.expect(&rt, "the draft fits");
+    both_lose_one_member(&rt, rt.alloc(), &task)?;
     Ok(())
 }
 

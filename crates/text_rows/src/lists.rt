@@ -17,6 +17,10 @@ const ONE: &str = "; plan 1\n; ops 0\n(switch-on)\n; cost = 1 (unit cost)\n";
 const THREE: &str =
     "; plan 1\n; ops 0\n(switch-on)\n; cost = 1 (unit cost)\n; plan 2\n; ops 0 1 0\n(switch-on)\n(switch-off)\n(switch-on)\n; cost = 3 (unit cost)\n; plan 3\n; ops 0 1 0 1 0\n(switch-on)\n(switch-off)\n(switch-on)\n(switch-off)\n(switch-on)\n; cost = 5 (unit cost)\n; reached 3\n";
 
+/// The same, the first two exchanged.
+const EXCHANGED: &str =
+    "; plan 1\n; ops 0 1 0\n(switch-on)\n(switch-off)\n(switch-on)\n; cost = 3 (unit cost)\n; plan 2\n; ops 0\n(switch-on)\n; cost = 1 (unit cost)\n; plan 3\n; ops 0 1 0 1 0\n(switch-on)\n(switch-off)\n(switch-on)\n(switch-off)\n(switch-on)\n; cost = 5 (unit cost)\n; reached 3\n";
+
 /// The block of the plan that switches on.
 fn check_block(rt: &impl Abort, alloc: Global, task: &Task) -> Result<(), Memory> {
     let plan = Plan::of(vec![in alloc; 0]?);
@@ -211,7 +215,7 @@ const OF_A_SWITCH: [Row<'static>; 12] = [
     ),
     (
         Mode::TopK,
-        "; plan 1\n; ops 0 1 0\n(switch-on)\n(switch-off)\n(switch-on)\n; cost = 3 (unit cost)\n; plan 2\n; ops 0\n(switch-on)\n; cost = 1 (unit cost)\n",
+        EXCHANGED,
         Checked::Bad {
             plan: 2,
             why: Why::Cheaper,
@@ -226,6 +230,20 @@ const OF_A_SWITCH: [Row<'static>; 12] = [
         },
     ),
 ];
+
+/// What is said of the list of all plans of one switch.
+const OF_ONE_SWITCH: [Row<'static>; 1] = [(
+    Mode::TopK,
+    "; plan 1\n; ops 0\n(switch-on)\n; cost = 1 (unit cost)\n; exhausted 1\n",
+    Checked::Good { n: 1 },
+)];
+
+#[test]
+fn calls_the_list_of_one_switch_good(rt: HostRuntime) -> Result<(), Fail> {
+    let task = one_switch(rt.alloc())?;
+    check_rows(&rt, rt.alloc(), &task, &OF_ONE_SWITCH)?;
+    Ok(())
+}
 
 #[test]
 fn gives_each_reason_on_a_switch(rt: HostRuntime) -> Result<(), Fail> {

@@ -1,5 +1,6 @@
 //! Worked rows.
 
+use sas_reader::read_task;
 use sas_writer::write_task;
 use small_tasks::{fact, name, none, one, one_switch, stated, two};
 use std::alloc::Global;
@@ -100,5 +101,33 @@ fn writes_the_lines_of_a_switch(rt: HostRuntime) -> Result<(), Fail> {
 fn writes_the_lines_of_each_section(rt: HostRuntime) -> Result<(), Fail> {
     let task = stated(full(rt.alloc())?).expect(&rt, "the parts fit");
     check_text(&rt, rt.alloc(), &task, FULL)?;
+    Ok(())
+}
+
+/// The text is read, and written as the same bytes.
+fn check_round(rt: &impl Abort, alloc: Global, text: &str) -> Result<(), Fail> {
+    let task = read_task(alloc, text.as_bytes())?;
+    check_text(rt, alloc, &task, text)?;
+    Ok(())
+}
+
+#[test]
+fn writes_what_was_read(rt: HostRuntime) -> Result<(), Fail> {
+    for text in [SWITCH, FULL] {
+        check_round(&rt, rt.alloc(), text)?;
+    }
+    Ok(())
+}
+
+fn check_start(rt: &impl Abort, alloc: Global, task: &Task) -> Result<(), Memory> {
+    let start = task.start(alloc)?;
+    assert_eq!(rt; start.as_slice(), [0].as_slice());
+    Ok(())
+}
+
+#[test]
+fn starts_in_the_state_that_was_read(rt: HostRuntime) -> Result<(), Fail> {
+    let task = read_task(rt.alloc(), SWITCH.as_bytes())?;
+    check_start(&rt, rt.alloc(), &task)?;
     Ok(())
 }

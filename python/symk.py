@@ -45,7 +45,7 @@ Limits = Tuple[Program, Optional[float], Optional[float]]
 MODES = ("topk", "loopless", "unordered")
 ENDS = {"reached": 0, "more": 0, "exhausted": 10, "bounded": 13, "cost range": 31, "out of memory": 40, "timed out": 124}
 MOST_PLANS = 1_000_000_000
-PIECE, SHORT, LONGEST = 1 << 16, 1 << 12, 1 << 28
+PIECE, SHORT, LONGEST, LONGEST_FOOT = 1 << 16, 1 << 12, 1 << 28, 60
 REFUSALS = {11: r"bad plan \d+: .+", 14: r"plans miss a plan of cost \d+", 20: r"line \d+: wanted .+|plans line \d+|cert line \d+",
             21: r"usage: (?s:.*)", 22: r"(file|plans|cert) too long", 23: r"(file|plans|cert) unreadable"}
 
@@ -155,24 +155,26 @@ class Plan:
     ; cost = 2 (unit cost)
     """
 
-    __slots__ = ("number", "cost", "unit", "_operators", "_steps")
+    __slots__ = ("number", "cost", "unit", "_length", "_operators", "_names")
 
     def __init__(self, operators: Iterable[int], names: Iterable[str], cost: int, number: int = 1, unit: bool = True):
         self.number, self.cost, self.unit = number, cost, unit
-        self._operators: Union[bytes, Tuple[int, ...]] = tuple(operators)
-        self._steps: Union[bytes, Tuple[str, ...]] = tuple(names)
+        self._operators: Union[str, Tuple[int, ...]] = tuple(operators)
+        self._names: Union[str, Tuple[str, ...]] = tuple(names)
+        self._length = len(self._operators)
 
     @property
     def operators(self) -> Tuple[int, ...]:
-        if isinstance(self._operators, bytes):
+        if type(self._operators) is str:
             self._operators = _operators_of(self._operators)
         return self._operators
 
     @property
     def names(self) -> Tuple[str, ...]:
-        if isinstance(self._steps, bytes):
-            self._steps = _names_of(self._steps)
-        return self._steps
+        names = self._names
+        if type(names) is str:
+            self._names = names = _names_of(names, self._length)
+        return names
 
     def block(self, number: Optional[int] = None) -> bytes:
         """The plan as it stands in a list, by its own number or another."""
@@ -229,54 +231,76 @@ def _ending(run: Generator[Plan, None, Optional[End]], ended: List[Optional[End]
 
 # Reading a list.
 
-COST = re.compile(rb"; cost = (\d{1,20}) \((unit|general) cost\)")
+COST = re.compile(r"([0-9]{1,20}) \((unit|general) cost\)")
 END_LINE = re.compile(rb"; (?:(reached|exhausted|more|bounded) (\d{1,20})|(cost range))\r?\n\Z")
 END_SHAPES = {0: r"; (reached|more) \d+", 10: r"; exhausted \d+", 13: r"; bounded \d+", 31: "; cost range"}
 FRONT = re.compile(rb"; plan \d{1,20}\r?\n; ops([ \d]*)(?:\r?\n|\r?\Z)")
+# What stands before the cost of a block.
+FOOT = b"\n; cost = "
 
 
-def _plan(block: bytes, number: Optional[int]) -> Plan:
-    """The plan of a block, without its last line's end. None for a number that isn't known."""
-    if b"\r" in block:
-        block = (block + b"\n").replace(b"\r\n", b"\n")[:-1]
-    first, foot = block.find(b"\n"), block.rfind(b"\n") + 1
-    second = block.find(b"\n", first + 1)
-    operators, steps, cost = block[first + 6:second], block[second + 1:foot], _cost(block[foot:])
-    if not cost or not block.startswith(b"\n; ops", first) or operators.count(b" ") != steps.count(b"\n"):
-        raise Broken("this is no block of a plan: %s" % _shown(block))
+def _plan(lines: List[str], foot: str, number: Optional[int]) -> Plan:
+    """The plan of a block: something, its first line, its operators and its steps, and what stands in its last line behind `; cost = `.
+
+    The number is None where it isn't known.
+    """
+    if foot[-1:] == "\r":
+        foot, lines = foot[:-1], [line[:-1] if line[-1:] == "\r" else line for line in "\n".join(lines).replace("\r\n", "\n").split("\n", 3)]
+    cost = _cost(foot)
+    length = lines[3].count("\n") + 1 if len(lines) == 4 else 0
+    if not cost or len(lines) < 3 or lines[2][:5] != "; ops" or lines[2].count(" ") != length + 1:
+        raise Broken("this is no block of a plan: %s" % _shown("\n".join([*lines[1:], "; cost = " + foot]).encode("utf-8", "surrogateescape")))
     plan = Plan.__new__(Plan)
-    plan.number = number if number and block.startswith(b"; plan %d\n" % number) else _number(block[:first], number)
-    (plan.cost, plan.unit), plan._operators, plan._steps = cost, operators, steps
+    plan.cost, plan.unit = cost
+    plan.number = number if number and lines[1] == "; plan %d" % number else _number(lines[1], number)
+    plan._length, plan._operators, plan._names = length, lines[2], lines[3] if length else ()
     return plan
 
 
-def _operators_of(text: bytes) -> Tuple[int, ...]:
+class _Numbers(Dict[str, int]):
+    """Numbers by their digits, each read once, since the operators of a task are few; at most 65,536 are kept."""
+
+    def __missing__(self, digits: str) -> int:
+        if not (digits.isdigit() and digits.isascii()):
+            raise Broken("these are no operators of a plan: %s" % _shown(digits.encode("utf-8", "surrogateescape")))
+        if len(self) == 1 << 16:
+            self.clear()
+        number = self[digits] = int(digits)
+        return number
+
+
+NUMBERS = _Numbers()
+
+
+def _operators_of(line: str) -> Tuple[int, ...]:
     """The numbers of a line, each after one space."""
-    if text and (not text.startswith(b" ") or text.endswith(b" ") or b"  " in text or text.translate(None, b" 0123456789")):
-        raise Broken("these are no operators of a plan: %s" % _shown(text))
-    return tuple(map(int, text.split()))
+    words = line.split(" ")
+    if words[1] != "ops":
+        raise Broken("these are no operators of a plan: %s" % _shown(line.encode("utf-8", "surrogateescape")))
+    return tuple(map(NUMBERS.__getitem__, words[2:]))
 
 
-def _names_of(text: bytes) -> Tuple[str, ...]:
-    """The names of lines, each in brackets."""
-    names = text[1:-2].decode("utf-8", "surrogateescape").split(")\n(") if text else []
-    if len(names) != text.count(b"\n") or not (not text or text.startswith(b"(") and text.endswith(b")\n")):
-        raise Broken("these are no steps of a plan: %s" % _shown(text))
-    return tuple(names)
+def _names_of(steps: str, length: int) -> Tuple[str, ...]:
+    """The names of so many lines, each in brackets."""
+    names = tuple(steps[1:-1].split(")\n("))
+    if len(names) != length or steps[:1] != "(" or steps[-1:] != ")" or len(steps) < 2:
+        raise Broken("these are no steps of a plan: %s" % _shown(steps.encode("utf-8", "surrogateescape")))
+    return names
 
 
 @lru_cache(maxsize=256)
-def _cost(line: bytes) -> Optional[Tuple[int, bool]]:
+def _cost(foot: str) -> Optional[Tuple[int, bool]]:
     """The cost that a line tells, and whether every operator costs 1; lines of one cost follow one another."""
-    told = COST.fullmatch(line)
-    return (int(told[1]), told[2] == b"unit") if told and int(told[1]) >> 64 == 0 else None
+    told = COST.fullmatch(foot)
+    return (int(told[1]), told[2] == "unit") if told and int(told[1]) >> 64 == 0 else None
 
 
-def _number(line: bytes, number: Optional[int]) -> int:
+def _number(line: str, number: Optional[int]) -> int:
     """The number of a block, however it is spelled."""
-    told = re.fullmatch(rb"; plan (\d{1,20})", line)
+    told = re.fullmatch("; plan ([0-9]{1,20})", line)
     if not told or number not in (None, int(told[1])):
-        raise Broken("this is no first line of block %s: %s" % ("of a plan" if number is None else number, _shown(line)))
+        shown = _shown(line.encode("utf-8", "surrogateescape"))
+        raise Broken("this is no first line of block %s: %s" % ("of a plan" if number is None else number, shown))
     return int(told[1])
 
 
@@ -295,18 +319,19 @@ def _look(held: bytes) -> None:
 
 def _blocks(read: Callable[[int], bytes], number: Optional[int]) -> Generator[Plan, None, Tuple[bytes, Optional[int]]]:
     """The plans of a text; at last what is left of it, and the number that a next one would have. `read` gives b"" at the end."""
-    held, start, seen, looked = b"", 0, 0, SHORT
+    held, seen, looked = b"", 0, SHORT
     while True:
-        at = held.find(b"\n; cost = ", seen)
-        stop = held.find(b"\n", at + 10) if at >= 0 else -1
-        if stop >= 0:
-            plan = _plan(held[start:stop], number)
-            start = seen = stop + 1
-            number, looked = plan.number + 1, SHORT
-            yield plan
-            continue
-        held, seen = held[start:], at - start if at >= 0 else max(0, len(held) - start - 9)
-        start = 0
+        stop = _whole(held, seen)
+        if stop:
+            lines: List[str] = []
+            for part in ("\n" + held[:stop].decode("utf-8", "surrogateescape")).split("\n; cost = "):
+                block, lines = lines, part.split("\n", 3)
+                if block:
+                    plan = _plan(block, lines[0], number)
+                    number, looked = plan.number + 1, SHORT
+                    yield plan
+            held = held[stop + 1:]
+        seen = max(0, len(held) - LONGEST_FOOT)
         if len(held) > looked:
             _look(held)
             looked = 2 * len(held)
@@ -314,6 +339,17 @@ def _blocks(read: Callable[[int], bytes], number: Optional[int]) -> Generator[Pl
         if not piece and (not held or held.endswith(b"\n")):
             return held, number
         held += piece or b"\n"
+
+
+def _whole(held: bytes, seen: int) -> int:
+    """Where the last whole block of a text ends, with no line's end of its own; 0 where none does. Before `seen` no block ends."""
+    at = len(held)
+    while at >= 0:
+        at = held.rfind(FOOT, seen, at)
+        stop = held.find(b"\n", at + len(FOOT)) if at >= 0 else 0
+        if stop >= 0:
+            return stop
+    return 0
 
 
 def _end_of(left: bytes, number: Optional[int]) -> Optional[End]:

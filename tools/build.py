@@ -99,7 +99,7 @@ def free_memory():
 
 
 def share(crate, built, copy):
-    """Gives a copy the library that another one built: hard links, in one step, as rt itself shares among copies."""
+    """Gives a copy the library that another one built: hard links, in one step."""
     to, made = copy / "crates" / crate / "out", built / "crates" / crate / "out/rlib"
     stamp = to / "rlib/stamp"
     if copy != built and not (stamp.is_file() and stamp.read_bytes() == (made / "stamp").read_bytes()):

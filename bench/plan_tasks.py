@@ -14,8 +14,9 @@ lights W H N [SEED]     W times H lamps, N of which were pressed: a press turns 
 roads N P [SEED]        One bus on N places with one-way roads, some free of charge, and P passengers.
 counter N               One operator adds 1 to a number of N bits, from 0 until all are set.
 switches N              N switches, each of which one operator turns over, and a rule that says that all are on.
+circle COST             A wheel that operators of cost 1 and 2 turn to and fro, and a door that is opened at this cost.
 
-What is random is drawn by SEED, by default 0.
+What is random is drawn by SEED, by default 0. With a last word costs=MOST each operator costs what is drawn from 1 to MOST.
 """
 import itertools
 import random
@@ -243,11 +244,32 @@ def roads(places, passengers, seed=0):
     return task(variables, initial, goal, operators, [])
 
 
+def circle(cost):
+    """Where the wheel stands, and whether the door is open."""
+    variables = [variable("wheel", -1, ["here", "there"]), variable("door", -1, ["closed", "open"])]
+    operators = [operator("turn", [], [((), 0, 0, 1)], 1), operator("turn-back", [], [((), 0, 1, 0)], 2),
+                 operator("open", [(0, 1)], [((), 1, 0, 1)], cost)]
+    return task(variables, [0, 0], [(1, 1)], operators, [])
+
+
+def with_costs(lines, most):
+    """The lines of a task with the costs drawn anew, from 1 to `most`."""
+    draw, lines = random.Random(0), list(lines)
+    lines[lines.index("begin_metric") + 1] = "1"
+    for at, line in enumerate(lines):
+        if line == "end_operator":
+            lines[at - 1] = str(draw.randint(1, most))
+    return lines
+
+
 KINDS = {"gripper": gripper, "hanoi": hanoi, "board": board, "blocks": blocks, "logistics": logistics,
          "visitall": visitall, "sokoban": sokoban, "psr": psr, "lights": lights, "roads": roads, "counter": counter,
-         "switches": switches}
+         "switches": switches, "circle": circle}
 
 if __name__ == "__main__":
-    if len(sys.argv) < 3 or sys.argv[1] not in KINDS:
+    words = sys.argv[1:]
+    most = int(words.pop()[6:]) if words and words[-1].startswith("costs=") else None
+    if len(words) < 2 or words[0] not in KINDS:
         sys.exit(__doc__)
-    sys.stdout.write("\n".join(KINDS[sys.argv[1]](*map(int, sys.argv[2:]))) + "\n")
+    made = KINDS[words[0]](*map(int, words[1:]))
+    sys.stdout.write("\n".join(with_costs(made, most) if most else made) + "\n")

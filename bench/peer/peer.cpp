@@ -1,11 +1,13 @@
 // A planner like this one, on BuDDy: the cheapest plans of a task, beside which bench/plan.sh measures whole runs. It is called as
 // `peer plan TASK --k K --mode topk|loopless|unordered`, and prints plans and ends as `symk` does. The file is taken to be lawful, and
-// costs of plans to stay below 2^62. Of the choices that were tried it makes the quickest: bench/README.md lists them.
+// costs of plans to stay below 2^62. Of the choices that were tried it makes the quickest: bench/README.md lists them. With `--by ranks`
+// it searches by least costs from both ends in place of one cost after the other.
 #include "loopless.h"
+#include "ranks.h"
 #include <cstring>
 
 struct Words {
-    const char *task = "", *mode = "topk";
+    const char *task = "", *mode = "topk", *by = "layers";
     unsigned long long k = 0;
 };
 
@@ -19,6 +21,8 @@ static Words read_words(int count, char **words) {
             all.k = strtoull(words[at + 1], nullptr, 10);
         if (strcmp(words[at], "--mode") == 0)
             all.mode = words[at + 1];
+        if (strcmp(words[at], "--by") == 0)
+            all.by = words[at + 1];
     }
     return all;
 }
@@ -47,7 +51,7 @@ struct Printer {
     }
 };
 
-static bool list(const Symbols &symbols, const string &mode, Printer &printer) {
+static bool list(const Symbols &symbols, const string &mode, const string &by, Printer &printer) {
     std::set<vector<int>> classes;
     Emit emit = [&](const vector<int> &plan) {
         vector<int> sorted = plan;
@@ -58,6 +62,8 @@ static bool list(const Symbols &symbols, const string &mode, Printer &printer) {
         }
         return printer.print(plan);
     };
+    if (by == "ranks")
+        return RankedPlans(symbols, emit, mode == "loopless").run();
     return mode == "loopless" ? LooplessPlans(symbols, emit).run() : TopPlans(symbols, emit).run();
 }
 
@@ -72,7 +78,7 @@ int main(int count, char **words) {
     bdd_setcacheratio(4);
     Symbols symbols(task);
     Printer printer(task, asked.k);
-    bool reached = list(symbols, asked.mode, printer);
+    bool reached = list(symbols, asked.mode, asked.by, printer);
     printf("; %s %llu\n", reached ? "reached" : "exhausted", printer.count);
     fflush(stdout);
     _Exit(reached ? 0 : 10);

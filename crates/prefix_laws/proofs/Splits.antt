@@ -87,3 +87,11 @@ cost_join y (x ∷ e) q = omega (arith, cost_join y e q)
 pub prefix_refl : (e : List ℕ) → prefix e e ≡ true
 prefix_refl [] = refl
 prefix_refl (x ∷ e) = rw (eq-eqb x x refl, prefix_refl e) refl
+
+pub prefix_join : (e q : List ℕ) → prefix e (e ++ q) ≡ true
+prefix_join [] q = refl
+prefix_join (x ∷ e) q = rw (eq-eqb x x refl, prefix_join e q) refl
+
+pub prefix_front : (e q r : List ℕ) → prefix e ((e ++ q) ++ r) ≡ true
+prefix_front [] q r = refl
+prefix_front (x ∷ e) q r = rw (eq-eqb x x refl, prefix_front e q r) refl

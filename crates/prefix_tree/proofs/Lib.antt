@@ -3,3 +3,5 @@ pub mod Operators
 pub mod Passing
 pub mod StateGraphs
 pub mod Replacing
+pub mod Entries
+pub mod Going

@@ -1,5 +1,6 @@
 -- Whether a prefix passes a state, read along the ones before it.
 use Rattle.std.proofs.Common.{◌≡◌, ℕ, zero, suc, ◌<◌, ◌↔◌, inl, inr, List, [], ◌∷◌, ◌++◌, length, slice_index_or, Option, unwrap_or, sym, ◌∙◌, ap, subst, arith}
+use Rattle.symk_task.specs.declared.parts.Mode.{Mode}
 use Rattle.task_system.specs.System.{State, System, Listed, Leads, Runs, trace, next_state}
 use Rattle.prefix_laws.proofs.Traces.{trace_more, runs_cut}
 use Rattle.prefix_tree.specs.StateGraph.{state_at, AreOnce}
@@ -31,7 +32,7 @@ trace_end y (op ∷ p) s t r = inr (subst (λ (x : State). Listed (trace y x p) 
     next_is : (y : System) (op : ℕ) (s m : State) → Leads y op s m → next_state y op s ≡ m
     next_is y op s m l = ap (λ (o : Option State). unwrap_or o s) l.step
 
-module _ (nodes : List Node) (at : ℕ) (n : Node) (within : at < length nodes) (is : n ≡ slice_index_or nodes at n) (state : ℕ) (y : System) (ss : List State) (z : IsTree y ss nodes) (once : AreOnce ss) (known : state < length ss) where
+module _ (nodes : List Node) (at : ℕ) (n : Node) (within : at < length nodes) (is : n ≡ slice_index_or nodes at n) (state : ℕ) (y : System) (m : Mode) (ss : List State) (z : IsTree y m ss nodes) (once : AreOnce ss) (known : state < length ss) where
   run : Runs y y.initial (path_at nodes at) (state_at ss n.state)
   run = subst (λ (k : ℕ). Runs y y.initial (path_at nodes at) (state_at ss k)) (sym (number_is nodes at n within is)) (z.each at within).runs
 

@@ -1,6 +1,7 @@
 -- A tree that grows by one prefix.
 use Rattle.std.proofs.Common.{◌≡◌, ℕ, zero, suc, ◌+◌, ◌<◌, ◌⊎◌, inl, inr, List, [], ◌∷◌, ◌++◌, length, slice_index_or, refl, sym, ◌∙◌, ap, subst, arith}
 use Rattle.std.proofs.lemmas.List.{length-append}
+use Rattle.symk_task.specs.declared.parts.Mode.{Mode}
 use Rattle.task_system.specs.System.{State, System, Runs}
 use Rattle.prefix_laws.specs.Queue.{Good}
 use Rattle.prefix_tree.specs.StateGraph.{state_at, Prolongs}
@@ -74,33 +75,33 @@ number_last (r ∷ nodes) n zero e = absurd (omega arith)
 number_last (r ∷ nodes) n (suc i) e = number_last nodes n i (omega arith)
 
 -- a tree stays a tree, where the new prefix is good
-module _ (y : System) (ss : List State) (nodes : List Node) (n : Node) (z : IsTree y ss nodes) (behind : n.parent < length nodes) (good : Good y (path_at nodes n.parent ++ n.op ∷ [])) (within : n.state < length ss) (runs : Runs y y.initial (path_at nodes n.parent ++ n.op ∷ []) (state_at ss n.state)) where
-  node_old : (i : ℕ) → i < length nodes → IsNode y ss i (path_at (nodes ++ n ∷ []) i) (number_at (nodes ++ n ∷ []) i)
-  node_old i lt = subst (λ (p : List ℕ). IsNode y ss i p (number_at (nodes ++ n ∷ []) i)) (sym (path_front nodes n i lt)) (subst (λ (k : ℕ). IsNode y ss i (path_at nodes i) k) (sym (number_front nodes n i lt)) (z.each i lt))
+module _ (y : System) (m : Mode) (ss : List State) (nodes : List Node) (n : Node) (z : IsTree y m ss nodes) (behind : n.parent < length nodes) (good : Good y m (path_at nodes n.parent ++ n.op ∷ [])) (within : n.state < length ss) (runs : Runs y y.initial (path_at nodes n.parent ++ n.op ∷ []) (state_at ss n.state)) where
+  node_old : (i : ℕ) → i < length nodes → IsNode y m ss i (path_at (nodes ++ n ∷ []) i) (number_at (nodes ++ n ∷ []) i)
+  node_old i lt = subst (λ (p : List ℕ). IsNode y m ss i p (number_at (nodes ++ n ∷ []) i)) (sym (path_front nodes n i lt)) (subst (λ (k : ℕ). IsNode y m ss i (path_at nodes i) k) (sym (number_front nodes n i lt)) (z.each i lt))
 
-  node_new : (i : ℕ) → i ≡ length nodes → IsNode y ss i (path_at (nodes ++ n ∷ []) i) (number_at (nodes ++ n ∷ []) i)
-  node_new i e = subst (λ (p : List ℕ). IsNode y ss i p (number_at (nodes ++ n ∷ []) i)) (sym (path_last nodes n i z.some e)) (subst (λ (k : ℕ). IsNode y ss i (path_at nodes n.parent ++ n.op ∷ []) k) (sym (number_last nodes n i e)) (record {
+  node_new : (i : ℕ) → i ≡ length nodes → IsNode y m ss i (path_at (nodes ++ n ∷ []) i) (number_at (nodes ++ n ∷ []) i)
+  node_new i e = subst (λ (p : List ℕ). IsNode y m ss i p (number_at (nodes ++ n ∷ []) i)) (sym (path_last nodes n i z.some e)) (subst (λ (k : ℕ). IsNode y m ss i (path_at nodes n.parent ++ n.op ∷ []) k) (sym (number_last nodes n i e)) (record {
     good = good;
     within = within;
     runs = runs;
     deep = omega (arith, e, behind, (z.each n.parent behind).deep, length-append (path_at nodes n.parent) (n.op ∷ []));
   }))
 
-  tree_more : IsTree y ss (nodes ++ n ∷ [])
+  tree_more : IsTree y m ss (nodes ++ n ∷ [])
   tree_more = record {
     some = omega (arith, z.some, length-append nodes (n ∷ []));
     linked = linked_more nodes n z.linked z.some behind;
     each = λ i lt. elim (before_or_at i (length nodes) (omega (arith, lt, length-append nodes (n ∷ [])))) [ inl h ↦ node_old i h | inr e ↦ node_new i e ];
   }
 
-  pub grows_more : Grows y ss nodes (nodes ++ n ∷ [])
+  pub grows_more : Grows y m ss nodes (nodes ++ n ∷ [])
   grows_more = record { longer = omega (arith, length-append nodes (n ∷ [])); paths = λ i lt. path_front nodes n i lt; ends = λ i lt. number_front nodes n i lt; tree = tree_more }
 
-pub grows_refl : (y : System) (ss : List State) (nodes : List Node) → IsTree y ss nodes → Grows y ss nodes nodes
-grows_refl y ss nodes z = record { longer = omega arith; paths = λ i lt. refl; ends = λ i lt. refl; tree = z }
+pub grows_refl : (y : System) (m : Mode) (ss : List State) (nodes : List Node) → IsTree y m ss nodes → Grows y m ss nodes nodes
+grows_refl y m ss nodes z = record { longer = omega arith; paths = λ i lt. refl; ends = λ i lt. refl; tree = z }
 
-pub grows_trans : (y : System) (ss : List State) (a b c : List Node) → Grows y ss a b → Grows y ss b c → Grows y ss a c
-grows_trans y ss a b c j k = record {
+pub grows_trans : (y : System) (m : Mode) (ss : List State) (a b c : List Node) → Grows y m ss a b → Grows y m ss b c → Grows y m ss a c
+grows_trans y m ss a b c j k = record {
   longer = omega (arith, j.longer, k.longer);
   paths = λ i lt. k.paths i (omega (arith, lt, j.longer)) ∙ j.paths i lt;
   ends = λ i lt. k.ends i (omega (arith, lt, j.longer)) ∙ j.ends i lt;
@@ -108,8 +109,8 @@ grows_trans y ss a b c j k = record {
 }
 
 -- the graph has more states
-pub tree_prolonged : (y : System) (ss tt : List State) (nodes : List Node) → Prolongs ss tt → IsTree y ss nodes → IsTree y tt nodes
-tree_prolonged y ss tt nodes p z = record {
+pub tree_prolonged : (y : System) (m : Mode) (ss tt : List State) (nodes : List Node) → Prolongs ss tt → IsTree y m ss nodes → IsTree y m tt nodes
+tree_prolonged y m ss tt nodes p z = record {
   some = z.some;
   linked = z.linked;
   each = λ i lt.

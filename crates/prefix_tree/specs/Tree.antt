@@ -1,5 +1,6 @@
 -- A tree of prefixes: which operators each has, and where it ends.
 use Rattle.std.specs.Prelude.{◌≡◌, ℕ, zero, suc, ◌<◌, ◌≤◌, ◌⊎◌, List, [], ◌∷◌, ◌++◌, length, slice_index_or}
+use Rattle.symk_task.specs.declared.parts.Mode.{Mode}
 use Rattle.task_system.specs.System.{State, System, Runs}
 use Rattle.prefix_laws.specs.Queue.{Good}
 use Rattle.prefix_tree.specs.StateGraph.{state_at}
@@ -36,22 +37,22 @@ number_at (n ∷ nodes) (suc i) = number_at nodes i
 abbrev pub end_at : List State → List Node → ℕ → State
 end_at ss nodes i = state_at ss (number_at nodes i)
 
--- the prefix runs without passing a state twice, to the state of this number, and is no longer than its place
-pub record IsNode (y : System) (ss : List State) (i : ℕ) (p : List ℕ) (number : ℕ) : Type 0 where
-  pub good : Good y p
+-- the prefix runs as the mode asks, to the state of this number, and is no longer than its place
+pub record IsNode (y : System) (m : Mode) (ss : List State) (i : ℕ) (p : List ℕ) (number : ℕ) : Type 0 where
+  pub good : Good y m p
   pub within : number < length ss
   pub runs : Runs y y.initial p (state_at ss number)
   pub deep : length p ≤ i
 
 -- each stands behind the one before it, and is so
-pub record IsTree (y : System) (ss : List State) (nodes : List Node) : Type 0 where
+pub record IsTree (y : System) (m : Mode) (ss : List State) (nodes : List Node) : Type 0 where
   pub some : 0 < length nodes
   pub linked : AreLinked nodes
-  pub each : (i : ℕ) → i < length nodes → IsNode y ss i (path_at nodes i) (number_at nodes i)
+  pub each : (i : ℕ) → i < length nodes → IsNode y m ss i (path_at nodes i) (number_at nodes i)
 
 -- prefixes were added
-pub record Grows (y : System) (ss : List State) (old new : List Node) : Type 0 where
+pub record Grows (y : System) (m : Mode) (ss : List State) (old new : List Node) : Type 0 where
   pub longer : length old ≤ length new
   pub paths : (i : ℕ) → i < length old → path_at new i ≡ path_at old i
   pub ends : (i : ℕ) → i < length old → number_at new i ≡ number_at old i
-  pub tree : IsTree y ss new
+  pub tree : IsTree y m ss new

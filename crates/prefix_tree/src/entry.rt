@@ -9,6 +9,8 @@ pub struct Entry {
     pub bound: Reverse<u128>,
     /// What the prefix costs.
     pub cost: u128,
+    /// The ring of a search back in which its last state stands, where that search counts them.
+    pub ring: Reverse<usize>,
     /// Its place in the tree.
     pub node: usize,
     /// Nothing more can be learned of its bound.

@@ -4,10 +4,11 @@
 //! it ends, since operators lead to one state. So a prefix takes the same memory however long it is, and no set: its
 //! operators, and the numbers of the states on its way, are read along the ones before. `StateGraph` has each state
 //! once, as values of the task's variables, and of a state the moves, which are found once, when the first prefix that
-//! ends there goes on. The queue hands out the entry of the least bound, and of equal bounds one of the greatest cost.
-//! The contracts say which operators a prefix has, whether it passes a state, which moves lead on from a state, and
-//! which entries the queue has. It stands on `prefix_laws` for what prefixes are, on `single_states` for steps from state
-//! to state, on `indexmap` for states by number, and on std's binary heap.
+//! ends there goes on. The queue hands out the entry of the least bound, of equal bounds one of the greatest cost, and of
+//! those one in the earliest ring. The contracts say which operators a prefix has, whether it passes a state, which moves
+//! lead on from a state, and which entries the queue has, for all plans (a prefix runs) and for loopless ones (it passes
+//! no state twice besides). It stands on `prefix_laws` for what prefixes are, on `single_states` for steps from state to
+//! state, on `indexmap` for states by number, and on std's binary heap.
 #![tactic(auto)]
 
 mod entry;

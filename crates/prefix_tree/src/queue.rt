@@ -9,8 +9,8 @@ ghost use Rattle.prefix_tree.specs.Order.{entry_order};
 use crate::entry::Entry;
 use std::collections::BinaryHeap;
 
-/// A queue of prefixes, a binary heap (J. W. J. Williams, 1964). The first is one of the least bound, and of
-/// those one of the greatest cost.
+/// A queue of prefixes, a binary heap (J. W. J. Williams, 1964). The first is one of the least bound, of those
+/// one of the greatest cost, and of those one in the earliest ring.
 #[derive(Drop)]
 pub struct Queue {
     heap: BinaryHeap<Entry>,

@@ -2,6 +2,7 @@
 
 ghost use Rattle.std.specs.Prelude.{◌≡◌, ◌+◌, ◌<◌, ◌≤◌, ◌∷◌, ◌++◌, [], All, IfSome, IfNone, IfOk, OnOk, OnErr, IsPermutation, slice_index_or, length};
 ghost use Rattle.prefix_tree.specs.Entries.{entries_of, HasRoom};
+ghost use Rattle.prefix_tree.specs.Order.{IsNoLater};
 
 use crate::entry::Entry;
 use crate::queue::Queue;
@@ -29,12 +30,13 @@ impl Queue {
         Ok(())
     }
 
-    /// The first entry, one of the least bound. It stays.
+    /// The first entry, one of the least bound, and of those one that no other goes before. It stays.
     pub fn first(&self) -> Option<Entry>
         ensures none { IfNone result (entries_of self.now ≡ []) }
         ensures some { IfSome result (λ e. 0 < length (entries_of self.now)) }
         ensures at { IfSome result (λ e. e ≡ slice_index_or (entries_of self.now) 0 e) }
         ensures least { IfSome result (λ e. All (λ x. e.bound.0 ≤ x.bound.0) (entries_of self.now)) }
+        ensures order { IfSome result (λ e. All (IsNoLater e) (entries_of self.now)) }
     {
         match self.heap.peek() {
             None => None,

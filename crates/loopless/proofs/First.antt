@@ -18,9 +18,11 @@ use Rattle.prefix_tree.specs.declared.state_graph.StateGraph.{StateGraph}
 use Rattle.prefix_tree.specs.Tree.{IsTree, IsNode, path_at, number_at}
 use Rattle.prefix_tree.specs.declared.tree.Node.{Node}
 use Rattle.prefix_tree.specs.declared.entry.Entry.{Entry}
-use Rattle.loopless.specs.Children.{IsEntry, prefixes}
+use Rattle.prefix_tree.specs.Entries.{prefixes}
+use Rattle.loopless.specs.Children.{IsEntry}
 use Rattle.loopless.specs.Standing.{IsAlone}
-use Rattle.loopless.specs.Owing.{Owes, IsSound}
+use Rattle.prefix_laws.specs.Owing.{Owes}
+use Rattle.loopless.specs.Sound.{IsSound}
 
 -- a permutation of one element is it
 only : (e : Entry) (es : List Entry) → IsPermutation (e ∷ []) es → es ≡ e ∷ []
@@ -34,20 +36,20 @@ module _ {Set : Type 0} (y : System) (v : View Set) (b : Backward Set) (m : Stat
     (same : v.system ≡ y) (alone : IsAlone v b) (graph : IsStateGraph v.system m) (within : n.state < length (states_of m)) (starts : state_at (states_of m) n.state ≡ v.system.initial)
     (put : IsPermutation (e ∷ []) es) (bound : e.bound.0 ≡ 0) (cost : e.cost ≡ 0) (place : e.node ≡ 0)
     (goal : Decides e.at_goal (IsTrue (v.system.goal v.system.initial))) where
-  good : Good v.system []
-  good = good_first v.system (subst (Listed v.system.states) starts (graph.listed n.state within))
+  good : Good v.system Loopless []
+  good = good_first v.system Loopless (subst (Listed v.system.states) starts (graph.listed n.state within))
 
   first_path : (i : ℕ) → i ≡ 0 → path_at (n ∷ []) i ≡ []
   first_path i z = ap (path_at (n ∷ [])) z
 
-  node : IsNode v.system (states_of m) 0 [] n.state
+  node : IsNode v.system Loopless (states_of m) 0 [] n.state
   node = record { good = good; within = within; runs = sym starts; deep = omega arith }
 
-  tree : IsTree v.system (states_of m) (n ∷ [])
+  tree : IsTree v.system Loopless (states_of m) (n ∷ [])
   tree = record {
     some = omega arith;
     linked = λ i d lt. inl (omega (arith, lt), first_path i (omega (arith, lt)));
-    each = λ i lt. let z : i ≡ 0 = omega (arith, lt) in subst (λ (j : ℕ). IsNode v.system (states_of m) j (path_at (n ∷ []) j) (number_at (n ∷ []) j)) (sym z) node;
+    each = λ i lt. let z : i ≡ 0 = omega (arith, lt) in subst (λ (j : ℕ). IsNode v.system Loopless (states_of m) j (path_at (n ∷ []) j) (number_at (n ∷ []) j)) (sym z) node;
   }
 
   end : v.system.initial ≡ good.end
@@ -64,7 +66,7 @@ module _ {Set : Type 0} (y : System) (v : View Set) (b : Backward Set) (m : Stat
     least = omega (arith, cost);
     span = omega (arith, bound);
     bounds = λ p plan on. omega (arith, bound);
-    plan = subst (λ (p : List ℕ). Decides e.at_goal (IsPlan v.system p)) (sym path) (plan_by v.system [] good e.at_goal (subst (λ (s : State). Decides e.at_goal (IsTrue (v.system.goal s))) end goal));
+    plan = subst (λ (p : List ℕ). Decides e.at_goal (IsPlan v.system p)) (sym path) (plan_by v.system [] good.end good.runs e.at_goal (subst (λ (s : State). Decides e.at_goal (IsTrue (v.system.goal s))) end goal));
   }
 
   single : es ≡ e ∷ []
@@ -73,7 +75,7 @@ module _ {Set : Type 0} (y : System) (v : View Set) (b : Backward Set) (m : Stat
   pub begun : (most : Option ℕ) → IsSound v b m (n ∷ []) most es None None
   begun most = subst (λ (l : List Entry). IsSound v b m (n ∷ []) most l None None) (sym single) (record {
     ready = record { alone = alone; graph = graph; tree = tree; each = (entry, tt) };
-    right = subst (λ (p : List ℕ). Right v.system most (p ∷ [])) (sym path) (first_right v.system most);
+    right = subst (λ (p : List ℕ). Right v.system Loopless most (p ∷ [])) (sym path) (first_right v.system Loopless most);
     holds = tt;
     said = tt;
     room = λ e. absurd (none_some e);
@@ -82,10 +84,10 @@ module _ {Set : Type 0} (y : System) (v : View Set) (b : Backward Set) (m : Stat
       none_some : ◌≡◌ {A = Last} None (Some None) → ⊥
       none_some e = cc
 
-  begun_pends : (p : List ℕ) → IsPlanOf y Loopless p → Pending v.system (prefixes (n ∷ []) es) p
+  begun_pends : (p : List ℕ) → IsPlanOf y Loopless p → Pending v.system Loopless (prefixes (n ∷ []) es) p
   begun_pends p i =
       let now : IsPlanOf v.system Loopless p = subst (λ (z : System). IsPlanOf z Loopless p) (sym same) i in
-      subst (λ (l : List Entry). Pending v.system (prefixes (n ∷ []) l) p) (sym single) (subst (λ (q : List ℕ). Pending v.system (q ∷ []) p) (sym path) (first_pends v.system p now))
+      subst (λ (l : List Entry). Pending v.system Loopless (prefixes (n ∷ []) l) p) (sym single) (subst (λ (q : List ℕ). Pending v.system Loopless (q ∷ []) p) (sym path) (first_pends v.system Loopless p now))
 
-  pub begun_all : (p : List ℕ) → IsPlanOf y Loopless p → Owes v.system (prefixes (n ∷ []) es) None p
+  pub begun_all : (p : List ℕ) → IsPlanOf y Loopless p → Owes v.system Loopless (prefixes (n ∷ []) es) None p
   begun_all p i = inl (begun_pends p i)

@@ -4,17 +4,21 @@ use Rattle.std.specs.Bool.{Decides}
 use Rattle.std.specs.List.{AllByRecursion}
 use Rattle.std.proofs.lemmas.List.{length-append}
 use Rattle.task_system.specs.System.{State, System, Runs, IsPlan, cost_of}
-use Rattle.prefix_laws.specs.Queue.{prefix, ind, count, sum_ops, Bounds, Hopeless}
-use Rattle.prefix_laws.proofs.Splits.{count_join, cost_join}
+use Rattle.prefix_laws.specs.Queue.{Bounds, ChildrenBelow}
+use Rattle.prefix_laws.proofs.Growing as growing
+use Rattle.prefix_laws.proofs.Splits.{cost_join, prefix_join, prefix_front}
 use Rattle.prefix_laws.proofs.Traces.{bounds_by, plan_by, runs_join}
 use Rattle.prefix_tree.specs.StateGraph.{state_at}
 use Rattle.prefix_tree.specs.Tree.{IsTree, Grows, path_at}
 use Rattle.prefix_tree.specs.declared.tree.Node.{Node}
 use Rattle.prefix_tree.specs.declared.entry.Entry.{Entry}
+use Rattle.prefix_tree.proofs.Entries.{prefixes_like, prefixes_last}
 use Rattle.prefix_tree.proofs.Paths.{path_last, grows_more}
+use Rattle.prefix_tree.specs.Entries.{prefixes}
+use Rattle.symk_task.specs.declared.parts.Mode.TheVariants.{Loopless}
 use Rattle.loopless.specs.Left.{EndsAtLeast}
 use Rattle.loopless.specs.Reach.{IsLonger}
-use Rattle.loopless.specs.Children.{IsEntry, prefixes, Added, AreChildren}
+use Rattle.loopless.specs.Children.{IsEntry, Added, AreChildren}
 use Rattle.loopless.specs.declared.reach.Reached.{Reached}
 
 -- an entry stands where its place has the same prefix
@@ -35,17 +39,10 @@ pub each_like : (y : System) (a c : List Node) (es : List Entry) → length a �
 each_like y a c [] longer same z = tt
 each_like y a c (e ∷ es) longer same z = (entry_like y a c e longer same z.0, each_like y a c es longer same z.1)
 
-pub prefixes_like : (y : System) (a c : List Node) (es : List Entry) → ((i : ℕ) → i < length a → path_at c i ≡ path_at a i) → AllByRecursion (IsEntry y a) es → prefixes c es ≡ prefixes a es
-prefixes_like y a c [] same z = refl
-prefixes_like y a c (e ∷ es) same z =
-    let one = same e.node z.0.inside in
-    let rest = prefixes_like y a c es same z.1 in
-    λ i. one i ∷ rest i
-
 -- one prefix more, at the end of the tree
-module _ (y : System) (ss : List State) (nodes : List Node) (n : Node) (z : IsTree y ss nodes) (behind : n.parent < length nodes) (r : Reached) (longer : IsLonger y (path_at nodes n.parent ++ n.op ∷ []) r) (within : n.state < length ss) (run : Runs y y.initial (path_at nodes n.parent ++ n.op ∷ []) (state_at ss n.state)) where
-  pub grows_push : Grows y ss nodes (nodes ++ n ∷ [])
-  grows_push = grows_more y ss nodes n z behind longer.good within run
+module _ (y : System) (ss : List State) (nodes : List Node) (n : Node) (z : IsTree y Loopless ss nodes) (behind : n.parent < length nodes) (r : Reached) (longer : IsLonger y (path_at nodes n.parent ++ n.op ∷ []) r) (within : n.state < length ss) (run : Runs y y.initial (path_at nodes n.parent ++ n.op ∷ []) (state_at ss n.state)) where
+  pub grows_push : Grows y Loopless ss nodes (nodes ++ n ∷ [])
+  grows_push = grows_more y Loopless ss nodes n z behind longer.good within run
 
   -- the entry of the new prefix
   pub entry_push : (e k : Entry) → IsEntry y nodes e → e.node ≡ n.parent → k.node ≡ length nodes → k.cost ≡ e.cost + y.cost n.op → k.bound.0 ≡ k.cost + r.left.cost → k.at_goal ≡ r.at_goal → y.cost n.op < 2 ^ 64 → IsEntry y (nodes ++ n ∷ []) k × (path_at (nodes ++ n ∷ []) k.node ≡ path_at nodes n.parent ++ n.op ∷ [])
@@ -53,9 +50,9 @@ module _ (y : System) (ss : List State) (nodes : List Node) (n : Node) (z : IsTr
       let path : path_at (nodes ++ n ∷ []) k.node ≡ path_at nodes n.parent ++ n.op ∷ [] = path_last nodes n k.node z.some place in
       let same_path : path_at nodes e.node ≡ path_at nodes n.parent = ap (path_at nodes) at in
       let total : k.cost ≡ cost_of y (path_at nodes n.parent ++ n.op ∷ []) = omega (arith, cost, old.cost, ap (cost_of y) same_path, cost_join y (path_at nodes n.parent) (n.op ∷ [])) in
-      let low = bounds_by y (path_at nodes n.parent ++ n.op ∷ []) longer.good r.left.cost longer.left in
+      let low = bounds_by y (path_at nodes n.parent ++ n.op ∷ []) longer.good.end longer.good.runs r.left.cost longer.left in
       let b : k.bound.0 ≡ cost_of y (path_at nodes n.parent ++ n.op ∷ []) + r.left.cost = omega (arith, bound, total) in
-      let plan = plan_by y (path_at nodes n.parent ++ n.op ∷ []) longer.good r.at_goal longer.goal in (
+      let plan = plan_by y (path_at nodes n.parent ++ n.op ∷ []) longer.good.end longer.good.runs r.at_goal longer.goal in (
         record {
           inside = omega (arith, place, length-append nodes (n ∷ []));
           cost = subst (λ (q : List ℕ). k.cost ≡ cost_of y q) (sym path) total;
@@ -67,14 +64,6 @@ module _ (y : System) (ss : List State) (nodes : List Node) (n : Node) (z : IsTr
         },
         path,
       )
-
-prefix_join : (e q : List ℕ) → prefix e (e ++ q) ≡ true
-prefix_join [] q = refl
-prefix_join (x ∷ e) q = rw (eq-eqb x x refl, prefix_join e q) refl
-
-prefix_front : (e q r : List ℕ) → prefix e ((e ++ q) ++ r) ≡ true
-prefix_front [] q r = refl
-prefix_front (x ∷ e) q r = rw (eq-eqb x x refl, prefix_front e q r) refl
 
 -- what the bound of an entry leaves after what its prefix costs, and after what a longer one does
 pub ends_after : (y : System) (nodes : List Node) (e : Entry) (low : ℕ) → IsEntry y nodes e → low ≤ e.bound.0 - e.cost → EndsAtLeast y (path_at nodes e.node) low
@@ -93,24 +82,17 @@ each_last : {X : Type 0} (P : X → Type 0) (xs : List X) (x : X) → AllByRecur
 each_last P [] x a h = (h, tt)
 each_last P (z ∷ xs) x a h = (a.0, each_last P xs x a.1 h)
 
-prefixes_last : (nodes : List Node) (ks : List Entry) (k : Entry) → prefixes nodes (ks ++ k ∷ []) ≡ prefixes nodes ks ++ path_at nodes k.node ∷ []
-prefixes_last nodes [] k = refl
-prefixes_last nodes (j ∷ ks) k = ap (λ (z : List (List ℕ)). path_at nodes j.node ∷ z) (prefixes_last nodes ks k)
-
-sum_next : (n : ℕ) (f : ℕ → ℕ) → sum_ops (n + 1) f ≡ sum_ops n f + f n
-sum_next n f = rw add-one refl
-
 pub children_none : (y : System) (nodes : List Node) (e : List ℕ) → AreChildren y nodes e 0 []
-children_none y nodes e = record { each = tt; longer = tt; few = omega arith; counted = λ p i. refl }
+children_none y nodes e = record { each = tt; longer = tt; few = omega arith; counted = growing.children_none y Loopless e }
 
 pub children_like : (y : System) (a c : List Node) (e : List ℕ) (n : ℕ) (kids : List Entry) → length a ≤ length c → ((i : ℕ) → i < length a → path_at c i ≡ path_at a i) → AreChildren y a e n kids → AreChildren y c e n kids
 children_like y a c e n kids longer same g =
-    let back = sym (prefixes_like y a c kids same g.each) in
+    let back = sym (prefixes_like (IsEntry y a) a c kids (λ k z. z.inside) same g.each) in
     record {
       each = each_like y a c kids longer same g.each;
       longer = subst (AllByRecursion (λ k. length k ≡ length e + 1)) back g.longer;
       few = g.few;
-      counted = λ p i. subst (λ (ks : List (List ℕ)). count ks p ≡ sum_ops n (λ op. ind (prefix (e ++ op ∷ []) p))) back (g.counted p i);
+      counted = subst (ChildrenBelow y Loopless e n) back g.counted;
     }
 
 pub children_next : (y : System) (nodes : List Node) (e : List ℕ) (n : ℕ) (kids new : List Entry) → AreChildren y nodes e n kids → Added y nodes e n kids new → AreChildren y nodes e (n + 1) new
@@ -118,7 +100,7 @@ children_next y nodes e n kids new g (inl (same, lost)) = rw same (record {
   each = g.each;
   longer = g.longer;
   few = omega (arith, g.few);
-  counted = λ p i. omega (arith, sum_next n (λ op. ind (prefix (e ++ op ∷ []) p)), g.counted p i, lost p i);
+  counted = growing.children_skip y Loopless e n (prefixes nodes kids) g.counted lost;
 })
 children_next y nodes e n kids new g (inr (k, pushed, stands, path)) =
     let long : length (e ++ n ∷ []) ≡ length e + 1 = length-append e (n ∷ []) in
@@ -126,13 +108,5 @@ children_next y nodes e n kids new g (inr (k, pushed, stands, path)) =
       each = each_last (IsEntry y nodes) kids k g.each stands;
       longer = rw (prefixes_last nodes kids k, path) (each_last (λ (z : List ℕ). length z ≡ length e + 1) (prefixes nodes kids) (e ++ n ∷ []) g.longer long);
       few = omega (arith, g.few, length-append kids (k ∷ []));
-      counted = λ p i. rw (prefixes_last nodes kids k, path) (omega (arith, sum_next n (λ op. ind (prefix (e ++ op ∷ []) p)), g.counted p i, count_join (prefixes nodes kids) ((e ++ n ∷ []) ∷ []) p));
+      counted = rw (prefixes_last nodes kids k, path) (growing.children_more y Loopless e n (prefixes nodes kids) g.counted);
     })
-
--- no loopless plan goes on by any of the next so many operators
-pub children_past : (y : System) (nodes : List Node) (e : List ℕ) (n k : ℕ) (kids : List Entry) → AreChildren y nodes e n kids → ((op : ℕ) → n ≤ op → op < n + k → Hopeless y (e ++ op ∷ [])) → AreChildren y nodes e (n + k) kids
-children_past y nodes e n zero kids z lost = let same : n ≡ n + 0 = omega arith in subst (λ (m : ℕ). AreChildren y nodes e m kids) same z
-children_past y nodes e n (suc k) kids z lost =
-    let same : n + k + 1 ≡ n + suc k = omega arith in
-    let before = children_past y nodes e n k kids z (λ op ge lt. lost op ge (omega (arith, lt))) in
-    subst (λ (m : ℕ). AreChildren y nodes e m kids) same (children_next y nodes e (n + k) kids kids before (inl (refl, lost (n + k) (omega arith) (omega arith))))

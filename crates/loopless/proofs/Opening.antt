@@ -8,42 +8,45 @@ use Rattle.space_api.specs.View.{View}
 use Rattle.space_api.proofs.Trading.{valid_clash}
 use Rattle.lazy_plans.specs.Law.{Gave, Stays}
 use Rattle.cost_search.specs.Directed.{Backward}
-use Rattle.prefix_laws.specs.Queue.{Good, Right, Pending, Children, weight}
+use Rattle.prefix_laws.specs.Queue.{Good, Right, Pending}
 use Rattle.prefix_tree.specs.StateGraph.{states_of, IsStateGraph}
 use Rattle.prefix_tree.specs.declared.state_graph.StateGraph.{StateGraph}
 use Rattle.prefix_tree.specs.Tree.{Grows, path_at}
 use Rattle.prefix_tree.specs.declared.tree.Node.{Node}
 use Rattle.prefix_tree.specs.declared.entry.Entry.{Entry}
-use Rattle.loopless.specs.Children.{IsEntry, prefixes, AreChildren}
+use Rattle.prefix_tree.specs.Entries.{prefixes}
+use Rattle.prefix_laws.specs.Weight.{weight, AreLonger}
+use Rattle.prefix_tree.proofs.Entries.{prefixes_length, prefixes_like, first_is, each_new}
+use Rattle.loopless.specs.Children.{IsEntry, AreChildren}
 use Rattle.loopless.specs.Standing.{all_stale, work, IsReady, GoesOn, GivesFirst, Opens, IsPlanAt}
-use Rattle.loopless.proofs.Growing.{each_like, prefixes_like}
-use Rattle.loopless.proofs.Turning.{first_is, each_new, goes, gives, prefixes_length}
+use Rattle.loopless.proofs.Growing.{each_like}
+use Rattle.loopless.proofs.Turning.{goes, gives}
 use Rattle.loopless.proofs.Readying.{good_at}
 
 -- the old entries stand for the same prefixes in the larger tree
 goes_as : (y : System) (a c : List Node) (es new : List Entry) → prefixes c es ≡ prefixes a es → GoesOn y c c es new → GoesOn y a c es new
 goes_as y a c es new same g most right =
-    let h = g most (subst (Right y most) (sym same) right) in
-    (h.0, subst (λ (ps : List (List ℕ)). Stays (Pending y ps) (Pending y (prefixes c new))) same h.1, subst (λ (ps : List (List ℕ)). work y c new < 2 ^ 65 * weight y ps + all_stale es) same h.2)
+    let h = g most (subst (Right y Loopless most) (sym same) right) in
+    (h.0, subst (λ (ps : List (List ℕ)). Stays (Pending y Loopless ps) (Pending y Loopless (prefixes c new))) same h.1, subst (λ (ps : List (List ℕ)). work y c new < 2 ^ 65 * weight y ps + all_stale es) same h.2)
 
 gives_as : (y : System) (a c : List Node) (e : Entry) (es new : List Entry) (p : List ℕ) → prefixes c es ≡ prefixes a es → GivesFirst y c c e es new p → GivesFirst y a c e es new p
 gives_as y a c e es new p same g most right least cheap =
-    let h = g most (subst (Right y most) (sym same) right) least cheap in
-    (h.0, subst (λ (ps : List (List ℕ)). Gave y Loopless most (Pending y ps) (Pending y (prefixes c new)) p) same h.1)
+    let h = g most (subst (Right y Loopless most) (sym same) right) least cheap in
+    (h.0, subst (λ (ps : List (List ℕ)). Gave y Loopless most (Pending y Loopless ps) (Pending y Loopless (prefixes c new)) p) same h.1)
 
-counted : (y : System) (c : List Node) (e : List ℕ) (kids : List Entry) → AreChildren y c e y.operators kids → Children y e (prefixes c kids)
-counted y c e kids z = record { counted = z.counted; longer = z.longer; few = omega (arith, z.few, prefixes_length c kids) }
+longer : (y : System) (c : List Node) (e : List ℕ) (kids : List Entry) → AreChildren y c e y.operators kids → AreLonger y e (prefixes c kids)
+longer y c e kids z = record { longer = z.longer; few = omega (arith, z.few, prefixes_length c kids) }
 
 pub on_err : {X E P : Type 0} (r : Result X E) → P → OnErr r P
 on_err (Ok x) p = tt
 on_err (Err e) p = p
 
 -- the tree grew, and the queue is as it was
-pub ready_grown : {Set : Type 0} (v : View Set) (b : Backward Set) (m n : StateGraph) (a c : List Node) (es : List Entry) → IsStateGraph v.system n → Grows v.system (states_of n) a c → IsReady v b m a es → IsReady v b n c es
+pub ready_grown : {Set : Type 0} (v : View Set) (b : Backward Set) (m n : StateGraph) (a c : List Node) (es : List Entry) → IsStateGraph v.system n → Grows v.system Loopless (states_of n) a c → IsReady v b m a es → IsReady v b n c es
 ready_grown v b m n a c es graph g z = record { alone = z.alone; graph = graph; tree = g.tree; each = each_like v.system a c es g.longer g.paths z.each }
 
 -- the children came to the tree, and the entry gave way to them in the queue
-module _ {Set : Type 0} (v : View Set) (b : Backward Set) (m n : StateGraph) (a c : List Node) (es kids new : List Entry) (e : Entry) (graph : IsStateGraph v.system n) (g : Grows v.system (states_of n) a c) (z : IsReady v b m a es) (some : 0 < length es) (first : e ≡ slice_index_or es 0 e) (children : AreChildren v.system c (path_at a e.node) v.system.operators kids) (perm : IsPermutation (es ++ kids) (e ∷ new)) where
+module _ {Set : Type 0} (v : View Set) (b : Backward Set) (m n : StateGraph) (a c : List Node) (es kids new : List Entry) (e : Entry) (graph : IsStateGraph v.system n) (g : Grows v.system Loopless (states_of n) a c) (z : IsReady v b m a es) (some : 0 < length es) (first : e ≡ slice_index_or es 0 e) (children : AreChildren v.system c (path_at a e.node) v.system.operators kids) (perm : IsPermutation (es ++ kids) (e ∷ new)) where
   old_entry : IsEntry v.system a e
   old_entry = first_is (IsEntry v.system a) es e some first z.each
 
@@ -51,28 +54,28 @@ module _ {Set : Type 0} (v : View Set) (b : Backward Set) (m n : StateGraph) (a 
   each_old = each_like v.system a c es g.longer g.paths z.each
 
   pub open_ready : IsReady v b n c new
-  open_ready = record { alone = z.alone; graph = graph; tree = g.tree; each = each_new v.system c es kids new e perm (IsEntry v.system c) each_old children.each }
+  open_ready = record { alone = z.alone; graph = graph; tree = g.tree; each = each_new es kids new e perm (IsEntry v.system c) each_old children.each }
 
   entry : IsEntry v.system c e
   entry = first_is (IsEntry v.system c) es e some first each_old
 
   same : prefixes c es ≡ prefixes a es
-  same = prefixes_like v.system a c es g.paths z.each
+  same = prefixes_like (IsEntry v.system a) a c es (λ k w. w.inside) g.paths z.each
 
   path : path_at c e.node ≡ path_at a e.node
   path = g.paths e.node old_entry.inside
 
-  good : Good v.system (path_at c e.node)
+  good : Good v.system Loopless (path_at c e.node)
   good = good_at v.system (states_of n) c e g.tree entry
 
-  all_children : Children v.system (path_at c e.node) (prefixes c kids)
-  all_children = counted v.system c (path_at c e.node) kids (subst (λ (p : List ℕ). AreChildren v.system c p v.system.operators kids) (sym path) children)
+  all_children : AreChildren v.system c (path_at c e.node) v.system.operators kids
+  all_children = subst (λ (p : List ℕ). AreChildren v.system c p v.system.operators kids) (sym path) children
 
   opened : (o : Option (List ℕ)) → IsPlanAt c e o → Opens v.system a c e es new o
   opened None off =
-      goes_as v.system a c es new same (goes v.system c es kids new e perm some first good all_children children.each (λ p. valid_clash (entry.plan.1 p) off))
+      goes_as v.system a c es new same (goes v.system c es kids new e perm some first good all_children.counted (longer v.system c (path_at c e.node) kids all_children) children.each (λ p. valid_clash (entry.plan.1 p) off))
   opened (Some p) on =
-      (on.0, gives_as v.system a c e es new p same (subst (GivesFirst v.system c c e es new) (sym on.1) (gives v.system c es kids new e perm some first good all_children children.each each_old (entry.plan.0 on.0))))
+      (on.0, gives_as v.system a c e es new p same (subst (GivesFirst v.system c c e es new) (sym on.1) (gives v.system c es kids new e perm some first good all_children.counted each_old (entry.plan.0 on.0))))
 
   plan_on : (o : Option (List ℕ)) → IsPlanAt a e o → IsPlanAt c e o
   plan_on None h = h

@@ -6,41 +6,43 @@ use Rattle.task_system.specs.System.{State, System}
 use Rattle.space_api.specs.View.{View}
 use Rattle.cost_search.specs.Directed.{Backward, IsBackward}
 use Rattle.prefix_laws.specs.Queue.{Good, Replaced}
+use Rattle.prefix_laws.proofs.Falls.{back_weight}
 use Rattle.prefix_laws.proofs.Turns as turns
 use Rattle.prefix_tree.specs.StateGraph.{states_of, IsStateGraph}
 use Rattle.prefix_tree.specs.declared.state_graph.StateGraph.{StateGraph}
 use Rattle.prefix_tree.specs.Tree.{IsTree, path_at}
 use Rattle.prefix_tree.specs.declared.tree.Node.{Node}
 use Rattle.prefix_tree.specs.declared.entry.Entry.{Entry}
-use Rattle.loopless.specs.Children.{IsEntry, prefixes}
+use Rattle.prefix_tree.specs.Entries.{prefixes}
+use Rattle.symk_task.specs.declared.parts.Mode.TheVariants.{Loopless}
+use Rattle.prefix_tree.proofs.Entries.{first_is, replaced_by, each_new}
+use Rattle.loopless.specs.Children.{IsEntry}
 use Rattle.loopless.specs.Standing.{Moved, IsBetter, IsReady, GoesOn, listed_of}
 use Rattle.loopless.proofs.Inside.{alone_moved}
-use Rattle.loopless.proofs.Turning.{first_is, first_in, replaced_by, each_new, stale_new, goes}
+use Rattle.loopless.proofs.Turning.{stale_new, goes}
 
 pub ready_moved : {Set : Type 0} (v w : View Set) (b h : Backward Set) (graph : StateGraph) (nodes : List Node) (es : List Entry) → IsBackward w h → Moved v w b h → IsReady v b graph nodes es → IsReady w h graph nodes es
 ready_moved v w b h graph nodes es back m z = record {
   alone = alone_moved v w b h back m z.alone;
   graph = subst (λ (y : System). IsStateGraph y graph) (sym m.trades.system) z.graph;
-  tree = subst (λ (y : System). IsTree y (states_of graph) nodes) (sym m.trades.system) z.tree;
+  tree = subst (λ (y : System). IsTree y Loopless (states_of graph) nodes) (sym m.trades.system) z.tree;
   each = subst (λ (y : System). AllByRecursion (IsEntry y nodes) es) (sym m.trades.system) z.each;
 }
 
 -- a prefix in the tree is good
-pub good_at : (y : System) (ss : List State) (nodes : List Node) (e : Entry) → IsTree y ss nodes → IsEntry y nodes e → Good y (path_at nodes e.node)
+pub good_at : (y : System) (ss : List State) (nodes : List Node) (e : Entry) → IsTree y Loopless ss nodes → IsEntry y nodes e → Good y Loopless (path_at nodes e.node)
 good_at y ss nodes e z entry = (z.each e.node entry.inside).good
 
 -- what is learned of the first entry
-learned : (y : System) (nodes : List Node) (es new : List Entry) (e : Entry) (o : Option Entry) → 0 < length es → e ≡ slice_index_or es 0 e → Good y (path_at nodes e.node) → IsBetter y nodes e o → IsPermutation (es ++ listed_of o) (e ∷ new) → GoesOn y nodes nodes es new
+learned : (y : System) (nodes : List Node) (es new : List Entry) (e : Entry) (o : Option Entry) → 0 < length es → e ≡ slice_index_or es 0 e → Good y Loopless (path_at nodes e.node) → IsBetter y nodes e o → IsPermutation (es ++ listed_of o) (e ∷ new) → GoesOn y nodes nodes es new
 learned y nodes es new e None some first good lost perm most right =
-    let inside = first_in nodes es e some first in
-    let none = turns.none_come y most (path_at nodes e.node) (prefixes nodes es) right good inside lost in
-    goes y nodes es [] new e perm some first good none tt (turns.no_plan y most (path_at nodes e.node) (prefixes nodes es) right good inside lost) most right
+    goes y nodes es [] new e perm some first good (turns.none_come y Loopless (path_at nodes e.node) lost) (record { longer = tt; few = omega arith }) tt (turns.no_plan y Loopless (path_at nodes e.node) good lost) most right
 learned y nodes es new e (Some k) some first good h perm most right =
     let path : path_at nodes k.node ≡ path_at nodes e.node = ap (path_at nodes) h.0 in
-    let r : Replaced (prefixes nodes es) (path_at nodes e.node ∷ []) (path_at nodes e.node) (prefixes nodes new) = subst (λ (p : List ℕ). Replaced (prefixes nodes es) (p ∷ []) (path_at nodes e.node) (prefixes nodes new)) path (replaced_by y nodes es (k ∷ []) new e perm) in
-    let w = turns.back_weight y most (path_at nodes e.node) (prefixes nodes es) (prefixes nodes new) r in (
-      turns.back_right y most (path_at nodes e.node) (prefixes nodes es) (prefixes nodes new) r right,
-      turns.back_stays y most (path_at nodes e.node) (prefixes nodes es) (prefixes nodes new) r,
+    let r : Replaced (prefixes nodes es) (path_at nodes e.node ∷ []) (path_at nodes e.node) (prefixes nodes new) = subst (λ (p : List ℕ). Replaced (prefixes nodes es) (p ∷ []) (path_at nodes e.node) (prefixes nodes new)) path (replaced_by es (k ∷ []) new e perm nodes) in
+    let w = back_weight y (path_at nodes e.node) (prefixes nodes es) (prefixes nodes new) r in (
+      turns.back_right y Loopless (path_at nodes e.node) (prefixes nodes es) (prefixes nodes new) r most right,
+      turns.back_stays y Loopless (path_at nodes e.node) (prefixes nodes es) (prefixes nodes new) r,
       omega (arith, w, h.2, stale_new y nodes es (k ∷ []) new e perm),
     )
 
@@ -51,7 +53,7 @@ module _ {Set : Type 0} (v : View Set) (b : Backward Set) (m : StateGraph) (node
   each_of (Some k) h = (h.1, tt)
 
   pub learned_ready : IsReady v b m nodes new
-  learned_ready = record { alone = z.alone; graph = z.graph; tree = z.tree; each = each_new v.system nodes es (listed_of o) new e perm (IsEntry v.system nodes) z.each (each_of o better) }
+  learned_ready = record { alone = z.alone; graph = z.graph; tree = z.tree; each = each_new es (listed_of o) new e perm (IsEntry v.system nodes) z.each (each_of o better) }
 
   pub learned_goes : GoesOn v.system nodes nodes es new
   learned_goes = learned v.system nodes es new e o some first (good_at v.system (states_of m) nodes e z.tree (first_is (IsEntry v.system nodes) es e some first z.each)) better perm

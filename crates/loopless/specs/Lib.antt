@@ -3,6 +3,5 @@ pub mod Reach
 pub mod Children
 pub mod Standing
 pub mod Turned
-pub mod Owing
+pub mod Sound
 pub mod Engine
-pub mod Laws

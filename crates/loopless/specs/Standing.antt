@@ -8,15 +8,17 @@ use Rattle.cost_search.specs.Search.{IsOwn, within_of}
 use Rattle.cost_search.specs.Directed.{Backward, IsBackward, search_of}
 use Rattle.symk_task.specs.declared.parts.Mode.TheVariants.{Loopless}
 use Rattle.lazy_plans.specs.Law.{Gave, Stays, top}
-use Rattle.prefix_laws.specs.Queue.{Hopeless, Right, Pending, weight}
+use Rattle.prefix_laws.specs.Queue.{Hopeless, Right, Pending}
 use Rattle.prefix_tree.specs.StateGraph.{states_of, IsStateGraph}
 use Rattle.prefix_tree.specs.declared.state_graph.StateGraph.{StateGraph}
 use Rattle.prefix_tree.specs.Tree.{IsTree, path_at}
 use Rattle.prefix_tree.specs.declared.tree.Node.{Node}
 use Rattle.prefix_tree.specs.declared.entry.Entry.{Entry}
 use Rattle.single_states.specs.States.{IsReached}
+use Rattle.prefix_tree.specs.Entries.{prefixes}
+use Rattle.prefix_laws.specs.Weight.{weight}
 use Rattle.loopless.specs.Left.{IsWide}
-use Rattle.loopless.specs.Children.{IsEntry, prefixes}
+use Rattle.loopless.specs.Children.{IsEntry}
 
 -- the search back went on: its sets alone were traded, and it is kept to the same set as before
 pub record Moved {Set : Type 0} (v w : View Set) (b h : Backward Set) : Type 0 where
@@ -53,7 +55,7 @@ all_stale (e ∷ es) = stale e + all_stale es
 
 -- no plan goes on from the prefix, or more is known of it
 abbrev pub IsBetter : System → List Node → Entry → Option Entry → Type 0
-IsBetter y nodes e None = Hopeless y (path_at nodes e.node)
+IsBetter y nodes e None = Hopeless y Loopless (path_at nodes e.node)
 IsBetter y nodes e (Some k) = (k.node ≡ e.node) × IsEntry y nodes k × (stale k < stale e)
 
 -- what is left to do
@@ -65,7 +67,7 @@ work y nodes es = 2 ^ 65 * weight y (prefixes nodes es) + all_stale es
 pub record IsReady {Set : Type 0} (v : View Set) (b : Backward Set) (m : StateGraph) (nodes : List Node) (es : List Entry) : Type 0 where
   pub alone : IsAlone v b
   pub graph : IsStateGraph v.system m
-  pub tree : IsTree v.system (states_of m) nodes
+  pub tree : IsTree v.system Loopless (states_of m) nodes
   pub each : AllByRecursion (IsEntry v.system nodes) es
 
 -- the entry alone, or none
@@ -75,11 +77,11 @@ listed_of (Some e) = e ∷ []
 
 -- the queue goes on: what pends is the same, and there is less to do
 abbrev pub GoesOn : System → List Node → List Node → List Entry → List Entry → Type 0
-GoesOn y a b old new = (most : Option ℕ) → Right y most (prefixes a old) → Right y most (prefixes b new) × Stays (Pending y (prefixes a old)) (Pending y (prefixes b new)) × (work y b new < work y a old)
+GoesOn y a b old new = (most : Option ℕ) → Right y Loopless most (prefixes a old) → Right y Loopless most (prefixes b new) × Stays (Pending y Loopless (prefixes a old)) (Pending y Loopless (prefixes b new)) × (work y b new < work y a old)
 
 -- the plan of the first entry is given, if no other has a lesser bound and it is cheap enough
 abbrev pub GivesFirst : System → List Node → List Node → Entry → List Entry → List Entry → List ℕ → Type 0
-GivesFirst y a b e old new p = (most : Option ℕ) → Right y most (prefixes a old) → AllByRecursion (λ (k : Entry). e.bound.0 ≤ k.bound.0) old → e.cost ≤ top most → Right y most (prefixes b new) × Gave y Loopless most (Pending y (prefixes a old)) (Pending y (prefixes b new)) p
+GivesFirst y a b e old new p = (most : Option ℕ) → Right y Loopless most (prefixes a old) → AllByRecursion (λ (k : Entry). e.bound.0 ≤ k.bound.0) old → e.cost ≤ top most → Right y Loopless most (prefixes b new) × Gave y Loopless most (Pending y Loopless (prefixes a old)) (Pending y Loopless (prefixes b new)) p
 
 abbrev pub Opens : System → List Node → List Node → Entry → List Entry → List Entry → Option (List ℕ) → Type 0
 Opens y a b e old new None = GoesOn y a b old new

@@ -51,6 +51,7 @@ impl<S: Space + Drop> LooplessPlans<S> {
         queue.push(Entry {
             bound: Reverse(0),
             cost: 0,
+            ring: Reverse(0),
             node: 0,
             settled: false,
             at_goal,

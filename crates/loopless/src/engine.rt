@@ -28,10 +28,9 @@ pub struct LooplessPlans<S: Space> {
 ghost use Rattle.std.specs.Prelude.{◌≡◌, ◌≢◌, None, IfOk};
 ghost use Rattle.symk_task.specs.declared.parts.Mode.TheVariants.{Loopless};
 ghost use Rattle.lazy_plans.specs.Law.{Turned, last_of};
-ghost use Rattle.prefix_tree.specs.Entries.{entries_of};
-ghost use Rattle.loopless.specs.Children.{prefixes};
+ghost use Rattle.prefix_laws.proofs.Owed.{owed_fair, owed_told};
+ghost use Rattle.prefix_tree.specs.Entries.{entries_of, prefixes};
 ghost use Rattle.loopless.specs.Engine.{system_of, most_of, ended_of, Pends, tells, IsEngine, KeepsAll, HasRoom, Answers};
-ghost use Rattle.loopless.specs.Laws.{owed_fair, owed_told};
 
 use crate::walk::walk;
 use lazy_plans::{LazyPlans, Steps};
@@ -120,8 +119,9 @@ impl<S: Space> LazyPlans for LooplessPlans<S> {
         }
     }
 
-    ghost fair = { λ x l. owed_fair (S.view x.space).system x.most
+    ghost fair = { λ x l. owed_fair (S.view x.space).system Loopless x.most
         (prefixes x.tree.items (entries_of x.queue)) x.held x.ended l.right l.holds };
 
-    ghost told = { λ x l p. owed_told (S.view x.space).system (prefixes x.tree.items (entries_of x.queue)) x.held p };
+    ghost told = { λ x l p. owed_told (S.view x.space).system Loopless
+        (prefixes x.tree.items (entries_of x.queue)) x.held p };
 }

@@ -6,6 +6,7 @@ ghost use Rattle.cost_search.specs.Directed.{IsBackward};
 ghost use Rattle.prefix_tree.specs.Tree.{IsTree, Grows, path_at, end_at};
 ghost use Rattle.prefix_tree.specs.StateGraph.{states_of, IsStateGraph, IsMove, AreMoves};
 ghost use Rattle.prefix_tree.specs.Entries.{HasRoom, entries_of};
+ghost use Rattle.symk_task.specs.declared.parts.Mode.TheVariants.{Loopless};
 ghost use Rattle.loopless.specs.Left.{IsWide};
 ghost use Rattle.loopless.specs.Children.{IsEntry, Added, AreChildren};
 
@@ -29,6 +30,7 @@ fn entry_of(cost: u128, left: u128, node: usize, settled: bool, at_goal: bool) -
     Entry {
         bound: Reverse(cost + left),
         cost,
+        ring: Reverse(0),
         node,
         settled,
         at_goal,
@@ -50,11 +52,12 @@ fn add_child<S: Space>(
     requires backward { IsBackward (S.view space.now) backward.now }
     requires wide { IsWide (S.view space.now) backward.now }
     requires graph { IsStateGraph (S.view space.now).system graph.now }
-    requires tree { IsTree (S.view space.now).system (states_of graph.now) tree.old.items }
+    requires tree { IsTree (S.view space.now).system Loopless (states_of graph.now) tree.old.items }
     requires entry { IsEntry (S.view space.now).system tree.old.items entry }
     requires step { IsMove (S.view space.now).system (states_of graph.now)
         (end_at (states_of graph.now) tree.old.items entry.node) step }
-    ensures grows { Grows (S.view space.now).system (states_of graph.now) tree.old.items tree.new.items }
+    ensures grows { Grows (S.view space.now).system Loopless (states_of graph.now)
+        tree.old.items tree.new.items }
     ensures added { OnOk result (Added (S.view space.now).system tree.new.items
         (path_at tree.old.items entry.node) step.op children.old.items children.new.items) }
 {
@@ -85,12 +88,13 @@ fn add_all<S: Space>(
     requires backward { IsBackward (S.view space.now) backward.now }
     requires wide { IsWide (S.view space.now) backward.now }
     requires graph { IsStateGraph (S.view space.now).system graph.now }
-    requires tree { IsTree (S.view space.now).system (states_of graph.now) tree.old.items }
+    requires tree { IsTree (S.view space.now).system Loopless (states_of graph.now) tree.old.items }
     requires entry { IsEntry (S.view space.now).system tree.old.items entry }
     requires moves { AreMoves (S.view space.now).system (states_of graph.now)
         (end_at (states_of graph.now) tree.old.items entry.node) moves.now }
     requires none { children.old.items ≡ [] }
-    ensures grows { Grows (S.view space.now).system (states_of graph.now) tree.old.items tree.new.items }
+    ensures grows { Grows (S.view space.now).system Loopless (states_of graph.now)
+        tree.old.items tree.new.items }
     ensures children { OnOk result (AreChildren (S.view space.now).system tree.new.items
         (path_at tree.old.items entry.node) (S.view space.now).system.operators children.new.items) }
 {
@@ -113,11 +117,12 @@ pub(crate) fn expand<S: Space>(
     requires backward { IsBackward (S.view space.now) backward.now }
     requires wide { IsWide (S.view space.now) backward.now }
     requires graph { IsStateGraph (S.view space.now).system graph.old }
-    requires tree { IsTree (S.view space.now).system (states_of graph.old) tree.old.items }
+    requires tree { IsTree (S.view space.now).system Loopless (states_of graph.old) tree.old.items }
     requires entry { IsEntry (S.view space.now).system tree.old.items entry }
     ensures graph { IsStateGraph (S.view space.now).system graph.new }
     ensures queue { entries_of queue.new ≡ entries_of queue.old }
-    ensures grows { Grows (S.view space.now).system (states_of graph.new) tree.old.items tree.new.items }
+    ensures grows { Grows (S.view space.now).system Loopless (states_of graph.new)
+        tree.old.items tree.new.items }
     ensures room { IfOk result (λ kids. HasRoom queue.new (length kids.items)) }
     ensures children { IfOk result (λ kids. AreChildren (S.view space.now).system tree.new.items
         (path_at tree.old.items entry.node) (S.view space.now).system.operators kids.items) }

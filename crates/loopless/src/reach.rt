@@ -8,6 +8,7 @@ ghost use Rattle.cost_search.specs.Directed.{IsBackward};
 ghost use Rattle.single_states.specs.States.{IsReached};
 ghost use Rattle.prefix_tree.specs.StateGraph.{states_of, state_at, IsStateGraph, IsMove};
 ghost use Rattle.prefix_tree.specs.Tree.{IsTree, path_at, end_at};
+ghost use Rattle.symk_task.specs.declared.parts.Mode.TheVariants.{Loopless};
 ghost use Rattle.loopless.specs.Left.{IsWide, CostsAtLeast, EndsAtLeast};
 ghost use Rattle.loopless.specs.Reach.{IsReach};
 
@@ -58,7 +59,7 @@ pub(crate) fn reach<S: Space>(
     requires backward { IsBackward (S.view space.now) backward.now }
     requires wide { IsWide (S.view space.now) backward.now }
     requires graph { IsStateGraph (S.view space.now).system graph.now }
-    requires tree { IsTree (S.view space.now).system (states_of graph.now) tree.now }
+    requires tree { IsTree (S.view space.now).system Loopless (states_of graph.now) tree.now }
     requires node { node < length tree.now }
     requires step { IsMove (S.view space.now).system (states_of graph.now)
         (end_at (states_of graph.now) tree.now node) step }

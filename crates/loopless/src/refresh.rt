@@ -5,6 +5,7 @@ ghost use Rattle.space_api.specs.View.{View};
 ghost use Rattle.cost_search.specs.Directed.{IsBackward};
 ghost use Rattle.prefix_tree.specs.StateGraph.{states_of, IsStateGraph};
 ghost use Rattle.prefix_tree.specs.Tree.{IsTree};
+ghost use Rattle.symk_task.specs.declared.parts.Mode.TheVariants.{Loopless};
 ghost use Rattle.loopless.specs.Left.{IsWide};
 ghost use Rattle.loopless.specs.Children.{IsEntry};
 ghost use Rattle.loopless.specs.Standing.{Moved, IsBetter, stale};
@@ -53,6 +54,7 @@ fn improved(entry: Entry, left: Left) -> Entry
         return Entry {
             bound: Reverse(bound),
             cost: entry.cost,
+            ring: entry.ring,
             node: entry.node,
             settled: true,
             at_goal: entry.at_goal,
@@ -62,6 +64,7 @@ fn improved(entry: Entry, left: Left) -> Entry
         return Entry {
             bound: Reverse(bound),
             cost: entry.cost,
+            ring: entry.ring,
             node: entry.node,
             settled: false,
             at_goal: entry.at_goal,
@@ -70,6 +73,7 @@ fn improved(entry: Entry, left: Left) -> Entry
     Entry {
         bound: entry.bound,
         cost: entry.cost,
+        ring: entry.ring,
         node: entry.node,
         settled: true,
         at_goal: entry.at_goal,
@@ -87,7 +91,7 @@ fn improve<S: Space>(
     requires backward { IsBackward (S.view space.now) backward.now }
     requires wide { IsWide (S.view space.now) backward.now }
     requires graph { IsStateGraph (S.view space.now).system graph.now }
-    requires tree { IsTree (S.view space.now).system (states_of graph.now) tree.now }
+    requires tree { IsTree (S.view space.now).system Loopless (states_of graph.now) tree.now }
     requires entry { IsEntry (S.view space.now).system tree.now entry }
     requires open { IsFalse entry.settled }
     ensures { IsBetter (S.view space.now).system tree.now entry result }
@@ -113,7 +117,7 @@ pub(crate) fn refresh<S: Space>(
     requires backward { IsBackward (S.view space.old) backward.old }
     requires wide { IsWide (S.view space.old) backward.old }
     requires graph { IsStateGraph (S.view space.old).system graph.now }
-    requires tree { IsTree (S.view space.old).system (states_of graph.now) tree.now }
+    requires tree { IsTree (S.view space.old).system Loopless (states_of graph.now) tree.now }
     requires entry { IsEntry (S.view space.old).system tree.now entry }
     requires open { IsFalse entry.settled }
     ensures backward { IsBackward (S.view space.new) backward.new }

@@ -3,8 +3,7 @@
 ghost use Rattle.std.specs.Prelude.{◌≡◌, ◌+◌, ◌<◌, IsFalse, IfOk, OnOk, OnErr, length, slice_index_or};
 ghost use Rattle.space_api.specs.View.{View};
 ghost use Rattle.prefix_tree.specs.Tree.{AreLinked};
-ghost use Rattle.prefix_tree.specs.Entries.{entries_of};
-ghost use Rattle.loopless.specs.Children.{prefixes};
+ghost use Rattle.prefix_tree.specs.Entries.{entries_of, prefixes};
 ghost use Rattle.loopless.specs.Standing.{IsReady, GoesOn, Opens, IsPlanAt, listed_of};
 
 use crate::expand::expand;

@@ -4,10 +4,9 @@ ghost use Rattle.std.specs.Prelude.{◌≡◌, ◌+◌, ◌<◌, IfOk, OnOk, OnE
 ghost use Rattle.std.specs.Bool.{Decides};
 ghost use Rattle.symk_task.specs.declared.parts.Mode.TheVariants.{Loopless};
 ghost use Rattle.space_api.specs.View.{View};
-ghost use Rattle.prefix_tree.specs.Entries.{entries_of};
+ghost use Rattle.prefix_tree.specs.Entries.{entries_of, prefixes};
 ghost use Rattle.prefix_laws.specs.Queue.{Right, Pending};
 ghost use Rattle.lazy_plans.specs.Law.{Turned};
-ghost use Rattle.loopless.specs.Children.{prefixes};
 ghost use Rattle.loopless.specs.Standing.{IsReady, Opens};
 ghost use Rattle.loopless.specs.Turned.{TurnOf, CountsTurn, IsPast, IsOut};
 
@@ -91,7 +90,8 @@ fn take_turn<S: Space, L: Ledger>(
     steps: &mut Steps<L>,
 ) -> Result<Turn, SpaceFault>
     requires ready { IsReady (S.view space.old) backward.old graph.old tree.old.items (entries_of queue.old) }
-    requires right { Right (S.view space.old).system most (prefixes tree.old.items (entries_of queue.old)) }
+    requires right { Right (S.view space.old).system Loopless most
+        (prefixes tree.old.items (entries_of queue.old)) }
     ensures system { (S.view space.new).system ≡ (S.view space.old).system }
     ensures ready { IsReady (S.view space.new) backward.new graph.new tree.new.items (entries_of queue.new) }
     ensures ok { IfOk result (TurnOf (S.view space.old).system most tree.old.items tree.new.items
@@ -130,13 +130,16 @@ pub fn walk<S: Space, L: Ledger>(
     steps: &mut Steps<L>,
 ) -> Result<Option<Plan>, Stop>
     requires ready { IsReady (S.view space.old) backward.old graph.old tree.old.items (entries_of queue.old) }
-    requires right { Right (S.view space.old).system most (prefixes tree.old.items (entries_of queue.old)) }
+    requires right { Right (S.view space.old).system Loopless most
+        (prefixes tree.old.items (entries_of queue.old)) }
     ensures system { (S.view space.new).system ≡ (S.view space.old).system }
     ensures ready { IsReady (S.view space.new) backward.new graph.new tree.new.items (entries_of queue.new) }
-    ensures right { Right (S.view space.old).system most (prefixes tree.new.items (entries_of queue.new)) }
-    ensures law { Turned (S.view space.old).system Loopless most (Pending (S.view space.old).system
-        (prefixes tree.old.items (entries_of queue.old))) (Pending (S.view space.old).system
-        (prefixes tree.new.items (entries_of queue.new))) result }
+    ensures right { Right (S.view space.old).system Loopless most
+        (prefixes tree.new.items (entries_of queue.new)) }
+    ensures law { Turned (S.view space.old).system Loopless most
+        (Pending (S.view space.old).system Loopless (prefixes tree.old.items (entries_of queue.old)))
+        (Pending (S.view space.old).system Loopless (prefixes tree.new.items (entries_of queue.new)))
+        result }
 {
     'turns: loop {
         match take_turn(alloc, space, backward, graph, tree, most, queue, steps) {

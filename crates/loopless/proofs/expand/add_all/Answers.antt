@@ -1,5 +1,6 @@
 use Rattle.std.proofs.Common.{◌+◌, ◌<◌, ℕ, List, get_or, sym, ap, subst, arith}
 use Rattle.space_api.proofs.Rising.{past_none, past_next, never_falls}
+use Rattle.symk_task.specs.declared.parts.Mode.TheVariants.{Loopless}
 use Rattle.task_system.specs.System.{State}
 use Rattle.prefix_tree.specs.StateGraph.{states_of, state_at, ops_of, IsMove}
 use Rattle.prefix_tree.specs.Tree.{path_at}
@@ -7,7 +8,8 @@ use Rattle.prefix_tree.specs.declared.state_graph.Move.{Move}
 use Rattle.prefix_tree.proofs.Paths.{grows_refl, grows_trans}
 use Rattle.loopless.specs.Children.{Added, AreChildren}
 use Rattle.loopless.proofs.Growing.{children_none, children_like, children_next}
-use Rattle.loopless.proofs.Skipping.{op_at, ops_few, ops_many, skip_to}
+use Rattle.prefix_tree.proofs.Going.{op_at, ops_few, ops_many}
+use Rattle.loopless.proofs.Skipping.{skip_to}
 use Rattle.loopless.proofs.expand.add_all.Goals as goal
 
 pub moves-init : goal.moves-init
@@ -16,7 +18,7 @@ moves-init g c =
     let a = c.args.tree.now.items in
     let e = path_at a c.args.entry.node in
     record {
-      grows = grows_refl y (states_of c.args.graph.now) a c.requires.tree;
+      grows = grows_refl y Loopless (states_of c.args.graph.now) a c.requires.tree;
       children = (0, past_none (ops_of c.args.moves.now), omega arith, subst (AreChildren y a e 0) (sym c.requires.none) (children_none y a e));
     }
 
@@ -52,7 +54,7 @@ moves-preserved g c =
     let added = subst (λ (k : ℕ). Added y t e k old new) is (subst (λ (p : List ℕ). Added y t p (get_or c.args.moves.now c.moves.step-index d).op old new) path c.in_ok-add_child.ensures.added) in
     let sofar = skip_to y ss a c.args.entry.node moves c.requires.tree c.requires.entry.inside c.requires.moves b old at i.children.0 op i.children.1 (i.children.1.above at (omega arith) inside) (never_falls ops c.requires.moves.rising at) i.children.3 in
     record {
-      grows = grows_trans y ss a b t i.grows m;
+      grows = grows_trans y Loopless ss a b t i.grows m;
       children = (op + 1, past_next ops c.requires.moves.rising at inside, omega (arith, known), children_next y t e op old new (children_like y b t e op old m.longer m.paths sofar) added);
     }
 

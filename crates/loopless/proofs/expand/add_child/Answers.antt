@@ -1,7 +1,8 @@
 use Rattle.std.proofs.Common.{◌≡◌, ◌<◌, ◌+◌, ◌^◌, ◌∙◌, inr, refl, arith}
 use Rattle.prefix_tree.specs.StateGraph.{states_of}
 use Rattle.prefix_tree.specs.declared.tree.Node.{Node}
-use Rattle.loopless.proofs.Reaching.{next_run}
+use Rattle.symk_task.specs.declared.parts.Mode.TheVariants.{Loopless}
+use Rattle.prefix_tree.proofs.Going.{next_run}
 use Rattle.loopless.proofs.Growing.{ends_longer, grows_push, entry_push}
 use Rattle.loopless.proofs.expand.add_child.Goals as goal
 
@@ -17,7 +18,7 @@ returns-in_err-push-in-Some-clause-grows g c =
     let nodes = c.args.tree.now.items in
     let n : Node = record { parent = c.args.entry.node; op = c.args.step.op; state = c.args.step.to } in
     let longer = rw c.in-Some.is at (rw c.deref.ensures.value at c.in_ok-reach.ensures) in
-    let run = next_run y ss nodes c.args.entry.node c.requires.tree c.requires.entry.inside c.args.step c.requires.step in
+    let run = next_run y Loopless ss nodes c.args.entry.node c.requires.tree c.requires.entry.inside c.args.step c.requires.step in
     rw c.in_ok-node-in-Some.ensures.child (grows_push y ss nodes n c.requires.tree c.requires.entry.inside c.in-Some.to longer c.requires.step.within run)
 
 pub returns-in_ok-push-in-Some-clause-grows : goal.returns-in_ok-push-in-Some-clause-grows
@@ -27,7 +28,7 @@ returns-in_ok-push-in-Some-clause-grows g c =
     let nodes = c.args.tree.now.items in
     let n : Node = record { parent = c.args.entry.node; op = c.args.step.op; state = c.args.step.to } in
     let longer = rw c.in-Some.is at (rw c.deref.ensures.value at c.in_ok-reach.ensures) in
-    let run = next_run y ss nodes c.args.entry.node c.requires.tree c.requires.entry.inside c.args.step c.requires.step in
+    let run = next_run y Loopless ss nodes c.args.entry.node c.requires.tree c.requires.entry.inside c.args.step c.requires.step in
     rw c.in_ok-node-in-Some.ensures.child (grows_push y ss nodes n c.requires.tree c.requires.entry.inside c.in-Some.to longer c.requires.step.within run)
 
 pub returns-in_ok-push-in-Some-clause-added : goal.returns-in_ok-push-in-Some-clause-added
@@ -37,7 +38,7 @@ returns-in_ok-push-in-Some-clause-added g c =
     let nodes = c.args.tree.now.items in
     let n : Node = record { parent = c.args.entry.node; op = c.args.step.op; state = c.args.step.to } in
     let longer = rw c.in-Some.is at (rw c.deref.ensures.value at c.in_ok-reach.ensures) in
-    let run = next_run y ss nodes c.args.entry.node c.requires.tree c.requires.entry.inside c.args.step c.requires.step in
+    let run = next_run y Loopless ss nodes c.args.entry.node c.requires.tree c.requires.entry.inside c.args.step c.requires.step in
     let k = c.entry_of.result in
     let place = c.entry_of.ensures.node ∙ c.in_ok-node-in-Some.ensures.place in
     let cost : c.entry_of.result.cost ≡ c.args.entry.cost + y.cost c.args.step.op = omega (arith, c.entry_of.ensures.cost, c.cost_of.ensures) in

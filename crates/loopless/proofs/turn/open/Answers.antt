@@ -1,5 +1,6 @@
 use Rattle.prefix_tree.specs.Entries.{entries_of}
-use Rattle.loopless.proofs.Growing.{prefixes_like}
+use Rattle.prefix_tree.proofs.Entries.{prefixes_like}
+use Rattle.loopless.specs.Children.{IsEntry}
 use Rattle.loopless.proofs.Opening.{on_err, ready_grown, opened_perm, open_ready, open_opens}
 use Rattle.loopless.proofs.turn.open.Goals as goal
 
@@ -25,4 +26,4 @@ pub returns-in_err-children-clause-ready : goal.returns-in_err-children-clause-r
 returns-in_err-children-clause-ready g c = rw c.expand.ensures.queue (ready_grown (g.S.Space.view c.args.space.now) c.args.backward.now c.args.graph.now c.expand.new.graph c.args.tree.now.items c.expand.new.tree.items (entries_of c.args.queue.now) c.expand.ensures.graph c.expand.ensures.grows c.requires.ready)
 
 pub returns-in_err-children-clause-err : goal.returns-in_err-children-clause-err
-returns-in_err-children-clause-err g c = on_err c.from_residual-in_err-children.result (rw c.expand.ensures.queue (prefixes_like (g.S.Space.view c.args.space.now).system c.args.tree.now.items c.expand.new.tree.items (entries_of c.args.queue.now) c.expand.ensures.grows.paths c.requires.ready.each))
+returns-in_err-children-clause-err g c = on_err c.from_residual-in_err-children.result (rw c.expand.ensures.queue (prefixes_like (IsEntry (g.S.Space.view c.args.space.now).system c.args.tree.now.items) c.args.tree.now.items c.expand.new.tree.items (entries_of c.args.queue.now) (λ k z. z.inside) c.expand.ensures.grows.paths c.requires.ready.each))

@@ -4,7 +4,7 @@ use Rattle.space_api.proofs.Trading.{valid_clash}
 use Rattle.prefix_tree.specs.Entries.{entries_of}
 use Rattle.prefix_tree.specs.declared.entry.Entry.{Entry}
 use Rattle.loopless.specs.Children.{IsEntry}
-use Rattle.loopless.proofs.Turning.{first_is}
+use Rattle.prefix_tree.proofs.Entries.{first_is}
 use Rattle.loopless.proofs.Walking.{past_turn, out_turn, cheap}
 use Rattle.loopless.proofs.walk.take_turn.Goals as goal
 

@@ -1,8 +1,8 @@
 use Rattle.std.proofs.Common.{◌≡◌}
-use Rattle.prefix_tree.specs.Entries.{entries_of}
+use Rattle.prefix_tree.specs.Entries.{entries_of, prefixes}
 use Rattle.prefix_laws.specs.Queue.{Right, Pending}
 use Rattle.lazy_plans.specs.Law.{Stays}
-use Rattle.loopless.specs.Children.{prefixes}
+use Rattle.symk_task.specs.declared.parts.Mode.TheVariants.{Loopless}
 use Rattle.loopless.specs.Standing.{IsReady, work}
 use Rattle.loopless.proofs.walk.walk.Given as goal
 
@@ -13,8 +13,8 @@ invariant-turns g l =
     record {
       system : (view l.space).system ≡ y;
       ready : IsReady (view l.space) l.backward l.graph l.tree.items (entries_of l.queue);
-      right : Right y l.most (prefixes l.tree.items (entries_of l.queue));
-      stays : Stays (Pending y (prefixes l.fn.tree.items (entries_of l.fn.queue))) (Pending y (prefixes l.tree.items (entries_of l.queue)));
+      right : Right y Loopless l.most (prefixes l.tree.items (entries_of l.queue));
+      stays : Stays (Pending y Loopless (prefixes l.fn.tree.items (entries_of l.fn.queue))) (Pending y Loopless (prefixes l.tree.items (entries_of l.queue)));
     }
 
 abbrev pub decreases-turns : goal.decreases-turns

@@ -1,6 +1,8 @@
 use Rattle.std.proofs.Common.{◌∙◌}
 use Rattle.prefix_tree.specs.Entries.{entries_of}
-use Rattle.loopless.proofs.Asks.{none_held, ready_stays, stopped, tidied_none, tidied_some, untidied}
+use Rattle.symk_task.specs.declared.parts.Mode.TheVariants.{Loopless}
+use Rattle.prefix_laws.proofs.Owed.{none_held}
+use Rattle.loopless.proofs.Asks.{ready_stays, stopped, tidied_none, tidied_some, untidied}
 use Rattle.loopless.proofs.engine.LooplessPlans.ask.Goals as goal
 
 pub returns-in-Err-clause-answers : goal.returns-in-Err-clause-answers
@@ -9,7 +11,7 @@ returns-in-Err-clause-answers g c =
     let v = g.S.Space.view me.space in
     let w = g.S.Space.view c.walk.new.space in
     let e = c.requires.engine in
-    let none = none_held v.system me.held (rw c.requires.goes_on at e.holds) in
+    let none = none_held v.system Loopless me.held (rw c.requires.goes_on at e.holds) in
     let r = c.in-Err.ensures in
     rw none (stopped v w c.walk.new.backward c.walk.new.graph me.tree.items c.walk.new.tree.items me.most (entries_of me.queue) (entries_of c.walk.new.queue) r.system r.ready r.right c.in-Err.stop r.law)
 
@@ -20,7 +22,7 @@ returns-in-Err-tidy-clause-answers g c =
     let w = g.S.Space.view c.walk.new.space in
     let x = g.S.Space.view c.tidy.new.self in
     let e = c.requires.engine in
-    let none = none_held v.system me.held (rw c.requires.goes_on at e.holds) in
+    let none = none_held v.system Loopless me.held (rw c.requires.goes_on at e.holds) in
     let r = c.in-Ok.ensures in
     let s = c.tidy.ensures.stays in
     let ready = ready_stays w x c.walk.new.backward c.walk.new.graph c.walk.new.tree.items (entries_of c.walk.new.queue) s r.ready in
@@ -33,7 +35,7 @@ returns-in-None-clause-answers g c =
     let w = g.S.Space.view c.walk.new.space in
     let x = g.S.Space.view c.tidy.new.self in
     let e = c.requires.engine in
-    let none = none_held v.system me.held (rw c.requires.goes_on at e.holds) in
+    let none = none_held v.system Loopless me.held (rw c.requires.goes_on at e.holds) in
     let r = c.in-Ok.ensures in
     let s = c.tidy.ensures.stays in
     let ready = ready_stays w x c.walk.new.backward c.walk.new.graph c.walk.new.tree.items (entries_of c.walk.new.queue) s r.ready in
@@ -46,7 +48,7 @@ returns-in-Some-clause-answers g c =
     let w = g.S.Space.view c.walk.new.space in
     let x = g.S.Space.view c.tidy.new.self in
     let e = c.requires.engine in
-    let none = none_held v.system me.held (rw c.requires.goes_on at e.holds) in
+    let none = none_held v.system Loopless me.held (rw c.requires.goes_on at e.holds) in
     let r = c.in-Ok.ensures in
     let s = c.tidy.ensures.stays in
     let ready = ready_stays w x c.walk.new.backward c.walk.new.graph c.walk.new.tree.items (entries_of c.walk.new.queue) s r.ready in

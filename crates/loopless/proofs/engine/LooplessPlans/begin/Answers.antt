@@ -3,11 +3,12 @@ use Rattle.std.specs.Bool.{Decides}
 use Rattle.std.specs.List.Sorted.{IsPermutation}
 use Rattle.task_system.specs.System.{State}
 use Rattle.space_api.proofs.Trading.{kept_made}
-use Rattle.prefix_tree.specs.Entries.{entries_of}
+use Rattle.prefix_tree.specs.Entries.{entries_of, prefixes}
 use Rattle.prefix_tree.specs.declared.tree.Node.{Node}
 use Rattle.prefix_tree.specs.declared.entry.Entry.{Entry}
-use Rattle.loopless.specs.Children.{prefixes}
-use Rattle.loopless.specs.Owing.{Owes, IsSound}
+use Rattle.symk_task.specs.declared.parts.Mode.TheVariants.{Loopless}
+use Rattle.prefix_laws.specs.Owing.{Owes}
+use Rattle.loopless.specs.Sound.{IsSound}
 use Rattle.loopless.proofs.First.{begun, begun_all}
 use Rattle.loopless.proofs.Inside.{alone_fresh}
 use Rattle.loopless.proofs.engine.LooplessPlans.begin.Goals as goal
@@ -26,7 +27,7 @@ returns-clause-lawful g c =
     let v = view c.keep_to_reached.new.space in
     let b = c.in_ok-backward-2.backward in
     let n : Node = record { parent = 0; op = 0; state = c.in_ok-start.start } in
-    let e : Entry = record { bound = record { 0 = 0 }; cost = 0; node = 0; settled = false; at_goal = c.in_ok-at_goal.at_goal } in
+    let e : Entry = record { bound = record { 0 = 0 }; cost = 0; ring = record { 0 = 0 }; node = 0; settled = false; at_goal = c.in_ok-at_goal.at_goal } in
     let es = entries_of c.push-2.new.self in
     let tree : c.push.new.self.items ≡ n ∷ [] = c.in_ok-push.ensures.items ∙ ap (λ (l : List Node). l ++ n ∷ []) c.new-tree.ensures.items in
     let put : IsPermutation (e ∷ []) es = subst (λ (l : List Entry). IsPermutation (e ∷ l) es) c.new-queue.ensures c.in_ok-push-2.ensures.ok in
@@ -40,11 +41,11 @@ returns-clause-all g c p i =
     let v = view c.keep_to_reached.new.space in
     let b = c.in_ok-backward-2.backward in
     let n : Node = record { parent = 0; op = 0; state = c.in_ok-start.start } in
-    let e : Entry = record { bound = record { 0 = 0 }; cost = 0; node = 0; settled = false; at_goal = c.in_ok-at_goal.at_goal } in
+    let e : Entry = record { bound = record { 0 = 0 }; cost = 0; ring = record { 0 = 0 }; node = 0; settled = false; at_goal = c.in_ok-at_goal.at_goal } in
     let es = entries_of c.push-2.new.self in
     let tree : c.push.new.self.items ≡ n ∷ [] = c.in_ok-push.ensures.items ∙ ap (λ (l : List Node). l ++ n ∷ []) c.new-tree.ensures.items in
     let put : IsPermutation (e ∷ []) es = subst (λ (l : List Entry). IsPermutation (e ∷ l) es) c.new-queue.ensures c.in_ok-push-2.ensures.ok in
     let is = c.in_ok-start.ensures.is in
     let goal = subst (λ (s : State). Decides c.in_ok-at_goal.at_goal (IsTrue (v.system.goal s))) (c.state.ensures ∙ is) c.in_ok-at_goal.ensures in
     let same = c.in_ok-backward-2.ensures.system ∙ (kept_made c.in_ok-backward.ensures.trades).system in
-    subst (λ (l : List Node). Owes v.system (prefixes l es) None p) (sym tree) (begun_all (view c.args.space).system v b c.number_of_start.new.graph n e es same c.in_ok-backward-2.ensures.alone c.number_of_start.ensures.graph c.in_ok-start.ensures.within is put refl refl refl goal p i)
+    subst (λ (l : List Node). Owes v.system Loopless (prefixes l es) None p) (sym tree) (begun_all (view c.args.space).system v b c.number_of_start.new.graph n e es same c.in_ok-backward-2.ensures.alone c.number_of_start.ensures.graph c.in_ok-start.ensures.within is put refl refl refl goal p i)

@@ -1,47 +1,30 @@
--- What pends in an engine, and what every engine meets between two calls.
-use Rattle.std.specs.Prelude.{◌≡◌, ℕ, ◌+◌, ◌*◌, ◌≤◌, ◌⊎◌, Bool, false, ◌||◌, List, Option, Some, None, Result, IfOk}
-use Rattle.task_system.specs.System.{System, IsPlanOf, are_equal}
+-- What every engine meets between two calls, and what one call gives.
+use Rattle.std.specs.Prelude.{◌≡◌, ℕ, ◌+◌, ◌*◌, ◌≤◌, List, Option, Some, None, Result, IfOk}
+use Rattle.task_system.specs.System.{System}
 use Rattle.symk_task.specs.declared.parts.Mode.TheVariants.{Loopless}
 use Rattle.space_api.specs.View.{View}
 use Rattle.lazy_plans.specs.Law.{Last, Ended, Turned, last_of}
 use Rattle.lazy_plans.specs.declared.stop.Stop.{Stop}
-use Rattle.lazy_plans.specs.declared.stop.Stop.TheVariants.{Memory}
 use Rattle.cost_search.specs.Directed.{Backward}
-use Rattle.prefix_laws.specs.Queue.{Right, Pending, pending}
+use Rattle.prefix_laws.specs.Queue.{Right}
+use Rattle.prefix_laws.specs.Owing.{Owes, IsHeld}
 use Rattle.prefix_tree.specs.declared.state_graph.StateGraph.{StateGraph}
 use Rattle.prefix_tree.specs.declared.tree.Node.{Node}
 use Rattle.prefix_tree.specs.declared.entry.Entry.{Entry}
-use Rattle.loopless.specs.Children.{prefixes}
+use Rattle.prefix_tree.specs.Entries.{prefixes}
 use Rattle.loopless.specs.Standing.{IsReady}
-
--- what the queue owes, and the plan that is held
-abbrev pub Owes : System → List (List ℕ) → Option (List ℕ) → List ℕ → Type 0
-Owes y es held p = Pending y es p ⊎ (held ≡ Some p)
-
-abbrev pub tells_held : Option (List ℕ) → List ℕ → Bool
-tells_held None p = false
-tells_held (Some q) p = are_equal q p
-
--- the same, computed
-abbrev pub tells_owed : System → List (List ℕ) → Option (List ℕ) → List ℕ → Bool
-tells_owed y es held p = pending y es p || tells_held held p
 
 -- no more is held than twice what was needed last, and 1,000
 abbrev pub IsTidy : {Set : Type 0} → View Set → Type 0
 IsTidy v = v.held ≤ 2 * v.last + 1000
 
--- a plan is held only where want of memory ended it
-abbrev pub IsHeld : System → Option (List ℕ) → Last → Type 0
-IsHeld y None ended = Unit {0}
-IsHeld y (Some p) ended = IsPlanOf y Loopless p × (ended ≡ Some (Some Memory))
-
 -- what every engine meets between two calls: the queue stands, what was answered last still holds, and where no plan was left
 -- the space is tidy
 pub record IsSound {Set : Type 0} (v : View Set) (b : Backward Set) (m : StateGraph) (nodes : List Node) (most : Option ℕ) (es : List Entry) (held : Option (List ℕ)) (ended : Last) : Type 0 where
   pub ready : IsReady v b m nodes es
-  pub right : Right v.system most (prefixes nodes es)
-  pub holds : IsHeld v.system held ended
-  pub said : Ended v.system most (Owes v.system (prefixes nodes es) held) ended
+  pub right : Right v.system Loopless most (prefixes nodes es)
+  pub holds : IsHeld v.system Loopless held ended
+  pub said : Ended v.system most (Owes v.system Loopless (prefixes nodes es) held) ended
   pub room : ended ≡ Some None → IsTidy v
 
 -- what one call gives: the law, and a tidy space after a plan or None

@@ -1,16 +1,13 @@
 -- One call, by how it ends.
-use Rattle.std.proofs.Common.{◌≡◌, ℕ, ◌⊎◌, inl, inr, Bool, true, false, List, Option, Some, None, Result, Ok, Err, refl, sym, ap, subst}
-use Rattle.std.specs.Bool.{Decides}
-use Rattle.task_system.specs.System.{System, IsPlanOf, are_equal}
-use Rattle.symk_task.specs.declared.parts.Mode.{Mode}
+use Rattle.std.proofs.Common.{◌≡◌, ℕ, List, Option, Some, None, Result, Ok, Err, refl, sym, subst}
+use Rattle.task_system.specs.System.{System}
 use Rattle.symk_task.specs.declared.parts.Mode.TheVariants.{Loopless}
 use Rattle.space_api.specs.View.{View}
 use Rattle.space_api.specs.Frames.{Stays as SetsStay}
-use Rattle.lazy_plans.specs.Law.{Gave, Stays, Stops, Turned, Ended, Last, last_of}
+use Rattle.lazy_plans.specs.Law.{Turned, Ended, Last, last_of}
 use Rattle.lazy_plans.specs.declared.stop.Stop.{Stop}
 use Rattle.lazy_plans.specs.declared.stop.Stop.TheVariants.{Memory}
-use Rattle.lazy_plans.proofs.Given.{turned_from, ended_by}
-use Rattle.lazy_plans.proofs.Told.{equal_is, equal_self}
+use Rattle.lazy_plans.proofs.Given.{ended_by}
 use Rattle.cost_search.specs.Directed.{Backward}
 use Rattle.cost_search.proofs.Directing.{directed_kept}
 use Rattle.prefix_laws.specs.Queue.{Right, Pending}

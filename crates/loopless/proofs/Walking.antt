@@ -1,14 +1,13 @@
 -- How a turn ends the list, and turns one after the other.
-use Rattle.std.proofs.Common.{◌≡◌, ℕ, ◌-◌, ◌<◌, ◌≤◌, ◌^◌, ◌⊎◌, inl, inr, IsTrue, List, [], ◌∷◌, length, slice_index_or, Option, Some, None, Ok, Err, sym, subst, arith}
+use Rattle.std.proofs.Common.{◌≡◌, ℕ, ◌-◌, ◌<◌, ◌≤◌, ◌^◌, ◌⊎◌, inl, inr, IsTrue, List, length, slice_index_or, Option, Some, None, arith}
 use Rattle.std.specs.List.{AllByRecursion}
 use Rattle.symk_task.specs.declared.parts.Mode.TheVariants.{Loopless}
-use Rattle.task_system.specs.System.{System, cost_of}
+use Rattle.task_system.specs.System.{System}
 use Rattle.space_api.specs.View.{View}
-use Rattle.lazy_plans.specs.Law.{Gave, Stays, Stops, NoneLeft, Turned, top}
-use Rattle.lazy_plans.specs.declared.stop.Stop.TheVariants.{Memory, CostRange}
-use Rattle.lazy_plans.proofs.Given.{turned_from}
+use Rattle.lazy_plans.specs.Law.{Stops, NoneLeft, top}
+use Rattle.lazy_plans.specs.declared.stop.Stop.TheVariants.{CostRange}
 use Rattle.cost_search.specs.Directed.{Backward}
-use Rattle.prefix_laws.specs.Queue.{Bounds, Right, Pending}
+use Rattle.prefix_laws.specs.Queue.{Right, Pending}
 use Rattle.prefix_laws.proofs.Splits.{prefix_refl}
 use Rattle.prefix_laws.proofs.Traces.{plan_in}
 use Rattle.prefix_laws.proofs.Turns as turns

@@ -1,0 +1,207 @@
+-- Entries while the tree grows, and the children of one, operator after operator.
+use Rattle.std.proofs.Common.{◌≡◌, ℕ, zero, suc, ◌+◌, ◌-◌, ◌*◌, ◌<◌, ◌≤◌, ◌^◌, ◌⊎◌, inl, inr, cond, Bool, true, false, IsTrue, List, [], ◌∷◌, ◌++◌, length, refl, sym, ◌∙◌, ap, subst, arith, eq-eqb}
+use Rattle.std.specs.Prelude.{nat_lt}
+use Rattle.std.specs.Bool.{Decides}
+use Rattle.std.specs.List.{AllByRecursion}
+use Rattle.std.proofs.lemmas.Bool.Decides.{nat_tests}
+use Rattle.std.proofs.lemmas.List.{length-append}
+use Rattle.symk_task.specs.declared.parts.Mode.TheVariants.{TopK}
+use Rattle.task_system.specs.System.{State, Listed, Runs, IsPlan, cost_of}
+use Rattle.space_api.specs.View.{View}
+use Rattle.least_costs.specs.Least.{next_of}
+use Rattle.least_costs.specs.declared.search.LeastCosts.{LeastCosts}
+use Rattle.prefix_laws.specs.Queue.{prefix, Bounds, Hopeless, ChildrenBelow}
+use Rattle.prefix_laws.proofs.Splits.{cost_join}
+use Rattle.prefix_laws.proofs.Traces.{bounds_by, plan_by, runs_join, one_end}
+use Rattle.prefix_laws.proofs.Growing as laws
+use Rattle.prefix_tree.specs.StateGraph.{state_at}
+use Rattle.prefix_tree.specs.Tree.{IsTree, Grows, path_at}
+use Rattle.prefix_tree.specs.Entries.{prefixes}
+use Rattle.prefix_tree.specs.declared.tree.Node.{Node}
+use Rattle.prefix_tree.specs.declared.entry.Entry.{Entry}
+use Rattle.prefix_tree.proofs.Paths.{path_last, grows_more}
+use Rattle.prefix_tree.proofs.Entries.{prefixes_last, prefixes_like}
+use Rattle.prefix_plans.specs.Left.{EndsAtLeast, IsRanked, IsKnown}
+use Rattle.prefix_plans.specs.Reach.{IsLonger}
+use Rattle.prefix_plans.specs.Children.{EndsRanked, IsEntry, TellsRank, IsNew, outdated, Added, AreChildren}
+use Rattle.prefix_plans.specs.declared.left.Left.{Left}
+use Rattle.prefix_plans.specs.declared.reach.Reached.{Reached}
+
+not_less : (a known : ℕ) → known ≤ a → ◌≡◌ {A = ℕ} (cond (nat_lt a known) 1 0) 0
+not_less a known le = grind (arith, nat_tests)
+
+up_to_date : (b : Bool) (a known : ℕ) → (b ≡ false → known ≤ a) → ◌≡◌ {A = ℕ} (cond b 0 (cond (nat_lt a known) 1 0)) 0
+up_to_date true a known h = refl
+up_to_date false a known h = not_less a known (h refl)
+
+-- an entry of a prefix that ends in s, of which this is known
+module _ {Set : Type 0} (v : View Set) (f : LeastCosts Set) (nodes : List Node) (k : Entry) (s : State) (run : Runs v.system v.system.initial (path_at nodes k.node) s) (left : Left) (known : IsKnown v f s left)
+    (cost : k.cost ≡ cost_of v.system (path_at nodes k.node)) (bound : k.bound.0 ≡ k.cost + left.cost) (ring : k.ring.0 ≡ left.ring) (settled : k.settled ≡ left.ranked) where
+  bounds_new : Bounds v.system (path_at nodes k.node) k.bound.0
+  bounds_new = subst (Bounds v.system (path_at nodes k.node)) (sym (bound ∙ ap (λ (n : ℕ). n + left.cost) cost)) (bounds_by v.system (path_at nodes k.node) s run left.cost known.least)
+
+  rest_is : k.bound.0 - k.cost ≡ left.cost
+  rest_is = omega (arith, bound)
+
+  ranked_new : IsTrue k.settled → EndsRanked v f (path_at nodes k.node) (k.bound.0 - k.cost) k.ring.0
+  ranked_new on = (s, run, subst (λ (c : ℕ). IsRanked v f c k.ring.0 s) (sym rest_is) (subst (λ (i : ℕ). IsRanked v f left.cost i s) (sym ring) (known.ranked (sym settled ∙ on))))
+
+  tells_new : TellsRank v f nodes k
+  tells_new c i e =
+      let same = one_end v.system (path_at nodes k.node) v.system.initial e.0 s e.1 run in
+      let t = known.told c i (subst (λ (x : State). IsRanked v f c i x) same e.2) in
+      (omega (arith, bound, t.1), ring ∙ t.2)
+
+  dated_new : outdated (next_of f) k ≡ 0
+  dated_new = up_to_date k.settled (k.bound.0 - k.cost) (next_of f) (λ off. let n = known.newest (sym settled ∙ off) in omega (arith, n, rest_is))
+
+  pub entry_new : k.node < length nodes → k.cost ≤ (2 ^ 64 - 1) * k.node → k.ring.0 < 2 ^ 64 → k.bound.0 < 2 ^ 128 → Decides k.at_goal (IsPlan v.system (path_at nodes k.node)) → IsNew v f nodes k
+  entry_new inside roomy small range plan = (
+    record {
+      inside = inside;
+      cost = cost;
+      roomy = roomy;
+      least = omega (arith, bound);
+      span = omega (arith, bound, known.small);
+      ring = small;
+      range = range;
+      bounds = bounds_new;
+      plan = plan;
+      ranked = ranked_new;
+    },
+    tells_new,
+    dated_new,
+  )
+
+-- an entry stands where its place has the same prefix
+module _ {Set : Type 0} (v : View Set) (f : LeastCosts Set) (a c : List Node) (longer : length a ≤ length c) (same : (i : ℕ) → i < length a → path_at c i ≡ path_at a i) where
+  pub entry_like : (e : Entry) → IsEntry v f a e → IsEntry v f c e
+  entry_like e z =
+      let path = sym (same e.node z.inside) in
+      record {
+        inside = omega (arith, z.inside, longer);
+        cost = subst (λ (p : List ℕ). e.cost ≡ cost_of v.system p) path z.cost;
+        roomy = z.roomy;
+        least = z.least;
+        span = z.span;
+        ring = z.ring;
+        range = z.range;
+        bounds = subst (λ (p : List ℕ). Bounds v.system p e.bound.0) path z.bounds;
+        plan = subst (λ (p : List ℕ). Decides e.at_goal (IsPlan v.system p)) path z.plan;
+        ranked = λ on. subst (λ (p : List ℕ). EndsRanked v f p (e.bound.0 - e.cost) e.ring.0) path (z.ranked on);
+      }
+
+  new_like : (e : Entry) → IsNew v f a e → IsNew v f c e
+  new_like e z = (
+    entry_like e z.0,
+    (λ d i r. z.1 d i (subst (λ (p : List ℕ). EndsRanked v f p d i) (same e.node z.0.inside) r)),
+    z.2,
+  )
+
+  pub each_like : (es : List Entry) → AllByRecursion (IsEntry v f a) es → AllByRecursion (IsEntry v f c) es
+  each_like [] z = tt
+  each_like (e ∷ es) z = (entry_like e z.0, each_like es z.1)
+
+  each_new_like : (es : List Entry) → AllByRecursion (IsNew v f a) es → AllByRecursion (IsNew v f c) es
+  each_new_like [] z = tt
+  each_new_like (e ∷ es) z = (new_like e z.0, each_new_like es z.1)
+
+  pub children_like : (e : List ℕ) (n : ℕ) (kids : List Entry) → AreChildren v f a e n kids → AreChildren v f c e n kids
+  children_like e n kids g =
+      let back = sym (prefixes_like (IsNew v f a) a c kids (λ k z. z.0.inside) same g.each) in
+      record {
+        each = each_new_like kids g.each;
+        counted = subst (ChildrenBelow v.system TopK e n) back g.counted;
+        all = λ op lt. subst (λ (ks : List (List ℕ)). Hopeless v.system TopK (e ++ op ∷ []) ⊎ Listed ks (e ++ op ∷ [])) back (g.all op lt);
+      }
+
+-- one prefix more, at the end of the tree
+module _ {Set : Type 0} (v : View Set) (f : LeastCosts Set) (ss : List State) (nodes : List Node) (n : Node) (z : IsTree v.system TopK ss nodes) (behind : n.parent < length nodes) (r : Reached) (longer : IsLonger v f (path_at nodes n.parent ++ n.op ∷ []) r) where
+  pub grows_push : n.state < length ss → Runs v.system v.system.initial (path_at nodes n.parent ++ n.op ∷ []) (state_at ss n.state) → Grows v.system TopK ss nodes (nodes ++ n ∷ [])
+  grows_push within run = grows_more v.system TopK ss nodes n z behind longer.good within run
+
+  -- the entry of the new prefix
+  pub entry_push : (e k : Entry) → IsEntry v f nodes e → e.node ≡ n.parent → k.node ≡ length nodes → k.cost ≡ e.cost + v.system.cost n.op → k.bound.0 ≡ k.cost + r.left.cost → k.ring.0 ≡ r.left.ring → k.settled ≡ r.left.ranked → k.at_goal ≡ r.at_goal → k.ring.0 < 2 ^ 64 → k.bound.0 < 2 ^ 128 → v.system.cost n.op < 2 ^ 64
+      → IsNew v f (nodes ++ n ∷ []) k × (path_at (nodes ++ n ∷ []) k.node ≡ path_at nodes n.parent ++ n.op ∷ [])
+  entry_push e k old at place cost bound ring settled goal small range dear =
+      let y = v.system in
+      let new = path_at nodes n.parent ++ n.op ∷ [] in
+      let path : path_at (nodes ++ n ∷ []) k.node ≡ path_at nodes n.parent ++ n.op ∷ [] = path_last nodes n k.node z.some place in
+      let same_path : path_at nodes e.node ≡ path_at nodes n.parent = ap (path_at nodes) at in
+      let total : k.cost ≡ cost_of v.system (path_at nodes n.parent ++ n.op ∷ []) = omega (arith, cost, old.cost, ap (cost_of v.system) same_path, cost_join v.system (path_at nodes n.parent) (n.op ∷ [])) in
+      let run = subst (λ (q : List ℕ). Runs v.system v.system.initial q longer.good.end) (sym path) longer.good.runs in
+      let plan = plan_by v.system (path_at nodes n.parent ++ n.op ∷ []) longer.good.end longer.good.runs r.at_goal longer.goal in (
+        entry_new v f (nodes ++ n ∷ []) k longer.good.end run r.left longer.left (subst (λ (q : List ℕ). k.cost ≡ cost_of v.system q) (sym path) total) bound ring settled
+            (omega (arith, place, length-append nodes (n ∷ [])))
+            (omega (arith, cost, old.roomy, at, behind, place, dear))
+            small range
+            (subst (λ (q : List ℕ). Decides k.at_goal (IsPlan v.system q)) (sym path) (subst (λ (x : Bool). Decides x (IsPlan v.system (path_at nodes n.parent ++ n.op ∷ []))) (sym goal) plan)),
+        path,
+      )
+
+prefix_join : (e q : List ℕ) → prefix e (e ++ q) ≡ true
+prefix_join [] q = refl
+prefix_join (x ∷ e) q = rw (eq-eqb x x refl, prefix_join e q) refl
+
+prefix_front : (e q r : List ℕ) → prefix e ((e ++ q) ++ r) ≡ true
+prefix_front [] q r = refl
+prefix_front (x ∷ e) q r = rw (eq-eqb x x refl, prefix_front e q r) refl
+
+-- what the bound of an entry leaves after what its prefix costs, and after what a longer one does
+module _ {Set : Type 0} (v : View Set) (f : LeastCosts Set) (nodes : List Node) (e : Entry) (z : IsEntry v f nodes e) where
+  pub ends_after : (low : ℕ) → low ≤ e.bound.0 - e.cost → EndsAtLeast v.system (path_at nodes e.node) low
+  ends_after low le s run q t more goal =
+      let p = path_at nodes e.node in
+      let b = z.bounds (p ++ q) (t, runs_join v.system p q v.system.initial s t run more, goal) (prefix_join p q) in
+      omega (arith, b, z.cost, cost_join v.system p q, le)
+
+  pub ends_longer : (op low : ℕ) → low ≤ e.bound.0 - (e.cost + v.system.cost op) → EndsAtLeast v.system (path_at nodes e.node ++ op ∷ []) low
+  ends_longer op low le s run q t more goal =
+      let p = path_at nodes e.node in
+      let b = z.bounds ((p ++ op ∷ []) ++ q) (t, runs_join v.system (p ++ op ∷ []) q v.system.initial s t run more, goal) (prefix_front p (op ∷ []) q) in
+      omega (arith, b, z.cost, cost_join v.system (p ++ op ∷ []) q, cost_join v.system p (op ∷ []), le)
+
+each_last : {X : Type 0} (P : X → Type 0) (xs : List X) (x : X) → AllByRecursion P xs → P x → AllByRecursion P (xs ++ x ∷ [])
+each_last P [] x a h = (h, tt)
+each_last P (z ∷ xs) x a h = (a.0, each_last P xs x a.1 h)
+
+listed_left : (xs ys : List State) (s : State) → Listed xs s → Listed (xs ++ ys) s
+listed_left [] ys s l = absurd l
+listed_left (x ∷ xs) ys s (inl e) = inl e
+listed_left (x ∷ xs) ys s (inr l) = inr (listed_left xs ys s l)
+
+listed_last : (xs : List State) (s : State) → Listed (xs ++ s ∷ []) s
+listed_last [] s = inl refl
+listed_last (x ∷ xs) s = inr (listed_last xs s)
+
+below_next : (op n : ℕ) → op < n + 1 → (op < n) ⊎ (n ≡ op)
+below_next op n lt = grind arith
+
+module _ {Set : Type 0} (v : View Set) (f : LeastCosts Set) (nodes : List Node) (e : List ℕ) where
+  pub children_none : AreChildren v f nodes e 0 []
+  children_none = record { each = tt; counted = laws.children_none v.system TopK e; all = λ op lt. absurd (omega (arith, lt)) }
+
+  pub children_next : (n : ℕ) (kids new : List Entry) → AreChildren v f nodes e n kids → Added v f nodes e n kids new → AreChildren v f nodes e (n + 1) new
+  children_next n kids new g (inl (same, lost)) = rw same (record {
+    each = g.each;
+    counted = laws.children_skip v.system TopK e n (prefixes nodes kids) g.counted lost;
+    all = λ op lt. elim (below_next op n lt) [ inl less ↦ g.all op less | inr is ↦ inl (subst (λ (k : ℕ). Hopeless v.system TopK (e ++ k ∷ [])) is lost) ];
+  })
+  children_next n kids new g (inr (k, pushed, stands, path)) =
+      let last : prefixes nodes (kids ++ k ∷ []) ≡ prefixes nodes kids ++ (e ++ n ∷ []) ∷ [] = prefixes_last nodes kids k ∙ ap (λ (p : List ℕ). prefixes nodes kids ++ p ∷ []) path in
+      rw pushed (record {
+        each = each_last (IsNew v f nodes) kids k g.each stands;
+        counted = subst (ChildrenBelow v.system TopK e (n + 1)) (sym last) (laws.children_more v.system TopK e n (prefixes nodes kids) g.counted);
+        all = λ op lt. subst (λ (ks : List (List ℕ)). Hopeless v.system TopK (e ++ op ∷ []) ⊎ Listed ks (e ++ op ∷ [])) (sym last) (elim (below_next op n lt) [
+          | inl less ↦ elim (g.all op less) [ inl lost ↦ inl lost | inr l ↦ inr (listed_left (prefixes nodes kids) ((e ++ n ∷ []) ∷ []) (e ++ op ∷ []) l) ]
+          | inr is ↦ inr (subst (λ (j : ℕ). Listed (prefixes nodes kids ++ (e ++ n ∷ []) ∷ []) (e ++ j ∷ [])) is (listed_last (prefixes nodes kids) (e ++ n ∷ [])))
+        ]);
+      })
+
+  -- no plan goes on by any of the next so many operators
+  pub children_past : (n k : ℕ) (kids : List Entry) → AreChildren v f nodes e n kids → ((op : ℕ) → n ≤ op → op < n + k → Hopeless v.system TopK (e ++ op ∷ [])) → AreChildren v f nodes e (n + k) kids
+  children_past n zero kids z lost = let same : n ≡ n + 0 = omega arith in subst (λ (w : ℕ). AreChildren v f nodes e w kids) same z
+  children_past n (suc k) kids z lost =
+      let same : n + k + 1 ≡ n + suc k = omega arith in
+      let before = children_past n k kids z (λ op ge lt. lost op ge (omega (arith, lt))) in
+      subst (λ (w : ℕ). AreChildren v f nodes e w kids) same (children_next (n + k) kids kids before (inl (refl, lost (n + k) (omega arith) (omega arith))))

@@ -1,0 +1,13 @@
+pub mod Layers
+pub mod Moving
+pub mod Inside
+pub mod Far
+pub mod Growing
+pub mod Reaching
+pub mod Improving
+pub mod Descending
+pub mod Turning
+pub mod Ranging
+pub mod Walking
+pub mod Asks
+pub mod First

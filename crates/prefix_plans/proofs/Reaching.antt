@@ -1,0 +1,63 @@
+-- A prefix that is longer by an operator.
+use Rattle.std.proofs.Common.{◌≡◌, ℕ, ◌<◌, ◌≤◌, ◌-◌, ◌+◌, true, false, IsTrue, List, [], ◌∷◌, ◌++◌, length, get_or, refl, subst, arith}
+use Rattle.std.specs.Bool.{Decides}
+use Rattle.std.specs.List.{Contains}
+use Rattle.space_api.proofs.Rising.{IsPast, past_gap}
+use Rattle.symk_task.specs.declared.parts.Mode.TheVariants.{TopK}
+use Rattle.task_system.specs.System.{State, System, Listed, Runs}
+use Rattle.space_api.specs.View.{View}
+use Rattle.least_costs.specs.declared.search.LeastCosts.{LeastCosts}
+use Rattle.prefix_laws.specs.Queue.{Hopeless}
+use Rattle.prefix_laws.proofs.Traces.{one_end, stuck, no_move}
+use Rattle.prefix_tree.specs.StateGraph.{state_at, ops_of, IsMove, AreMoves}
+use Rattle.prefix_tree.specs.Tree.{IsTree, path_at, end_at}
+use Rattle.prefix_tree.specs.declared.state_graph.Move.{Move}
+use Rattle.prefix_tree.specs.declared.tree.Node.{Node}
+use Rattle.prefix_tree.specs.declared.entry.Entry.{Entry}
+use Rattle.prefix_tree.proofs.Going.{next_run, next_good}
+use Rattle.prefix_plans.specs.Left.{CostsAtLeast, EndsAtLeast, LeadsNowhere, IsKnown}
+use Rattle.prefix_plans.specs.Reach.{IsLonger}
+use Rattle.prefix_plans.specs.Children.{AreChildren}
+use Rattle.prefix_plans.specs.declared.reach.Reached.{Reached}
+use Rattle.prefix_plans.proofs.Growing.{children_past}
+
+-- nothing is left where the goal holds
+pub no_goal : (y : System) (s : State) (c : ℕ) → 0 < c → CostsAtLeast y s c → Decides false (IsTrue (y.goal s))
+no_goal y s c some least = ((λ e. absurd (not_true e)), (λ goal. absurd (let le = least [] s refl goal in omega (arith, some, le))))
+  where
+    not_true : false ≡ true → ⊥
+    not_true e = cc
+
+module _ {Set : Type 0} (v : View Set) (f : LeastCosts Set) (ss : List State) (nodes : List Node) (i : ℕ) (z : IsTree v.system TopK ss nodes) (lt : i < length nodes) where
+  -- the state to which a move leads from the end of a prefix
+  module _ (m : Move) (step : IsMove v.system ss (end_at ss nodes i) m) where
+    run : Runs v.system v.system.initial (path_at nodes i ++ m.op ∷ []) (state_at ss m.to)
+    run = next_run v.system TopK ss nodes i z lt m step
+
+    pub next_least : (low : ℕ) → EndsAtLeast v.system (path_at nodes i ++ m.op ∷ []) low → CostsAtLeast v.system (state_at ss m.to) low
+    next_least low h = h (state_at ss m.to) run
+
+    pub nowhere_lost : LeadsNowhere v.system (state_at ss m.to) → Hopeless v.system TopK (path_at nodes i ++ m.op ∷ [])
+    nowhere_lost none = stuck v.system TopK (path_at nodes i ++ m.op ∷ []) (state_at ss m.to) run none
+
+    pub longer : Listed v.system.states (state_at ss m.to) → (r : Reached) → IsKnown v f (state_at ss m.to) r.left → Decides r.at_goal (IsTrue (v.system.goal (state_at ss m.to))) → IsLonger v f (path_at nodes i ++ m.op ∷ []) r
+    longer listed r known goal =
+        let good = next_good v.system TopK ss nodes i z lt m step listed tt in
+        let same : state_at ss m.to ≡ good.end = one_end v.system (path_at nodes i ++ m.op ∷ []) v.system.initial (state_at ss m.to) good.end run good.runs in
+        record {
+          good = good;
+          left = subst (λ (x : State). IsKnown v f x r.left) same known;
+          goal = subst (λ (x : State). Decides r.at_goal (IsTrue (v.system.goal x))) same goal;
+        }
+
+  -- of an operator that is no move there is no child
+  module _ (moves : List Move) (all : AreMoves v.system ss (end_at ss nodes i) moves) where
+    lost : (op : ℕ) → ¬ Contains (ops_of moves) op → Hopeless v.system TopK (path_at nodes i ++ op ∷ [])
+    lost op missing = no_move v.system TopK (path_at nodes i) op (end_at ss nodes i) (z.each i lt).runs (λ t leads. missing (all.all op t leads))
+
+    -- the children by the operators below n are those by the operators below x, where none between is listed
+    pub skip_to : (c : List Node) (kids : List Entry) (k n x : ℕ) → IsPast (ops_of moves) k n → n ≤ x → ((j : ℕ) → k ≤ j → j < length (ops_of moves) → x ≤ get_or (ops_of moves) j 0) → AreChildren v f c (path_at nodes i) n kids → AreChildren v f c (path_at nodes i) x kids
+    skip_to c kids k n x past le before w =
+        let whole : n + (x - n) ≡ x = omega (arith, le) in
+        subst (λ (top : ℕ). AreChildren v f c (path_at nodes i) top kids) whole
+        (children_past v f c (path_at nodes i) n (x - n) kids w (λ op ge less. lost op (past_gap (ops_of moves) k n op past ge (λ j at in_list. let b = before j at in_list in omega (arith, less, le, b)))))

@@ -1,0 +1,76 @@
+use Rattle.std.proofs.Common.{◌+◌, ◌<◌, ℕ, List, get_or, sym, ap, subst, arith}
+use Rattle.space_api.proofs.Rising.{past_none, past_next, never_falls}
+use Rattle.task_system.specs.System.{State}
+use Rattle.symk_task.specs.declared.parts.Mode.TheVariants.{TopK}
+use Rattle.prefix_tree.specs.StateGraph.{states_of, state_at, ops_of, IsMove}
+use Rattle.prefix_tree.specs.Tree.{path_at}
+use Rattle.prefix_tree.specs.declared.state_graph.Move.{Move}
+use Rattle.prefix_tree.proofs.Paths.{grows_refl, grows_trans}
+use Rattle.prefix_tree.proofs.Going.{op_at, ops_few, ops_many}
+use Rattle.prefix_plans.specs.Children.{Added, AreChildren}
+use Rattle.prefix_plans.proofs.Growing.{entry_like, children_none, children_like, children_next}
+use Rattle.prefix_plans.proofs.Reaching.{skip_to}
+use Rattle.prefix_plans.proofs.expand.add_all.Goals as goal
+
+pub moves-init : goal.moves-init
+moves-init g c =
+    let v = g.S.Space.view c.args.space.now in
+    let f = c.args.search.now in
+    let a = c.args.tree.now.items in
+    let e = path_at a c.args.entry.node in
+    record {
+      grows = grows_refl v.system TopK (states_of c.args.graph.now) a c.requires.tree;
+      children = (0, past_none (ops_of c.args.moves.now), omega arith, subst (AreChildren v f a e 0) (sym c.requires.none) (children_none v f a e));
+    }
+
+pub add_child-requires-clause-entry : goal.add_child-requires-clause-entry
+add_child-requires-clause-entry g c =
+    let v = g.S.Space.view c.args.space.now in
+    let i = c.moves.invariant.grows in
+    entry_like v c.args.search.now c.args.tree.now.items c.moves.tree.items i.longer i.paths c.args.entry c.requires.entry
+
+pub add_child-requires-clause-step : goal.add_child-requires-clause-step
+add_child-requires-clause-step g c =
+    let y = (g.S.Space.view c.args.space.now).system in
+    let ss = states_of c.args.graph.now in
+    let d : Move = record { op = 0; to = 0 } in
+    subst (λ (s : State). IsMove y ss s (get_or c.args.moves.now c.moves.step-index d)) (sym (ap (state_at ss) (c.moves.invariant.grows.ends c.args.entry.node c.requires.entry.inside))) (c.requires.moves.each c.moves.step-index d c.moves-test.true)
+
+pub moves-preserved : goal.moves-preserved
+moves-preserved g c =
+    let v = g.S.Space.view c.args.space.now in
+    let f = c.args.search.now in
+    let ss = states_of c.args.graph.now in
+    let a = c.args.tree.now.items in
+    let b = c.moves.tree.items in
+    let t = c.add_child.new.tree.items in
+    let e = path_at a c.args.entry.node in
+    let d : Move = record { op = 0; to = 0 } in
+    let moves = c.args.moves.now in
+    let at = c.moves.step-index in
+    let ops = ops_of moves in
+    let op = get_or (ops_of moves) at 0 in
+    let i = c.moves.invariant in
+    let m = c.add_child.ensures.grows in
+    let old = c.moves.children.items in
+    let new = c.add_child.new.children.items in
+    let is = op_at c.args.moves.now d c.moves.step-index c.moves-test.true in
+    let inside = ops_few c.args.moves.now c.moves.step-index c.moves-test.true in
+    let one = c.requires.moves.each c.moves.step-index d c.moves-test.true in
+    let known : get_or (ops_of c.args.moves.now) c.moves.step-index 0 < v.system.operators = subst (λ (k : ℕ). k < v.system.operators) is one.leads.number in
+    let path = i.grows.paths c.args.entry.node c.requires.entry.inside in
+    let added = subst (λ (k : ℕ). Added v f t e k old new) is (subst (λ (p : List ℕ). Added v f t p (get_or c.args.moves.now c.moves.step-index d).op old new) path c.in_ok-add_child.ensures.added) in
+    let sofar = skip_to v f ss a c.args.entry.node c.requires.tree c.requires.entry.inside moves c.requires.moves b old at i.children.0 op i.children.1 (i.children.1.above at (omega arith) inside) (never_falls ops c.requires.moves.rising at) i.children.3 in
+    record {
+      grows = grows_trans v.system TopK ss a b t i.grows m;
+      children = (op + 1, past_next ops c.requires.moves.rising at inside, omega (arith, known), children_next v f t e op old new (children_like v f b t m.longer m.paths e op old sofar) added);
+    }
+
+pub returns-clause-children : goal.returns-clause-children
+returns-clause-children g c =
+    let v = g.S.Space.view c.args.space.now in
+    let ss = states_of c.args.graph.now in
+    let i = c.moves.invariant in
+    let few = ops_many c.args.moves.now c.moves.step-index c.moves-test.false in
+    skip_to v c.args.search.now ss c.args.tree.now.items c.args.entry.node c.requires.tree c.requires.entry.inside c.args.moves.now c.requires.moves c.moves.tree.items c.moves.children.items c.moves.step-index i.children.0 v.system.operators i.children.1 i.children.2
+    (λ j ge lt. absurd (omega (arith, ge, lt, few))) i.children.3

@@ -1,0 +1,13 @@
+use Rattle.std.proofs.Common.{◌<◌, ◌≤◌, ◌^◌, arith}
+use Rattle.lazy_plans.specs.Law.{top}
+use Rattle.prefix_tree.specs.Entries.{entries_of}
+use Rattle.prefix_plans.proofs.Walking.{acts_ok}
+use Rattle.prefix_plans.proofs.walk.take_turn.Goals as goal
+
+pub returns-else-entry-top_of-clause-ok : goal.returns-else-entry-top_of-clause-ok
+returns-else-entry-top_of-clause-ok g c =
+    let v = g.S.Space.view c.args.space.now in
+    let e = c.in-Some.entry in
+    let cheap : c.in-Some.entry.bound.0 ≤ top c.args.most = omega (arith, c.top_of.ensures) in
+    let range : top c.args.most < 2 ^ 64 = omega (arith, c.top_of.ensures) in
+    acts_ok v c.args.search.now c.args.most c.args.tree.now.items c.act.new.tree.items e (entries_of c.args.queue.now) (entries_of c.act.new.queue) c.act.result c.requires.ready.each c.in-Some.ensures.some c.in-Some.ensures.at cheap range c.requires.right c.act.ensures.ok

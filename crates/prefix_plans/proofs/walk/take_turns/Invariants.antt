@@ -1,0 +1,18 @@
+use Rattle.std.proofs.Common.{◌≡◌}
+use Rattle.prefix_tree.specs.Entries.{entries_of}
+use Rattle.least_costs.specs.Least.{next_of}
+use Rattle.prefix_plans.specs.Standing.{IsReady, KeepsPending, work}
+use Rattle.prefix_plans.proofs.walk.take_turns.Given as goal
+
+abbrev pub invariant-turns : goal.invariant-turns
+invariant-turns g l =
+    let view = g.S.Space.view in
+    let y = (view l.fn.space).system in
+    record {
+      system : (view l.space).system ≡ y;
+      ready : IsReady (view l.space) l.search l.graph l.tree.items (entries_of l.queue);
+      keeps : KeepsPending y l.most l.fn.tree.items l.tree.items (entries_of l.fn.queue) (entries_of l.queue);
+    }
+
+abbrev pub decreases-turns : goal.decreases-turns
+decreases-turns g l = work (next_of l.search) (entries_of l.queue)

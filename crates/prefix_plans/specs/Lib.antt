@@ -1,0 +1,7 @@
+pub mod Left
+pub mod Reach
+pub mod Children
+pub mod Standing
+pub mod Turned
+pub mod Sound
+pub mod Engine

@@ -1,0 +1,38 @@
+-- What every engine meets between two calls, and what one call gives.
+use Rattle.std.specs.Prelude.{◌≡◌, ℕ, ◌+◌, ◌*◌, ◌≤◌, List, Option, Some, None, Result, IfOk}
+use Rattle.symk_task.specs.declared.parts.Mode.TheVariants.{TopK}
+use Rattle.space_api.specs.View.{View}
+use Rattle.lazy_plans.specs.Law.{Last, Ended, Turned, last_of}
+use Rattle.lazy_plans.specs.declared.stop.Stop.{Stop}
+use Rattle.cost_search.specs.Search.{within_of}
+use Rattle.least_costs.specs.Least.{search_of}
+use Rattle.least_costs.specs.declared.search.LeastCosts.{LeastCosts}
+use Rattle.prefix_laws.specs.Queue.{Right}
+use Rattle.prefix_laws.specs.Owing.{Owes, IsHeld}
+use Rattle.prefix_tree.specs.Entries.{prefixes}
+use Rattle.prefix_tree.specs.declared.state_graph.StateGraph.{StateGraph}
+use Rattle.prefix_tree.specs.declared.tree.Node.{Node}
+use Rattle.prefix_tree.specs.declared.entry.Entry.{Entry}
+use Rattle.prefix_plans.specs.Standing.{IsReady}
+
+-- no more is held than twice what was needed last, and 1,000
+abbrev pub IsTidy : {Set : Type 0} → View Set → Type 0
+IsTidy v = v.held ≤ 2 * v.last + 1000
+
+-- what every engine meets between two calls: the queue stands, what was answered last still holds, and where no plan was left
+-- the space is tidy
+pub record IsSound {Set : Type 0} (v : View Set) (f : LeastCosts Set) (within : Set) (m : StateGraph) (nodes : List Node) (most : Option ℕ) (es : List Entry) (held : Option (List ℕ)) (ended : Last) : Type 0 where
+  pub ready : IsReady v f m nodes es
+  pub kept : within ≡ within_of (search_of f)
+  pub right : Right v.system TopK most (prefixes nodes es)
+  pub holds : IsHeld v.system TopK held ended
+  pub said : Ended v.system most (Owes v.system TopK (prefixes nodes es) held) ended
+  pub room : ended ≡ Some None → IsTidy v
+
+-- what one call gives: the law, and a tidy space after a plan or None
+pub record Answered {Set : Type 0} (v w : View Set) (most : Option ℕ) (before after : List ℕ → Type 0) (Engine : Type 0) (ended : Last) (result : Result (Option (List ℕ)) Stop) : Type 0 where
+  pub engine : Engine
+  pub system : w.system ≡ v.system
+  pub law : Turned v.system TopK most before after result
+  pub last : ended ≡ last_of result
+  pub room : IfOk result (λ o. IsTidy w)

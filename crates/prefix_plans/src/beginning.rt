@@ -1,0 +1,147 @@
+//! Engines at their first step.
+
+ghost use Rattle.std.specs.Prelude.{◌≡◌, IfOk, None, Some};
+ghost use Rattle.space_api.specs.View.{View, Valid};
+ghost use Rattle.prefix_plans.specs.Engine.{system_of, most_of, ended_of, IsEngine, HasNone, HasAlone, HasUseful, OwesAll};
+
+use crate::engine::PrefixPlans;
+use crate::racing::keep_to_reached;
+use least_costs::{LeastCosts, Side};
+use prefix_tree::{Entry, Node, Queue, StateGraph, number_of_start};
+use single_states::goal_at;
+use space_api::Space;
+use std::alloc::Global;
+use std::cmp::Reverse;
+use symk_task::Memory;
+
+impl<S: Space + Drop> PrefixPlans<S> {
+    /// All plans of the space's system that cost at most `most`, where it is given. No plan is taken
+    /// yet: each one pends. The search back is kept to `within`, and to the states that are reached where these
+    /// are soon found.
+    ///
+    /// The caller knows that `within` has each useful state and alone is valid.
+    fn begin(
+        alloc: Global,
+        space: S,
+        most: Option<u64>,
+        within: S::Set,
+    ) -> Result<PrefixPlans<S>, Memory>
+        requires within { Valid (S.view space) within }
+        requires alone { HasAlone (S.view space) within }
+        requires wide { HasUseful (S.view space) within }
+        ensures lawful { IfOk result (λ x. IsEngine S.view x) }
+        ensures system { IfOk result (λ x. system_of S.view x ≡ (S.view space).system) }
+        ensures all { IfOk result (λ x. OwesAll S.view (S.view space).system x) }
+        ensures most { IfOk result (λ x. most_of x ≡ most) }
+        ensures last { IfOk result (λ x. ended_of x ≡ None) }
+    {
+        let mut space = space;
+        let search = LeastCosts::new(alloc, &mut space, Side::Back, within)?;
+        let kept = keep_to_reached(alloc, &mut space, search, within, most)?;
+        let mut graph = StateGraph::new(alloc);
+        let start = number_of_start(alloc, &space, &mut graph)?;
+        let at_goal = goal_at(alloc, &space, graph.state(start))?;
+        let mut tree = Vec::new(alloc);
+        tree.push(Node {
+            parent: 0,
+            op: 0,
+            state: start,
+        })?;
+        let mut queue = Queue::new(alloc);
+        queue.push(Entry {
+            bound: Reverse(0),
+            cost: 0,
+            ring: Reverse(0),
+            node: 0,
+            settled: false,
+            at_goal,
+        })?;
+        Ok(PrefixPlans {
+            space,
+            search: kept.search,
+            within: kept.within,
+            graph,
+            tree,
+            queue,
+            most,
+            held: None,
+            ended: None,
+        })
+    }
+
+    /// All plans of the space's system. No plan is taken yet: each one pends.
+    ///
+    /// The search back is kept to `within`, which the caller knows to have each useful state and to be the one
+    /// valid set.
+    pub fn new_within(alloc: Global, space: S, within: S::Set) -> Result<PrefixPlans<S>, Memory>
+        requires within { Valid (S.view space) within }
+        requires alone { HasAlone (S.view space) within }
+        requires wide { HasUseful (S.view space) within }
+        ensures lawful { IfOk result (λ x. IsEngine S.view x) }
+        ensures system { IfOk result (λ x. system_of S.view x ≡ (S.view space).system) }
+        ensures all { IfOk result (λ x. OwesAll S.view (S.view space).system x) }
+        ensures most { IfOk result (λ x. most_of x ≡ None) }
+        ensures last { IfOk result (λ x. ended_of x ≡ None) }
+    {
+        PrefixPlans::begin(alloc, space, None, within)
+    }
+
+    /// The same, with the greatest cost that is wanted.
+    pub fn within_most(
+        alloc: Global,
+        space: S,
+        most: u64,
+        within: S::Set,
+    ) -> Result<PrefixPlans<S>, Memory>
+        requires within { Valid (S.view space) within }
+        requires alone { HasAlone (S.view space) within }
+        requires wide { HasUseful (S.view space) within }
+        ensures lawful { IfOk result (λ x. IsEngine S.view x) }
+        ensures system { IfOk result (λ x. system_of S.view x ≡ (S.view space).system) }
+        ensures all { IfOk result (λ x. OwesAll S.view (S.view space).system x) }
+        ensures most { IfOk result (λ x. most_of x ≡ Some most) }
+        ensures last { IfOk result (λ x. ended_of x ≡ None) }
+    {
+        PrefixPlans::begin(alloc, space, Some(most), within)
+    }
+
+    /// The same inside all states, with the greatest cost that is wanted, if there is one.
+    fn begin_anywhere(alloc: Global, space: S, most: Option<u64>) -> Result<PrefixPlans<S>, Memory>
+        requires { HasNone (S.view space) }
+        ensures lawful { IfOk result (λ x. IsEngine S.view x) }
+        ensures system { IfOk result (λ x. system_of S.view x ≡ (S.view space).system) }
+        ensures all { IfOk result (λ x. OwesAll S.view (S.view space).system x) }
+        ensures most { IfOk result (λ x. most_of x ≡ most) }
+        ensures last { IfOk result (λ x. ended_of x ≡ None) }
+    {
+        let mut space = space;
+        let within = space.all()?;
+        PrefixPlans::begin(alloc, space, most, within)
+    }
+
+    /// All plans of the space's system. No plan is taken yet: each one pends.
+    ///
+    /// The caller knows that no set of the space is valid yet.
+    pub fn new(alloc: Global, space: S) -> Result<PrefixPlans<S>, Memory>
+        requires { HasNone (S.view space) }
+        ensures lawful { IfOk result (λ x. IsEngine S.view x) }
+        ensures system { IfOk result (λ x. system_of S.view x ≡ (S.view space).system) }
+        ensures all { IfOk result (λ x. OwesAll S.view (S.view space).system x) }
+        ensures most { IfOk result (λ x. most_of x ≡ None) }
+        ensures last { IfOk result (λ x. ended_of x ≡ None) }
+    {
+        PrefixPlans::begin_anywhere(alloc, space, None)
+    }
+
+    /// The same, with the greatest cost that is wanted.
+    pub fn within(alloc: Global, space: S, most: u64) -> Result<PrefixPlans<S>, Memory>
+        requires { HasNone (S.view space) }
+        ensures lawful { IfOk result (λ x. IsEngine S.view x) }
+        ensures system { IfOk result (λ x. system_of S.view x ≡ (S.view space).system) }
+        ensures all { IfOk result (λ x. OwesAll S.view (S.view space).system x) }
+        ensures most { IfOk result (λ x. most_of x ≡ Some most) }
+        ensures last { IfOk result (λ x. ended_of x ≡ None) }
+    {
+        PrefixPlans::begin_anywhere(alloc, space, Some(most))
+    }
+}

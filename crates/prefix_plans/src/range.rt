@@ -1,0 +1,114 @@
+//! Whether a plan is left, where each that is left costs more than 64 bits hold.
+
+ghost use Rattle.std.specs.Prelude.{◌<◌, ◌≤◌, None, IfOk, length};
+ghost use Rattle.std.specs.Bool.{Decides};
+ghost use Rattle.std.specs.List.{AllByRecursion};
+ghost use Rattle.symk_task.specs.declared.parts.Mode.TheVariants.{TopK};
+ghost use Rattle.space_api.specs.View.{View, Valid};
+ghost use Rattle.space_api.specs.Frames.{Stays};
+ghost use Rattle.least_costs.specs.declared.search.LeastCosts.{LeastCosts};
+ghost use Rattle.prefix_laws.specs.Queue.{Right};
+ghost use Rattle.prefix_tree.specs.Entries.{entries_of, prefixes};
+ghost use Rattle.prefix_tree.specs.StateGraph.{states_of, IsStateGraph};
+ghost use Rattle.prefix_tree.specs.Tree.{IsTree, path_at};
+ghost use Rattle.prefix_plans.specs.Children.{IsEntry};
+ghost use Rattle.prefix_plans.specs.Engine.{HasUseful};
+ghost use Rattle.prefix_plans.specs.Standing.{KeepsPending};
+ghost use Rattle.prefix_plans.specs.Turned.{TellsLeading, GoesOnFrom, IsDear, TellsLeft};
+
+use lazy_plans::Steps;
+use prefix_tree::{Entry, Node, Queue, StateGraph, node_at};
+use run_graph::Side;
+use single_states::has_state;
+use space_api::{Space, SpaceFault};
+use std::alloc::{AllocError, Global};
+use std::sync::ledger::Ledger;
+use useful_states::reach;
+
+/// Whether a plan goes on from the entry's prefix: its last state is one of those that lead to the goal.
+fn goes_on<S: Space>(
+    space: &S,
+    leading: S::Set,
+    graph: &StateGraph,
+    tree: &[Node],
+    entry: Entry,
+) -> bool
+    requires leading { Valid (S.view space.now) leading }
+    requires tells { TellsLeading (S.view space.now) leading }
+    requires graph { IsStateGraph (S.view space.now).system graph.now }
+    requires tree { IsTree (S.view space.now).system TopK (states_of graph.now) tree.now }
+    requires inside { entry.node < length tree.now }
+    ensures { Decides result (GoesOnFrom (S.view space.now).system (path_at tree.now entry.node)) }
+{
+    let here = node_at(tree, entry.node);
+    has_state(space, leading, graph.state(here.state))
+}
+
+/// Whether a plan goes on from some entry, each of which is too dear. The first ones from which none does are taken out,
+/// each by a turn.
+fn some_goes_on<S: Space, L: Ledger>(
+    alloc: Global,
+    space: &S,
+    leading: S::Set,
+    graph: &StateGraph,
+    tree: &[Node],
+    queue: &mut Queue,
+    steps: &mut Steps<L>,
+) -> Result<bool, AllocError>
+    requires leading { Valid (S.view space.now) leading }
+    requires tells { TellsLeading (S.view space.now) leading }
+    requires graph { IsStateGraph (S.view space.now).system graph.now }
+    requires tree { IsTree (S.view space.now).system TopK (states_of graph.now) tree.now }
+    requires right { Right (S.view space.now).system TopK None (prefixes tree.now (entries_of queue.old)) }
+    requires dear { AllByRecursion (IsDear (S.view space.now).system tree.now) (entries_of queue.old) }
+    ensures each { (w : View S.Set) (f : LeastCosts S.Set) → AllByRecursion (IsEntry w f tree.now)
+        (entries_of queue.old) → AllByRecursion (IsEntry w f tree.now) (entries_of queue.new) }
+    ensures keeps { KeepsPending (S.view space.now).system None tree.now tree.now (entries_of queue.old)
+        (entries_of queue.new) }
+    ensures told { IfOk result (TellsLeft (S.view space.now).system tree.now (entries_of queue.old)) }
+    ensures steps { steps.old ≤ steps.new }
+{
+    'entries: loop {
+        match queue.first() {
+            None => return Ok(false),
+            Some(entry) => {
+                if goes_on(space, leading, graph, tree, entry) {
+                    return Ok(true);
+                }
+                queue.make_room(0)?;
+                queue.replace(Vec::new(alloc), steps);
+            }
+        }
+    }
+}
+
+/// Whether a plan is left, where each entry is too dear. The states that lead to the goal at all are found, whatever that
+/// costs, and given back. First entries from which no plan goes on are taken out, also where memory is wanting.
+pub(crate) fn is_left<S: Space, L: Ledger>(
+    alloc: Global,
+    space: &mut S,
+    within: S::Set,
+    graph: &StateGraph,
+    tree: &[Node],
+    queue: &mut Queue,
+    steps: &mut Steps<L>,
+) -> Result<bool, SpaceFault>
+    requires within { Valid (S.view space.old) within }
+    requires wide { HasUseful (S.view space.old) within }
+    requires graph { IsStateGraph (S.view space.old).system graph.now }
+    requires tree { IsTree (S.view space.old).system TopK (states_of graph.now) tree.now }
+    requires right { Right (S.view space.old).system TopK None (prefixes tree.now (entries_of queue.old)) }
+    requires dear { AllByRecursion (IsDear (S.view space.old).system tree.now) (entries_of queue.old) }
+    ensures stays { Stays (S.view space.old) (S.view space.new) }
+    ensures each { (w : View S.Set) (f : LeastCosts S.Set) → AllByRecursion (IsEntry w f tree.now)
+        (entries_of queue.old) → AllByRecursion (IsEntry w f tree.now) (entries_of queue.new) }
+    ensures keeps { KeepsPending (S.view space.old).system None tree.now tree.now (entries_of queue.old)
+        (entries_of queue.new) }
+    ensures told { IfOk result (TellsLeft (S.view space.old).system tree.now (entries_of queue.old)) }
+    ensures steps { steps.old ≤ steps.new }
+{
+    let leading = reach(space, Side::Back, within)?;
+    let left = some_goes_on(alloc, space, leading, graph, tree, queue, steps);
+    space.forget(leading);
+    left
+}

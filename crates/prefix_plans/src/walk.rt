@@ -1,0 +1,259 @@
+//! Turns of the queue, until a plan is given.
+
+ghost use Rattle.std.specs.Prelude.{◌≡◌, ◌-◌, ◌<◌, ◌≤◌, ◌^◌, All, IfOk, OnOk, OnErr, List, length, slice_index_or};
+ghost use Rattle.std.specs.Bool.{Decides};
+ghost use Rattle.std.specs.List.{AllByRecursion};
+ghost use Rattle.symk_task.specs.declared.parts.Mode.TheVariants.{TopK};
+ghost use Rattle.space_api.specs.View.{View};
+ghost use Rattle.lazy_plans.specs.Law.{Turned, top};
+ghost use Rattle.cost_search.specs.Search.{within_of};
+ghost use Rattle.least_costs.specs.Least.{search_of, next_of};
+ghost use Rattle.prefix_laws.specs.Queue.{Right, Pending};
+ghost use Rattle.prefix_tree.specs.Order.{IsNoLater};
+ghost use Rattle.prefix_tree.specs.Entries.{entries_of, prefixes};
+ghost use Rattle.prefix_tree.specs.declared.entry.Entry.{Entry};
+ghost use Rattle.prefix_tree.specs.declared.tree.Node.{Node};
+ghost use Rattle.prefix_tree.specs.declared.state_graph.StateGraph.{StateGraph};
+ghost use Rattle.prefix_plans.specs.Standing.{IsAlone, IsReady, KeepsPending};
+ghost use Rattle.prefix_plans.specs.Turned.{Acts, TurnOf, HaltsAt, CountsTurn};
+
+use crate::range::is_left;
+use crate::turn::{learn, open};
+use lazy_plans::{Steps, Stop};
+use least_costs::LeastCosts;
+use prefix_tree::{Entry, Node, Queue, StateGraph};
+use space_api::{Space, SpaceFault};
+use std::alloc::Global;
+use std::sync::ledger::Ledger;
+use symk_task::Plan;
+
+/// Why turns stop.
+#[derive(Drop)]
+pub(crate) enum Halt {
+    /// The first entry is this plan.
+    Gives(Plan),
+    /// The last state of the first entry is not ranked yet: the search back has to go on.
+    Waits,
+    /// No plan is left that is wanted.
+    Ends,
+    /// Each plan that is left costs more than 64 bits hold.
+    OutOfRange,
+}
+
+/// The greatest cost of a plan that is given.
+fn top_of(most: Option<u64>) -> u64
+    ensures { result ≡ top most }
+{
+    match most {
+        None => u64::MAX,
+        Some(most) => most,
+    }
+}
+
+/// Whether the search back knows more than the bound of the entry says.
+fn is_known<T: Copy>(search: &LeastCosts<T>, entry: Entry) -> bool
+    requires { entry.cost ≤ entry.bound.0 }
+    ensures { Decides result (entry.bound.0 - entry.cost < next_of search.now) }
+{
+    entry.bound.0 - entry.cost < search.layers().known_below()
+}
+
+/// What is done with the first entry: it is opened where its last state is ranked; else more is
+/// learned of it, where more is known.
+fn act<S: Space, L: Ledger>(
+    alloc: Global,
+    space: &S,
+    search: &LeastCosts<S::Set>,
+    graph: &mut StateGraph,
+    tree: &mut Vec<Node>,
+    queue: &mut Queue,
+    entry: Entry,
+    steps: &mut Steps<L>,
+) -> Result<Option<Halt>, SpaceFault>
+    requires ready { IsReady (S.view space.now) search.now graph.old tree.old.items (entries_of queue.old) }
+    requires some { 0 < length (entries_of queue.old) }
+    requires first { entry ≡ slice_index_or (entries_of queue.old) 0 entry }
+    requires order { All (IsNoLater entry) (entries_of queue.old) }
+    ensures ready { IsReady (S.view space.now) search.now graph.new tree.new.items (entries_of queue.new) }
+    ensures ok { IfOk result (Acts (S.view space.now) search.now tree.old.items tree.new.items entry
+        (entries_of queue.old) (entries_of queue.new)) }
+    ensures err { OnErr result (prefixes tree.new.items (entries_of queue.new) ≡ prefixes tree.old.items
+        (entries_of queue.old)) }
+    ensures one { IfOk result (CountsTurn steps.old steps.new) }
+    ensures none { OnErr result (steps.new ≡ steps.old) }
+{
+    if entry.settled {
+        return match open(alloc, space, search, graph, tree, queue, entry, steps)? {
+            None => Ok(None),
+            Some(plan) => Ok(Some(Halt::Gives(plan))),
+        };
+    }
+    if !is_known(search, entry) {
+        return Ok(Some(Halt::Waits));
+    }
+    learn(alloc, space, search, graph, tree, queue, entry, steps)?;
+    Ok(None)
+}
+
+/// What ends the list where the first entry is dearer than any plan that is given.
+fn end<S: Space, L: Ledger>(
+    alloc: Global,
+    space: &mut S,
+    search: &LeastCosts<S::Set>,
+    within: S::Set,
+    graph: &StateGraph,
+    tree: &[Node],
+    most: Option<u64>,
+    queue: &mut Queue,
+    steps: &mut Steps<L>,
+) -> Result<Halt, SpaceFault>
+    requires ready { IsReady (S.view space.old) search.now graph.now tree.now (entries_of queue.old) }
+    requires within { within ≡ within_of (search_of search.now) }
+    requires right { Right (S.view space.old).system TopK most (prefixes tree.now (entries_of queue.old)) }
+    requires dear { AllByRecursion (λ (k : Entry). top most < k.bound.0) (entries_of queue.old) }
+    ensures system { (S.view space.new).system ≡ (S.view space.old).system }
+    ensures ready { IsReady (S.view space.new) search.now graph.now tree.now (entries_of queue.new) }
+    ensures ok { IfOk result (HaltsAt (S.view space.old).system (next_of search.now) most tree.now tree.now
+        (entries_of queue.old) (entries_of queue.new)) }
+    ensures last { IfOk result (λ halt. CountsTurn steps.old steps.new (Some halt)) }
+    ensures err { OnErr result (KeepsPending (S.view space.old).system most tree.now tree.now
+        (entries_of queue.old) (entries_of queue.new)) }
+{
+    match most {
+        Some(_) => Ok(Halt::Ends),
+        None => {
+            if is_left(alloc, space, within, graph, tree, queue, steps)? {
+                return Ok(Halt::OutOfRange);
+            }
+            Ok(Halt::Ends)
+        }
+    }
+}
+
+/// One turn: what is done with the first entry. None where turns go on.
+fn take_turn<S: Space, L: Ledger>(
+    alloc: Global,
+    space: &mut S,
+    search: &LeastCosts<S::Set>,
+    within: S::Set,
+    graph: &mut StateGraph,
+    tree: &mut Vec<Node>,
+    most: Option<u64>,
+    queue: &mut Queue,
+    steps: &mut Steps<L>,
+) -> Result<Option<Halt>, SpaceFault>
+    requires ready { IsReady (S.view space.old) search.now graph.old tree.old.items (entries_of queue.old) }
+    requires within { within ≡ within_of (search_of search.now) }
+    requires right { Right (S.view space.old).system TopK most (prefixes tree.old.items (entries_of queue.old)) }
+    ensures system { (S.view space.new).system ≡ (S.view space.old).system }
+    ensures ready { IsReady (S.view space.new) search.now graph.new tree.new.items (entries_of queue.new) }
+    ensures ok { IfOk result (TurnOf (S.view space.old).system (next_of search.now) most tree.old.items
+        tree.new.items (entries_of queue.old) (entries_of queue.new)) }
+    ensures one { IfOk result (CountsTurn steps.old steps.new) }
+    ensures err { OnErr result (KeepsPending (S.view space.old).system most tree.old.items tree.new.items
+        (entries_of queue.old) (entries_of queue.new)) }
+{
+    match queue.first() {
+        None => Ok(Some(Halt::Ends)),
+        Some(entry) => {
+            if entry.bound.0 > top_of(most) as u128 {
+                let halt = end(
+                    alloc, space, search, within, graph, tree, most, queue, steps,
+                )?;
+                return Ok(Some(halt));
+            }
+            act(alloc, space, search, graph, tree, queue, entry, steps)
+        }
+    }
+}
+
+/// Turns, one after the other, until they stop.
+fn take_turns<S: Space, L: Ledger>(
+    alloc: Global,
+    space: &mut S,
+    search: &LeastCosts<S::Set>,
+    within: S::Set,
+    graph: &mut StateGraph,
+    tree: &mut Vec<Node>,
+    most: Option<u64>,
+    queue: &mut Queue,
+    steps: &mut Steps<L>,
+) -> Result<Halt, SpaceFault>
+    requires ready { IsReady (S.view space.old) search.now graph.old tree.old.items (entries_of queue.old) }
+    requires within { within ≡ within_of (search_of search.now) }
+    requires right { Right (S.view space.old).system TopK most (prefixes tree.old.items (entries_of queue.old)) }
+    ensures system { (S.view space.new).system ≡ (S.view space.old).system }
+    ensures ready { IsReady (S.view space.new) search.now graph.new tree.new.items (entries_of queue.new) }
+    ensures ok { IfOk result (HaltsAt (S.view space.old).system (next_of search.now) most tree.old.items
+        tree.new.items (entries_of queue.old) (entries_of queue.new)) }
+    ensures err { OnErr result (KeepsPending (S.view space.old).system most tree.old.items tree.new.items
+        (entries_of queue.old) (entries_of queue.new)) }
+{
+    'turns: loop {
+        if let Some(halt) = take_turn(
+            alloc, space, search, within, graph, tree, most, queue, steps,
+        )? {
+            return Ok(halt);
+        }
+    }
+}
+
+/// The search back goes on by one step, where not every cost is settled. What stands on it still stands.
+fn go_on<S: Space>(
+    alloc: Global,
+    space: &mut S,
+    search: &mut LeastCosts<S::Set>,
+) -> Result<(), SpaceFault>
+    requires alone { IsAlone (S.view space.old) search.old }
+    requires more { next_of search.old < 2 ^ 64 }
+    ensures system { (S.view space.new).system ≡ (S.view space.old).system }
+    ensures within { within_of (search_of search.new) ≡ within_of (search_of search.old) }
+    ensures ready { (graph : StateGraph) (tree : List Node) (entries : List Entry)
+        → IsReady (S.view space.old) search.old graph tree entries
+        → IsReady (S.view space.new) search.new graph tree entries }
+    ensures later { OnOk result (next_of search.old < next_of search.new) }
+{
+    search.extend(alloc, space)?;
+    Ok(())
+}
+
+/// The next plan out of the queue. Each entry that is taken is one step. Want of memory leaves what pends.
+pub(crate) fn walk<S: Space, L: Ledger>(
+    alloc: Global,
+    space: &mut S,
+    search: &mut LeastCosts<S::Set>,
+    within: S::Set,
+    graph: &mut StateGraph,
+    tree: &mut Vec<Node>,
+    most: Option<u64>,
+    queue: &mut Queue,
+    steps: &mut Steps<L>,
+) -> Result<Option<Plan>, Stop>
+    requires ready { IsReady (S.view space.old) search.old graph.old tree.old.items (entries_of queue.old) }
+    requires within { within ≡ within_of (search_of search.old) }
+    requires right { Right (S.view space.old).system TopK most (prefixes tree.old.items (entries_of queue.old)) }
+    ensures system { (S.view space.new).system ≡ (S.view space.old).system }
+    ensures ready { IsReady (S.view space.new) search.new graph.new tree.new.items (entries_of queue.new) }
+    ensures within { within ≡ within_of (search_of search.new) }
+    ensures right { Right (S.view space.old).system TopK most (prefixes tree.new.items (entries_of queue.new)) }
+    ensures law { Turned (S.view space.old).system TopK most (Pending (S.view space.old).system TopK
+        (prefixes tree.old.items (entries_of queue.old))) (Pending (S.view space.old).system TopK
+        (prefixes tree.new.items (entries_of queue.new))) result }
+{
+    'costs: loop {
+        match take_turns(
+            alloc, space, search, within, graph, tree, most, queue, steps,
+        ) {
+            Err(_) => return Err(Stop::Memory),
+            Ok(halt) => match halt {
+                Halt::Gives(plan) => return Ok(Some(plan)),
+                Halt::Ends => return Ok(None),
+                Halt::OutOfRange => return Err(Stop::CostRange),
+                Halt::Waits => match go_on(alloc, space, search) {
+                    Err(_) => return Err(Stop::Memory),
+                    Ok(()) => {}
+                },
+            },
+        }
+    }
+}

@@ -7,3 +7,4 @@ pub mod Balancing
 pub mod Stable
 pub mod Leaving
 pub mod Narrowing
+pub mod Alone

@@ -1,7 +1,5 @@
 -- Sets that are made on the way and given back, and the states that keep groups, group by group.
 use Rattle.std.proofs.Common.{◌≡◌, ◌≢◌, ℕ, ◌+◌, ◌<◌, ◌≤◌, ◌⊎◌, ◌↔◌, inl, inr, IsFalse, List, length, get_or, take, refl, sym, ◌∙◌, ap, subst}
-use Rattle.std.specs.List.{All}
-use Rattle.std.proofs.lemmas.List.Elements.{Contains-get_or}
 use Rattle.std.proofs.lemmas.List.{take_all}
 use Rattle.symk_task.specs.declared.parts.Fact.{Fact}
 use Rattle.symk_task.specs.declared.parts.TaskParts.{TaskParts}
@@ -16,8 +14,8 @@ use Rattle.space_api.proofs.Trading.{valid_clash, trades_trans, trades_beside, t
 use Rattle.mutex_use.specs.Counts.{HasTwo}
 use Rattle.run_graph.specs.Reached.{Useful}
 use Rattle.symk_task.specs.Fits.{Fits}
-use Rattle.mutex_use.specs.Groups.{group_at, HasAtMostOne, Keeps, IsBaseGroup, IsKeeper, IsGreatest}
-use Rattle.mutex_use.specs.Sets.{HasAll, Narrows, KeepsGreatest}
+use Rattle.mutex_use.specs.Groups.{group_at, HasAtMostOne, Keeps, IsKeeper}
+use Rattle.mutex_use.specs.Sets.{HasAll, Narrows, KeepsHolding}
 use Rattle.mutex_use.proofs.Lists.{told, more, none}
 use Rattle.mutex_use.proofs.Holding.{useful_keep}
 use Rattle.mutex_use.proofs.Stable.{at_most_one, not_two}
@@ -112,14 +110,10 @@ gives_after {v = v} {r = r} z g = record {
   means = g.means;
 }
 
--- the groups of a greatest set are over base variables
-pub greatest_base : (task : TaskParts) (groups : List ℕ) → IsGreatest task groups → All (IsBaseGroup task) groups
-greatest_base task groups h k d lt = h.0.base (get_or groups k d) (Contains-get_or groups k d lt)
-
--- each useful state is in a set of those that keep a greatest set
-pub useful_within : {Set : Type 0} (v w : View Set) (task : TaskParts) (a : Set) → v.system ≡ system_of v.task → v.task ≡ task → Fits task → KeepsGreatest v w task a → (s : State) → Useful v.system s → Has w a s
-useful_within v w task a is same fits (groups, greatest, g) s u =
-    (g.means s).1 (useful_keep task groups s fits greatest.0 (subst (λ (y : System). Useful y s) (is ∙ ap system_of same) u))
+-- each useful state is in a set of those that keep groups that hold
+pub useful_within : {Set : Type 0} (v w : View Set) (task : TaskParts) (a : Set) → v.system ≡ system_of v.task → v.task ≡ task → Fits task → KeepsHolding v w task a → (s : State) → Useful v.system s → Has w a s
+useful_within v w task a is same fits (groups, hold, g) s u =
+    (g.means s).1 (useful_keep task groups s fits hold (subst (λ (y : System). Useful y s) (is ∙ ap system_of same) u))
 
 -- a new set takes the place of one that is given back
 pub swapped : {Set : Type 0} (v w x : View Set) {P : State → Type 0} (old new : Set) → Kept v w → Gives v w P new → Valid v old → Forgot w x old → Trades v x (λ a. a ≡ old) (λ a. a ≡ new)

@@ -15,7 +15,7 @@ use std::alloc::Global;
 use symk_task::{Fact, Task};
 
 /// The states of `kept`, which is inside `all`, where at most one of the facts holds, as a new set.
-fn kept_more<S: Space>(
+pub(crate) fn kept_more<S: Space>(
     alloc: Global,
     space: &mut S,
     all: S::Set,
@@ -39,7 +39,7 @@ fn kept_more<S: Space>(
 }
 
 /// The set, once the space had the occasion to collect. It is given back where that is refused.
-fn tidied<S: Space>(space: &mut S, set: S::Set) -> Result<S::Set, SpaceFault>
+pub(crate) fn tidied<S: Space>(space: &mut S, set: S::Set) -> Result<S::Set, SpaceFault>
     requires { Valid (S.view space.old) set }
     ensures same { IfOk result (λ same. same ≡ set) }
     ensures stays { OnOk result (Stays (S.view space.old) (S.view space.new)) }

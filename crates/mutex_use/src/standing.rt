@@ -4,18 +4,17 @@ ghost use Rattle.std.specs.Prelude.{◌≡◌, ◌<◌, ◌≤◌, ◌↔◌, �
 ghost use Rattle.std.specs.List.Sorted.{IsStrictlyIncreasing};
 ghost use Rattle.symk_task.specs.Variables.{IsState};
 ghost use Rattle.task_system.specs.System.{State};
-ghost use Rattle.run_graph.specs.Reached.{Useful};
 ghost use Rattle.space_api.specs.View.{View, Valid, Has, Preimage};
-ghost use Rattle.space_api.specs.Frames.{Kept, NoMore, Stays};
+ghost use Rattle.space_api.specs.Frames.{Stays};
 ghost use Rattle.mutex_use.specs.Groups.{IsBaseGroup, IsGreatest, IsKeeper, IsPartOf, Keeps};
 ghost use Rattle.mutex_use.specs.Rounds.{StandsFrom, IsRound, AreLeft};
-ghost use Rattle.mutex_use.specs.Sets.{HasAll, IsSafe, KeepsGreatest, Reaches};
+ghost use Rattle.mutex_use.specs.Sets.{HasAll, IsSafe, Reaches};
 ghost use Rattle.mutex_use.specs.Writers.{AreWriters};
 
 use crate::balance::breaking_operators;
 use crate::counts::breaking;
 use crate::groups::{base_groups, facts_of};
-use crate::keepers::{keep_each, keeping};
+use crate::keepers::keep_each;
 use crate::writers::writers_of;
 use space_api::{Space, SpaceFault};
 use std::alloc::Global;
@@ -84,7 +83,7 @@ fn is_safe<S: Space>(
 ///
 /// An operator that has no effect on a variable of the group, or is balanced, is not tried: it leads from a state that
 /// keeps the group to one that does.
-fn stands<S: Space>(
+pub(crate) fn stands<S: Space>(
     alloc: Global,
     space: &mut S,
     task: &Task,
@@ -222,23 +221,4 @@ pub fn inductive_groups<S: Space>(
     let groups = greatest(alloc, space, task, all);
     space.forget(all);
     groups
-}
-
-/// The states that keep the greatest set of mutex groups that hold, as a new set. Each useful state is one of them.
-///
-/// So an engine's search backward may be kept to it. The task is the space's. Want of memory is the one refusal, and
-/// leaves no new set. Backward layers cut by mutex groups: Torralba and Alcázar 2013.
-pub fn within<S: Space>(alloc: Global, space: &mut S, task: &Task) -> Result<S::Set, SpaceFault>
-    requires { (S.view space.old).task ≡ task.now }
-    ensures kept { Kept (S.view space.old) (S.view space.new) }
-    ensures ok { IfOk result (KeepsGreatest (S.view space.old) (S.view space.new) task.now) }
-    ensures useful { IfOk result (λ set.
-        (s : State) → Useful (S.view space.old).system s → Has (S.view space.new) set s) }
-    ensures err { OnErr result (NoMore (S.view space.old) (S.view space.new)) }
-    ensures task { (S.view space.new).task ≡ (S.view space.old).task }
-{
-    // A task fits, and so its runs pass states alone.
-    let _ = task.parts();
-    let groups = inductive_groups(alloc, space, task)?;
-    keeping(alloc, space, task, &groups)
 }

@@ -8,7 +8,7 @@ ghost use Rattle.reconstruct.specs.Engine.{IsReadyFor};
 ghost use Rattle.plan_run.specs.Engines.{OwesAll};
 
 use crate::choice::Patient;
-use crate::options::Search;
+use crate::options::{Direction, Search};
 use loopless::LooplessPlans;
 use reconstruct::TopPlans;
 use selectors::LazyPlans;
@@ -16,13 +16,19 @@ use space_api::Space;
 use std::alloc::Global;
 use symk_task::{Memory, Task};
 
-// The set to which the search backward is kept: where the mutex groups are asked for, the states that keep
-// those of the task's that are shown inductive, and else none. Each useful state is one of them. It alone is
-// valid then.
+// Whether the mutex groups of the task cut the search backward: where they are asked for, and where the program
+// chooses the side that goes on. Their set costs little beside a search, by what `within` tries.
+fn is_cut(search: Search) -> bool {
+    search.mutex || search.direction == Direction::Auto
+}
+
+// The set to which the search backward is kept: where it is to be cut and the task states mutex groups, the states
+// that keep some of those that are shown inductive, and else none. Each useful state is one of them. It alone is valid
+// then.
 fn kept_to<S: Space>(
     alloc: Global,
     task: &Task,
-    search: Search,
+    cut: bool,
     space: &mut S,
 ) -> Result<Option<S::Set>, Memory>
     requires task { (S.view space.old).task ≡ task.now }
@@ -30,7 +36,7 @@ fn kept_to<S: Space>(
     ensures ready { IfOk result (IsReadyFor (S.view space.new)) }
     ensures system { OnOk result ((S.view space.new).system ≡ (S.view space.old).system) }
 {
-    if !search.mutex {
+    if !cut || task.parts().mutexes.is_empty() {
         return Ok(None);
     }
     let kept = mutex_use::within(alloc, space, task)?;
@@ -56,7 +62,7 @@ pub fn top_plans<S: Space + Drop>(
 {
     let mut space = space;
     let choose = Patient::of(search.direction);
-    let within = kept_to(alloc, task, search, &mut space)?;
+    let within = kept_to(alloc, task, is_cut(search), &mut space)?;
     match within {
         None => match limit {
             None => TopPlans::new(alloc, space, choose),
@@ -85,7 +91,7 @@ pub fn loopless_plans<S: Space + Drop>(
         ⟦<LooplessPlans<S> as LazyPlans>⟧.lawful task.now Loopless limit) }
 {
     let mut space = space;
-    let within = kept_to(alloc, task, search, &mut space)?;
+    let within = kept_to(alloc, task, search.mutex, &mut space)?;
     match within {
         None => match limit {
             None => LooplessPlans::new(alloc, space),

@@ -10,6 +10,7 @@ ghost use Rattle.plan_run.specs.Engines.{OwesAll};
 use crate::choice::Patient;
 use crate::options::{Direction, Search};
 use loopless::LooplessPlans;
+use prefix_plans::PrefixPlans;
 use reconstruct::TopPlans;
 use selectors::LazyPlans;
 use space_api::Space;
@@ -71,6 +72,35 @@ pub fn top_plans<S: Space + Drop>(
         Some(kept) => match limit {
             None => TopPlans::new_within(alloc, space, choose, kept),
             Some(most) => TopPlans::within_most(alloc, space, choose, most, kept),
+        },
+    }
+}
+
+/// All plans of the task by their prefixes, in the same way. They are searched for backward, whatever the direction.
+pub fn prefix_plans<S: Space + Drop>(
+    alloc: Global,
+    task: &Task,
+    search: Search,
+    space: S,
+    limit: Option<u64>,
+) -> Result<PrefixPlans<S>, Memory>
+    requires task { (S.view space).task ≡ task.now }
+    requires system { (S.view space).system ≡ system_of task.now }
+    requires none { (a : S.Set) → IsFalse ((S.view space).valid a) }
+    ensures { IfOk result (OwesAll ⟦<PrefixPlans<S> as LazyPlans>⟧.system ⟦<PrefixPlans<S> as LazyPlans>⟧.mode
+        ⟦<PrefixPlans<S> as LazyPlans>⟧.most ⟦<PrefixPlans<S> as LazyPlans>⟧.pends
+        ⟦<PrefixPlans<S> as LazyPlans>⟧.lawful task.now TopK limit) }
+{
+    let mut space = space;
+    let within = kept_to(alloc, task, is_cut(search), &mut space)?;
+    match within {
+        None => match limit {
+            None => PrefixPlans::new(alloc, space),
+            Some(most) => PrefixPlans::within(alloc, space, most),
+        },
+        Some(kept) => match limit {
+            None => PrefixPlans::new_within(alloc, space, kept),
+            Some(most) => PrefixPlans::within_most(alloc, space, most, kept),
         },
     }
 }

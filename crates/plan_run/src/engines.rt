@@ -1,7 +1,7 @@
 //! Lists by the engine that a mode and an earlier list ask for.
 
 ghost use Rattle.std.specs.Prelude.{◌≡◌, ◌≢◌, ◌≤◌, ◌<◌, ◌^◌, IsFalse, IfSome};
-ghost use Rattle.symk_task.specs.declared.parts.Mode.TheVariants.{Loopless};
+ghost use Rattle.symk_task.specs.declared.parts.Mode.TheVariants.{TopK, Loopless};
 ghost use Rattle.task_system.specs.Computed.{system_of};
 ghost use Rattle.space_api.specs.View.{View};
 ghost use Rattle.run_status.specs.Ends.{HasCauses, Puts};
@@ -9,10 +9,11 @@ ghost use Rattle.plan_run.specs.Engines.{OwesAll};
 ghost use Rattle.plan_run.specs.Earlier.{IsEarlier};
 ghost use Rattle.plan_run.specs.Lists.{OrPart, aim_after};
 
-use crate::beginning::{loopless_plans, top_plans};
+use crate::beginning::{loopless_plans, prefix_plans, top_plans};
 use crate::earlier::Earlier;
 use crate::options::{Search, Wanted};
 use crate::planning::list_plans;
+use crate::width::costs_are_wide;
 use bdd_space::BddSpace;
 use run_status::Status;
 use selectors::{After, LazyPlans, Unordered};
@@ -91,7 +92,7 @@ fn list_loopless<S: Space + Drop, K: Sink>(
     }
 }
 
-// Lists plans that grow from the middle outwards, over such a space.
+// Lists plans in a mode that asks for all of them or for one of each class, over such a space.
 fn list_by<S: Space + Drop, K: Sink>(
     alloc: Global,
     task: &Task,
@@ -115,9 +116,40 @@ fn list_by<S: Space + Drop, K: Sink>(
         (K.view sink.old) (K.view sink.new) result }
     ensures causes { HasCauses result 0 0 (K.view sink.old).faults (K.view sink.new).faults }
 {
-    let Ok(plans) = top_plans(alloc, task, search, space, limit) else {
-        return Status::Memory;
-    };
+    if costs_are_wide(task) {
+        match prefix_plans(alloc, task, search, space, limit) {
+            Ok(plans) => list_of(alloc, task, mode, wanted, limit, earlier, plans, sink),
+            Err(_) => Status::Memory,
+        }
+    } else {
+        match top_plans(alloc, task, search, space, limit) {
+            Ok(plans) => list_of(alloc, task, mode, wanted, limit, earlier, plans, sink),
+            Err(_) => Status::Memory,
+        }
+    }
+}
+
+// Lists plans of an engine that owes all of the task, one of each class where the mode asks for that.
+fn list_of<I: LazyPlans + Drop, K: Sink>(
+    alloc: Global,
+    task: &Task,
+    mode: Mode,
+    wanted: Wanted,
+    limit: Option<u64>,
+    earlier: &Earlier,
+    plans: I,
+    sink: &mut K,
+) -> Status
+    requires owes { OwesAll I.system I.mode I.most I.pends I.lawful task.now TopK limit plans }
+    requires served { mode ≢ Mode.Loopless }
+    requires least { 1 ≤ wanted.count }
+    requires count { wanted.count ≤ 1000000000 }
+    requires limit { IfSome limit (λ most. most < 2 ^ 64) }
+    requires earlier { IsEarlier task.now mode limit earlier.now }
+    ensures lists { Puts (OrPart (aim_after task.now mode wanted limit earlier.now.plans))
+        (K.view sink.old) (K.view sink.new) result }
+    ensures causes { HasCauses result 0 0 (K.view sink.old).faults (K.view sink.new).faults }
+{
     match mode {
         Mode::TopK => list_rest(alloc, task, mode, wanted, limit, earlier, plans, sink),
         Mode::Unordered => match Unordered::new(alloc, plans) {

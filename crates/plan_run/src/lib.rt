@@ -6,7 +6,7 @@
 //! alone: with the earlier plans it is the cheapest plans of the mode, each once, by cost, and the end is the true
 //! one; where the earlier list misses a plan, the cheapest one is named and nothing is listed. How plans are searched
 //! for changes none of this: neither the direction nor whether the mutex groups that are shown inductive cut the
-//! search. It stands on the engines (`reconstruct`, `loopless`), the selectors (`selectors`), the space on diagrams
+//! search. It stands on the engines (`reconstruct`, `prefix_plans`, `loopless`), the selectors (`selectors`), the space on diagrams
 //! (`bdd_space`), the groups (`mutex_use`), and the texts of blocks (`plan_out`), and it is a crate by itself so that
 //! what holds of these engines over this space is proved once, below the program.
 #![tactic(auto)]
@@ -19,6 +19,7 @@ mod engines;
 mod options;
 mod planning;
 mod reaching;
+mod width;
 
 pub use costs::{Costs, SHOWN, costs_found};
 pub use earlier::Earlier;

@@ -7,11 +7,12 @@ ghost use Rattle.plan_run.specs.Engines.{OwesAll};
 ghost use Rattle.plan_run.specs.Lists.{OrPart, aim};
 ghost use Rattle.plan_run.specs.Reaches.{OrReached, HasLeast, IsNear, share};
 
-use crate::beginning::top_plans;
+use crate::beginning::{prefix_plans, top_plans};
 use crate::earlier::Earlier;
 use crate::engines::list_found;
 use crate::options::{Reach, Search, Wanted};
 use crate::planning::end_list;
+use crate::width::costs_are_wide;
 use bdd_space::BddSpace;
 use plan_out::End;
 use run_status::Status;
@@ -97,8 +98,13 @@ fn least_cost(alloc: Global, task: &Task, search: Search) -> Result<Least, Memor
     ensures { IfOk result (HasLeast task.now) }
 {
     let space = BddSpace::of(alloc, task)?;
-    let plans = top_plans(alloc, task, search, space, None)?;
-    cheapest_of(alloc, task, plans)
+    if costs_are_wide(task) {
+        let plans = prefix_plans(alloc, task, search, space, None)?;
+        cheapest_of(alloc, task, plans)
+    } else {
+        let plans = top_plans(alloc, task, search, space, None)?;
+        cheapest_of(alloc, task, plans)
+    }
 }
 
 // What the first plan of an engine costs that owes all plans of the task.

@@ -1,6 +1,7 @@
 //! Lists of tasks that seeds draw.
 
 use crate::following::{Firsts, Priced, follows, give_alike};
+use crate::widening::wide_task;
 use plan_listing::{BACKWARD, Choice, Engine, FORWARD, LIGHTER, LOWER, Request, Sets, listed};
 use std::alloc::Global;
 use std::test::Fail;
@@ -10,14 +11,19 @@ use task_draws::random_task;
 const STATES: Sets = Sets::States { calls: u64::MAX };
 
 /// The engines of all plans, and of classes of rearrangements.
-const TOPS: [Engine; 4] = [
+const TOPS: [Engine; 5] = [
     Engine::Top(FORWARD),
     Engine::Top(BACKWARD),
     Engine::Top(LOWER),
     Engine::Top(LIGHTER),
+    Engine::Prefixes,
 ];
 
-const CLASSES: [Engine; 2] = [Engine::Unordered(LOWER), Engine::Unordered(LIGHTER)];
+const CLASSES: [Engine; 3] = [
+    Engine::Unordered(LOWER),
+    Engine::Unordered(LIGHTER),
+    Engine::PrefixClasses,
+];
 
 /// How many plans of an engine are compared, and how many all plans are taken.
 const SHORT: u32 = 8;
@@ -114,14 +120,20 @@ fn mode_agrees(
     Ok(true)
 }
 
-/// Whether the lists of all engines agree.
-fn task_agrees(alloc: Global, task: &Task) -> Result<bool, Memory> {
-    let Some(all) = both(alloc, task, Engine::Top(LOWER), LONG)? else {
+/// Whether the lists of these engines agree with the list of all plans by one of them.
+fn task_agrees(
+    alloc: Global,
+    task: &Task,
+    first: Engine,
+    tops: &[Engine],
+    classes: &[Engine],
+) -> Result<bool, Memory> {
+    let Some(all) = both(alloc, task, first, LONG)? else {
         return Ok(false);
     };
     Ok(
-        mode_agrees(alloc, task, Mode::TopK, &TOPS, &all)?
-            && mode_agrees(alloc, task, Mode::Unordered, &CLASSES, &all)?
+        mode_agrees(alloc, task, Mode::TopK, tops, &all)?
+            && mode_agrees(alloc, task, Mode::Unordered, classes, &all)?
             && mode_agrees(alloc, task, Mode::Loopless, &[Engine::Loopless], &all)?,
     )
 }
@@ -129,7 +141,21 @@ fn task_agrees(alloc: Global, task: &Task) -> Result<bool, Memory> {
 /// Whether what the seed draws is no task, or a task of which the lists of all engines agree.
 fn seed_agrees(alloc: Global, seed: u64) -> Result<bool, Memory> {
     match random_task(alloc, seed)? {
-        Some(task) => task_agrees(alloc, &task),
+        Some(task) => task_agrees(alloc, &task, Engine::Top(LOWER), &TOPS, &CLASSES),
+        None => Ok(true),
+    }
+}
+
+/// The same where costs are drawn wide, of the engines that take no longer for it.
+fn wide_agrees(alloc: Global, seed: u64) -> Result<bool, Memory> {
+    match wide_task(alloc, seed)? {
+        Some(task) => task_agrees(
+            alloc,
+            &task,
+            Engine::Prefixes,
+            &[Engine::Prefixes],
+            &[Engine::PrefixClasses],
+        ),
         None => Ok(true),
     }
 }
@@ -139,6 +165,15 @@ fn lists_of_all_engines_agree(rt: HostRuntime) -> Result<(), Fail> {
     let alloc = rt.alloc();
     for seed in 0..SEEDS {
         assert!(rt; seed_agrees(alloc, seed)?, "at seed {seed}");
+    }
+    Ok(())
+}
+
+#[test]
+fn lists_agree_where_costs_are_wide(rt: HostRuntime) -> Result<(), Fail> {
+    let alloc = rt.alloc();
+    for seed in 0..SEEDS {
+        assert!(rt; wide_agrees(alloc, seed)?, "at seed {seed}");
     }
     Ok(())
 }

@@ -3,6 +3,7 @@
 ghost use Rattle.std.specs.Prelude.{◌≡◌, None, Some, IfOk};
 ghost use Rattle.reconstruct.specs.Engine.{IsReadyFor, IsEngine};
 ghost use Rattle.loopless.specs.Engine.{IsEngine as IsLoopless};
+ghost use Rattle.prefix_plans.specs.Engine.{IsEngine as IsPrefixes};
 
 use crate::costs::costs_of;
 use crate::listing::{Ending, Listing, first_plans};
@@ -11,6 +12,7 @@ use bidirectional::Choice;
 use explicit_space::{ExplicitSpace, FuseSpace};
 use lazy_plans::LazyPlans;
 use loopless::LooplessPlans;
+use prefix_plans::PrefixPlans;
 use reconstruct::TopPlans;
 use selectors::Unordered;
 use space_api::Space;
@@ -24,6 +26,10 @@ pub enum Engine {
     Top(Choice),
     /// Of those the first of each class of rearrangements.
     Unordered(Choice),
+    /// All plans, by their prefixes.
+    Prefixes,
+    /// Of those the first of each class of rearrangements.
+    PrefixClasses,
     /// The plans that visit no state twice.
     Loopless,
 }
@@ -32,8 +38,8 @@ impl Engine {
     /// Which plans it gives.
     pub fn mode(self) -> Mode {
         match self {
-            Engine::Top(_) => Mode::TopK,
-            Engine::Unordered(_) => Mode::Unordered,
+            Engine::Top(_) | Engine::Prefixes => Mode::TopK,
+            Engine::Unordered(_) | Engine::PrefixClasses => Mode::Unordered,
             Engine::Loopless => Mode::Loopless,
         }
     }
@@ -93,6 +99,29 @@ fn all_plans<S: Space + Drop>(
     }
 }
 
+/// The engine of all plans by their prefixes.
+fn prefix_plans<S: Space + Drop>(
+    alloc: Global,
+    space: S,
+    request: Request,
+) -> Result<PrefixPlans<S>, Memory>
+    requires { IsReadyFor (S.view space) None }
+    ensures { IfOk result (IsPrefixes S.view) }
+{
+    let mut space = space;
+    if !request.handed {
+        return match request.most {
+            None => PrefixPlans::new(alloc, space),
+            Some(most) => PrefixPlans::within(alloc, space, most),
+        };
+    }
+    let all = space.all()?;
+    match request.most {
+        None => PrefixPlans::new_within(alloc, space, all),
+        Some(most) => PrefixPlans::within_most(alloc, space, most, all),
+    }
+}
+
 /// The engine of loopless plans.
 fn loopless_plans<S: Space + Drop>(
     alloc: Global,
@@ -131,6 +160,14 @@ fn listed_over<S: Space + Drop>(
         }
         Engine::Unordered(choice) => {
             let plans = all_plans(alloc, space, choice, request)?;
+            list_of(alloc, Unordered::new(alloc, plans)?, request.count)
+        }
+        Engine::Prefixes => {
+            let plans = prefix_plans(alloc, space, request)?;
+            list_of(alloc, plans, request.count)
+        }
+        Engine::PrefixClasses => {
+            let plans = prefix_plans(alloc, space, request)?;
             list_of(alloc, Unordered::new(alloc, plans)?, request.count)
         }
         Engine::Loopless => {

@@ -1,0 +1,14 @@
+pub mod Retold
+pub mod Slotting
+pub mod Costs
+pub mod Seats
+pub mod Opening
+pub mod Adding
+pub mod Keeping
+pub mod Nearness
+pub mod Dividing
+pub mod Knowing
+pub mod Starting
+pub mod Giving
+pub mod Firsts
+pub mod Settling

@@ -1,0 +1,10 @@
+pub mod Ahead
+pub mod Sets
+pub mod Lists
+pub mod Arcs
+pub mod Slots
+pub mod Ranks
+pub mod Steps
+pub mod Turns
+pub mod Known
+pub mod Giving

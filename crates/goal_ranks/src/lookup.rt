@@ -1,0 +1,78 @@
+//! What is known of ranks.
+
+/// A rank: what its states cost to the goal at least, and its number.
+#[derive(Clone, Copy, Debug, PartialEq, Eq)]
+pub struct Rank {
+    pub cost: u64,
+    pub number: usize,
+}
+
+ghost use Rattle.std.specs.Prelude.{◌≡◌, ◌+◌, ◌<◌, ◌≤◌, ◌^◌, ℕ, IsTrue, IfSome, IfNone, MatchOption};
+ghost use Rattle.task_system.specs.System.{State};
+ghost use Rattle.space_api.specs.View.{View, Has};
+ghost use Rattle.single_states.specs.States.{IsReached};
+ghost use Rattle.run_graph.specs.Reached.{ReachedAt, AtCost};
+ghost use Rattle.run_graph.specs.declared.Side.TheVariants.{Back};
+ghost use Rattle.rank_laws.specs.Inside.{InsideAt};
+ghost use Rattle.rank_laws.specs.Ranks.{NoneBelow};
+ghost use Rattle.goal_ranks.specs.Ranks.{IsGoalRanks, HasRank, WaitsIn, within_of, ranks_of};
+ghost use Rattle.goal_ranks.specs.Known.{HasWay, IsOutside};
+
+use crate::lists::First;
+use crate::search::GoalRanks;
+use single_states::has_state;
+use space_api::Space;
+use symk_task::State;
+
+impl<T: Copy> GoalRanks<T> {
+    /// The rank of the state, which operators reach. None exactly where it has none. It takes no memory.
+    pub fn rank_of<S: Space<Set = T>>(&self, space: &S, state: &State) -> Option<Rank>
+        requires ranks { IsGoalRanks (S.view space.now) self.now }
+        requires state { IsReached (S.view space.now).system state.now }
+        ensures { MatchOption result ((i x : ℕ) → ¬ HasRank (S.view space.now) self.now i x state.now)
+            (λ rank. HasRank (S.view space.now) self.now rank.number rank.cost state.now) }
+    {
+        'ranks: for number in 0..self.ranks.len() {
+            let ranked = self.ranks[number];
+            if has_state(space, ranked.set, state) {
+                return Some(Rank {
+                    cost: ranked.cost,
+                    number,
+                });
+            }
+        }
+        None
+    }
+
+    /// How many ranks there are. A state has one at most, at its least cost to the goal inside `within`; and unless it is
+    /// a goal state and costs nothing, an operator leads from it to a state of a rank before, at the cost between them.
+    pub fn ranks(&self) -> usize
+        ensures many { result ≡ ranks_of self.now }
+        ensures least { (v : View T) → IsGoalRanks v self.now → (i x : ℕ) (s : State) → HasRank v self.now i x s
+            → AtCost Back v.system x s × ((d : ℕ) → InsideAt Back v.system (Has v (within_of self.now)) d s → x ≤ d) }
+        ensures once { (v : View T) → IsGoalRanks v self.now → (i j x d : ℕ) (s : State) → HasRank v self.now i x s
+            → HasRank v self.now j d s → (i ≡ j) × (x ≡ d) }
+        ensures way { (v : View T) → IsGoalRanks v self.now → (i x : ℕ) (s : State) → HasRank v self.now i x s
+            → HasWay v self.now i x s }
+    {
+        self.ranks.len()
+    }
+
+    /// The least key of what waits: no plan costs less that comes through a state without a rank and goes on from there
+    /// inside `within`, at a cost that 64 bits hold. None exactly where nothing waits: then there is no such plan.
+    pub fn next(&self) -> Option<u128>
+        ensures least { (v : View T) → MatchOption result ((k x : ℕ) (s : State) → ¬ WaitsIn v self.now k x s)
+            (NoneBelow (WaitsIn v self.now)) }
+        ensures bound { (v : View T) → IsGoalRanks v self.now → IfSome result (λ n. (s : State)
+            → IsOutside v self.now s → (a d : ℕ) → ReachedAt v.system a s
+            → InsideAt Back v.system (Has v (within_of self.now)) d s → d < 2 ^ 64 → n ≤ a + d) }
+        ensures closed { (v : View T) → IsGoalRanks v self.now → IfNone result ((s : State)
+            → IsOutside v self.now s → (d : ℕ) → InsideAt Back v.system (Has v (within_of self.now)) d s → 2 ^ 64 ≤ d) }
+    {
+        match self.first() {
+            First::Nothing => None,
+            First::Slot(least) => Some(least.key),
+            First::Arcs(least) => Some(least.key),
+        }
+    }
+}

@@ -1,0 +1,136 @@
+//! What a search from the initial state tells of a set that waits.
+
+/// What comes of a set that waits.
+#[derive(Clone, Copy)]
+pub enum Part<T: Copy> {
+    /// None of its states is left.
+    Spent,
+    /// None of them can have a rank yet: the set may wait under this key, which is greater.
+    Later(u128),
+    /// A new set of some of them, each of which can have a rank.
+    Next(T),
+}
+
+/// What the rings of the search ahead tell of a set.
+#[derive(Clone, Copy)]
+enum Told {
+    /// Each of its states can have a rank.
+    Whole,
+    /// Those that stand in the ring of this cost can.
+    Ring(u64),
+    /// None can, below this key.
+    Later(u128),
+}
+
+ghost use Rattle.std.specs.Prelude.{◌≡◌, ◌+◌, ◌^◌, ◌<◌, ◌≤◌, ℕ, min, IfOk, OnErr};
+ghost use Rattle.task_system.specs.System.{State};
+ghost use Rattle.space_api.specs.View.{View, Valid, Has, Meets};
+ghost use Rattle.space_api.specs.Frames.{Kept, NoMore, Gives, Stays};
+ghost use Rattle.cost_layers.specs.Layers.{Held, Stands};
+ghost use Rattle.cost_search.specs.Meeting.{IsLayerMeeting};
+ghost use Rattle.run_graph.specs.Layering.{InLayer};
+ghost use Rattle.goal_ranks.specs.Ahead.{IsAhead, bound_of, IsKeyOf, Tells, Divides};
+
+use crate::parts::Waiting;
+use cost_layers::Layers;
+use cost_search::first_meeting;
+use least_costs::LeastCosts;
+use space_api::{Space, SpaceFault};
+
+/// The bound below which the search ahead has each state.
+pub fn bound_ahead<T: Copy>(ahead: &LeastCosts<T>) -> u128
+    ensures { result ≡ bound_of ahead.now }
+{
+    match ahead.next_cost() {
+        Some(cost) => cost as u128,
+        None => 1 << 64,
+    }
+}
+
+/// What the rings tell of a set whose states cost so much to the goal, and which waits under this key.
+fn tell<S: Space>(
+    space: &mut S,
+    ahead: &LeastCosts<S::Set>,
+    cost: u64,
+    key: u128,
+    set: S::Set,
+) -> Result<Told, SpaceFault>
+    requires ahead { IsAhead (S.view space.old) ahead.now }
+    requires set { Valid (S.view space.old) set }
+    requires key { IsKeyOf (S.view space.old).system (Has (S.view space.old) set) cost key }
+    ensures stays { Stays (S.view space.old) (S.view space.new) }
+    ensures ok { IfOk result (Tells (S.view space.old) ahead.now set cost key) }
+{
+    let cost = cost as u128;
+    let bound = bound_ahead(ahead);
+    if cost + bound <= key {
+        return Ok(Told::Whole);
+    }
+    let low = key.saturating_sub(cost) as u64;
+    match first_meeting(space, ahead.layers(), low, set)? {
+        Some(ring) if cost + ring as u128 <= key => Ok(Told::Ring(ring)),
+        Some(ring) => Ok(Told::Later(cost + ring as u128)),
+        None => Ok(Told::Later(cost + bound)),
+    }
+}
+
+/// The states of the set in the layer of this cost, which has some.
+fn in_layer<S: Space>(
+    space: &mut S,
+    layers: &Layers<S::Set>,
+    cost: u64,
+    set: S::Set,
+) -> Result<S::Set, SpaceFault>
+    requires held { Held (S.view space.old) layers.now }
+    requires set { Valid (S.view space.old) set }
+    requires meets { IsLayerMeeting (S.view space.old) layers.now set cost }
+    ensures kept { Kept (S.view space.old) (S.view space.new) }
+    ensures ok { IfOk result (Gives (S.view space.old) (S.view space.new) (λ s. Has (S.view space.old) set s
+        × InLayer (Stands (S.view space.old) layers.now) cost s)) }
+    ensures err { OnErr result (NoMore (S.view space.old) (S.view space.new)) }
+{
+    match layers.layer(cost) {
+        Some(whole) => space.meet(set, whole),
+        None => unreachable!(),
+    }
+}
+
+/// What comes of a set that waits, whose states that are left have no rank: by what the search ahead tells of these.
+///
+/// What it makes besides is given back, and all of it where memory is wanting.
+pub fn divide<S: Space>(
+    space: &mut S,
+    ahead: &LeastCosts<S::Set>,
+    waiting: Waiting<S::Set>,
+    left: S::Set,
+) -> Result<Part<S::Set>, SpaceFault>
+    requires ahead { IsAhead (S.view space.old) ahead.now }
+    requires set { Valid (S.view space.old) waiting.set }
+    requires left { Valid (S.view space.old) left }
+    requires key { IsKeyOf (S.view space.old).system (Meets (S.view space.old) waiting.set left) waiting.cost
+        waiting.key }
+    ensures ok { IfOk result (Divides (S.view space.old) (S.view space.new) ahead.now waiting left) }
+    ensures err { OnErr result (Stays (S.view space.old) (S.view space.new)) }
+{
+    let fresh = space.meet(waiting.set, left)?;
+    if space.is_empty(fresh) {
+        space.forget(fresh);
+        return Ok(Part::Spent);
+    }
+    match tell(space, ahead, waiting.cost, waiting.key, fresh) {
+        Ok(Told::Whole) => Ok(Part::Next(fresh)),
+        Ok(Told::Ring(cost)) => {
+            let near = in_layer(space, ahead.layers(), cost, fresh);
+            space.forget(fresh);
+            Ok(Part::Next(near?))
+        }
+        Ok(Told::Later(key)) => {
+            space.forget(fresh);
+            Ok(Part::Later(key))
+        }
+        Err(fault) => {
+            space.forget(fresh);
+            Err(fault)
+        }
+    }
+}

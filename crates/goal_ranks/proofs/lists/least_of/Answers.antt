@@ -1,5 +1,5 @@
-use Rattle.std.proofs.Common.{◌≡◌, ℕ, length, subst, arith, rules}
-use Rattle.std.proofs.lemmas.Option.{slice_get_read, slice_get_within}
+use Rattle.std.proofs.Common.{ℕ, length, subst, arith, rules}
+use Rattle.std.proofs.lemmas.Option.{slice_get_read}
 use Rattle.goal_ranks.specs.Lists.{IsLeastBelow}
 use Rattle.goal_ranks.proofs.Slotting.{least_more}
 use Rattle.goal_ranks.proofs.lists.least_of.Goals as goal

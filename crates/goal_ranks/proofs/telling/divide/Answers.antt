@@ -1,4 +1,4 @@
-use Rattle.std.proofs.Common.{refl, sym, ◌∙◌, subst}
+use Rattle.std.proofs.Common.{sym, subst}
 use Rattle.space_api.specs.View.{Has, Meets}
 use Rattle.space_api.specs.Frames.{Gives, Stays}
 use Rattle.run_graph.specs.Layering.{InLayer}

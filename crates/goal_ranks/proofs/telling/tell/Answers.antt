@@ -1,4 +1,4 @@
-use Rattle.std.proofs.Common.{◌≡◌, ℕ, ◌+◌, ◌<◌, ◌≤◌, Option, Some, None, sym, subst, arith}
+use Rattle.std.proofs.Common.{ℕ, ◌+◌, ◌<◌, ◌≤◌, Option, Some, None, sym, subst, arith}
 use Rattle.space_api.specs.View.{Has}
 use Rattle.cost_layers.specs.declared.layers.Layers.{Layers}
 use Rattle.cost_search.specs.Meeting.{IsFirstFrom}

@@ -5,8 +5,9 @@ pub mod Seats
 pub mod Opening
 pub mod Adding
 pub mod Keeping
-pub mod Nearness
+pub mod Rings
 pub mod Dividing
+pub mod Locating
 pub mod Knowing
 pub mod Starting
 pub mod Giving

@@ -12,6 +12,7 @@
 mod arcs;
 mod lists;
 mod lookup;
+mod nearness;
 mod parts;
 mod release;
 mod search;
@@ -21,6 +22,8 @@ mod telling;
 mod turning;
 
 pub use lookup::Rank;
+pub use nearness::ahead_of;
+pub use parts::Waiting;
 pub use search::GoalRanks;
 pub use telling::{Part, bound_ahead, divide};
 pub use turning::Turn;

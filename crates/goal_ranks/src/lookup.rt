@@ -7,15 +7,15 @@ pub struct Rank {
     pub number: usize,
 }
 
-ghost use Rattle.std.specs.Prelude.{◌≡◌, ◌+◌, ◌<◌, ◌≤◌, ◌^◌, ℕ, IsTrue, IfSome, IfNone, MatchOption};
+ghost use Rattle.std.specs.Prelude.{◌≡◌, ◌+◌, ◌<◌, ◌≤◌, ◌^◌, ℕ, IsTrue, IsFalse, IfSome, IfNone, MatchOption};
 ghost use Rattle.task_system.specs.System.{State};
 ghost use Rattle.space_api.specs.View.{View, Has};
 ghost use Rattle.single_states.specs.States.{IsReached};
-ghost use Rattle.run_graph.specs.Reached.{ReachedAt, AtCost};
+ghost use Rattle.run_graph.specs.Reached.{ReachedAt, AtCost, ReachedInside};
 ghost use Rattle.run_graph.specs.declared.Side.TheVariants.{Back};
 ghost use Rattle.rank_laws.specs.Inside.{InsideAt};
 ghost use Rattle.rank_laws.specs.Ranks.{NoneBelow};
-ghost use Rattle.goal_ranks.specs.Ranks.{IsGoalRanks, HasRank, WaitsIn, within_of, ranks_of};
+ghost use Rattle.goal_ranks.specs.Ranks.{IsGoalRanks, HasRank, WaitsIn, within_of, ranks_of, beyond_of};
 ghost use Rattle.goal_ranks.specs.Known.{HasWay, IsOutside};
 
 use crate::lists::First;
@@ -74,5 +74,16 @@ impl<T: Copy> GoalRanks<T> {
             First::Slot(least) => Some(least.key),
             First::Arcs(least) => Some(least.key),
         }
+    }
+
+    /// Whether arcs were left out that cost more than 64 bits hold. Where none were and nothing waits, each state has a
+    /// rank from which a run inside `within` leads to the goal.
+    pub fn beyond(&self) -> bool
+        ensures value { result ≡ beyond_of self.now }
+        ensures all { (v : View T) → IsGoalRanks v self.now → IsFalse result
+            → ((k x : ℕ) (s : State) → ¬ WaitsIn v self.now k x s) → (s : State)
+            → ReachedInside Back v.system (Has v (within_of self.now)) s → (i : ℕ) × (x : ℕ) × HasRank v self.now i x s }
+    {
+        self.beyond
     }
 }

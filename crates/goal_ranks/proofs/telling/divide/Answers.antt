@@ -11,7 +11,7 @@ use Rattle.cost_search.proofs.Meeting.{meeting_kept}
 use Rattle.least_costs.specs.Least.{search_of}
 use Rattle.goal_ranks.specs.Ahead.{Tells}
 use Rattle.goal_ranks.specs.declared.telling.Told.{Told}
-use Rattle.goal_ranks.proofs.Nearness.{ahead_kept, key_kept}
+use Rattle.goal_ranks.proofs.Rings.{ahead_kept, key_kept}
 use Rattle.goal_ranks.proofs.Dividing.{spent, later, ring, on_err}
 use Rattle.goal_ranks.proofs.telling.divide.Goals as goal
 

@@ -3,7 +3,7 @@ use Rattle.space_api.specs.View.{Has}
 use Rattle.cost_layers.specs.declared.layers.Layers.{Layers}
 use Rattle.cost_search.specs.Meeting.{IsFirstFrom}
 use Rattle.goal_ranks.specs.Ahead.{bound_of, IsKeyOf}
-use Rattle.goal_ranks.proofs.Nearness.{later_ring, later_bound}
+use Rattle.goal_ranks.proofs.Rings.{later_ring, later_bound}
 use Rattle.goal_ranks.proofs.telling.tell.Goals as goal
 
 pub returns-in-Some-2-clause-ok : goal.returns-in-Some-2-clause-ok

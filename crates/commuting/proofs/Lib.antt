@@ -1,0 +1,5 @@
+pub mod Agreeing
+pub mod Values
+pub mod Applying
+pub mod Pair
+pub mod CommuteLaw

@@ -1,0 +1,147 @@
+-- Operators that commute change places in a run.
+use Rattle.std.proofs.Common.{◌≡◌, ℕ, zero, suc, ◌+◌, ◌==◌, Bool, cond, IsTrue, List, [], ◌∷◌, ◌++◌, length, Option, Some, unwrap_or, refl, sym, ap, subst, ◌∙◌, arith, length-append}
+use Rattle.std.specs.List.{AllByRecursion, count_by}
+use Rattle.std.proofs.lemmas.List.Sums.{sum_by-cons}
+use Rattle.task_system.specs.System.{State, System, Listed, Leads, Runs, next_state, cost_of}
+use Rattle.space_api.specs.Listing.{ListsReached}
+use Rattle.space_api.proofs.Runs.{run_append, run_more}
+use Rattle.commuting.specs.Commuting.{Commute}
+use Rattle.stubborn_laws.specs.Stubborn.{AppliesIn, FirstOf, Stubborn, Rearranges, BeginsIn, StepsInside, StepsChosen}
+
+-- an operator leads to one state
+one_next : (y : System) (a : ℕ) (s t u : State) → Leads y a s t → Leads y a s u → t ≡ u
+one_next y a s t u l k = (let e : Some t ≡ Some u = sym l.step ∙ k.step in let same : t ≡ u = cc in same)
+
+-- How often an operator stands in a list.
+
+count_cons : (a x : ℕ) (p : List ℕ) → count_by (λ b. a == b) (x ∷ p) ≡ cond (a == x) 1 0 + count_by (λ b. a == b) p
+count_cons a x p = sum_by-cons (λ b. cond (a == b) 1 0) x p
+
+-- an element in the midst may stand in front
+count_moved : (a x : ℕ) (before later : List ℕ) → count_by (λ b. a == b) (before ++ x ∷ later) ≡ count_by (λ b. a == b) (x ∷ (before ++ later))
+count_moved a x [] later = refl
+count_moved a x (z ∷ before) later =
+    let e = count_cons a z (before ++ x ∷ later) in
+    let f = count_cons a x (z ∷ (before ++ later)) in
+    let g = count_cons a z (before ++ later) in
+    let k = count_cons a x (before ++ later) in
+    let ih = count_moved a x before later in omega (arith, e, f, g, k, ih)
+
+cost_moved : (y : System) (x : ℕ) (before later : List ℕ) → cost_of y (x ∷ (before ++ later)) ≡ cost_of y (before ++ x ∷ later)
+cost_moved y x [] later = refl
+cost_moved y x (z ∷ before) later = (let ih = cost_moved y x before later in omega (arith, ih))
+
+count_same : (a x : ℕ) (p q : List ℕ) → count_by (λ b. a == b) p ≡ count_by (λ b. a == b) q → count_by (λ b. a == b) (x ∷ p) ≡ count_by (λ b. a == b) (x ∷ q)
+count_same a x p q h = (let e = count_cons a x p in let f = count_cons a x q in omega (arith, e, f, h))
+
+-- the first of two, later
+exchange : (y : System) (a b : ℕ) (p : List ℕ) (s t : State) → Listed y.states s → Commute y a b → AppliesIn y b s → Runs y s (a ∷ b ∷ p) t → Runs y s (b ∷ a ∷ p) t
+exchange y a b p s t listed commute (n, lead) (m, first, (k, second, rest)) =
+    let both = commute.either s m n listed first lead in
+    let same : k ≡ both.0 = one_next y b m k both.0 second both.1 in
+    (n, lead, (both.0, both.2, subst (λ (z : State). Runs y z p t) same rest))
+
+count_after : (a : ℕ) (before p q : List ℕ) → count_by (λ b. a == b) p ≡ count_by (λ b. a == b) q → count_by (λ b. a == b) (before ++ p) ≡ count_by (λ b. a == b) (before ++ q)
+count_after a [] p q h = h
+count_after a (x ∷ before) p q h = count_same a x (before ++ p) (before ++ q) (count_after a before p q h)
+
+cost_after : (y : System) (before p q : List ℕ) → cost_of y q ≡ cost_of y p → cost_of y (before ++ q) ≡ cost_of y (before ++ p)
+cost_after y [] p q h = h
+cost_after y (x ∷ before) p q h = ap (λ (c : ℕ). y.cost x + c) (cost_after y before p q h)
+
+-- runs from listed states end in listed ones
+ends_listed : (y : System) (p : List ℕ) (s t : State) → ListsReached y → Listed y.states s → Runs y s p t → Listed y.states t
+ends_listed y [] s t lists listed runs = subst (Listed y.states) runs listed
+ends_listed y (a ∷ p) s t lists listed (m, lead, rest) = ends_listed y p m t lists (lists.steps a s m listed lead) rest
+
+pub exchanged : (y : System) (a b : ℕ) (before later : List ℕ) (s m t : State) → ListsReached y → Listed y.states s → Commute y a b → Runs y s before m → AppliesIn y b m → Runs y m (a ∷ b ∷ later) t
+    → Rearranges y s t (before ++ a ∷ b ∷ later) (before ++ b ∷ a ∷ later)
+exchanged y a b before later s m t lists listed commute to applies runs = record {
+  runs = run_append y s before m (b ∷ a ∷ later) t to (exchange y a b later m t (ends_listed y before s m lists listed to) commute applies runs);
+  same = λ x. count_after x before (a ∷ b ∷ later) (b ∷ a ∷ later) (count_moved x b (a ∷ []) later);
+  steps = length-append before (b ∷ a ∷ later) ∙ sym (length-append before (a ∷ b ∷ later));
+  cost = cost_after y before (a ∷ b ∷ later) (b ∷ a ∷ later) (cost_moved y b (a ∷ []) later);
+}
+
+-- what commutes with each before it, to the front
+move : (y : System) (x : ℕ) (before later : List ℕ) (s t u : State) → ListsReached y → Listed y.states s → Leads y x s u → AllByRecursion (Commute y x) before → Runs y s (before ++ x ∷ later) t → Runs y s (x ∷ (before ++ later)) t
+move y x [] later s t u lists listed lead commute runs = runs
+move y x (b ∷ before) later s t u lists listed lead commute (m, first, rest) =
+    let both = commute.0.either s u m listed lead first in
+    let moved = move y x before later m t both.0 lists (lists.steps b s m listed first) both.2 commute.1 rest in
+    let same : moved.0 ≡ both.0 = one_next y x m moved.0 both.0 moved.1 both.2 in
+    (u, lead, (both.0, both.1, subst (λ (z : State). Runs y z (before ++ later) t) same moved.2))
+
+pub moved : (y : System) (set : ℕ → Bool) (s t : State) (p : List ℕ) → ListsReached y → Listed y.states s → (f : FirstOf y set s p) → Runs y s p t → Rearranges y s t p (f.first ∷ (f.before ++ f.later))
+moved y set s t p lists listed f runs = record {
+  runs = move y f.first f.before f.later s t f.applies.0 lists listed f.applies.1 f.commutes (subst (λ (z : List ℕ). Runs y s z t) f.here runs);
+  same = λ a. ap (λ (z : List ℕ). count_by (λ b. a == b) z) f.here ∙ count_moved a f.first f.before f.later;
+  steps = (let l = length-append f.before (f.first ∷ f.later) in let k = length-append f.before f.later in let e = ap (λ (z : List ℕ). length z) f.here in omega (arith, l, k, e));
+  cost = cost_moved y f.first f.before f.later ∙ sym (ap (cost_of y) f.here);
+}
+
+pub begun : (y : System) (set : ℕ → Bool) (s t : State) (p : List ℕ) → ListsReached y → Listed y.states s → Stubborn y set s → Runs y s p t → IsTrue (y.goal t) → ¬ (p ≡ []) → (q : List ℕ) × BeginsIn set q × Rearranges y s t p q
+begun y set s t [] lists listed stubborn runs goal some = absurd (some refl)
+begun y set s t (a ∷ p) lists listed stubborn runs goal some =
+    let f = stubborn.first a p t runs goal in
+    (f.first ∷ (f.before ++ f.later), f.inside, moved y set s t (a ∷ p) lists listed f runs)
+
+shorter : (before : List ℕ) (x : ℕ) (later : List ℕ) (n : ℕ) → length (before ++ x ∷ later) ≡ suc n → length (before ++ later) ≡ n
+shorter before x later n e =
+    let l = length-append before (x ∷ later) in
+    let k = length-append before later in
+    let c : length (x ∷ later) ≡ suc (length later) = refl in omega (arith, e, l, k, c)
+
+-- each step inside, by the number of steps
+inside : (n : ℕ) (y : System) (set : State → ℕ → Bool) (s t : State) (p : List ℕ) → length p ≡ n → ListsReached y → ((r : State) → Listed y.states r → Stubborn y (set r) r) → Listed y.states s → Runs y s p t → IsTrue (y.goal t)
+    → (q : List ℕ) × StepsInside y set s q × Rearranges y s t p q
+inside n y set s t [] size lists stubborn listed runs goal = ([], tt, record { runs = runs; same = λ a. refl; steps = refl; cost = refl })
+inside zero y set s t (a ∷ p) size lists stubborn listed runs goal = (let e : suc (length p) ≡ 0 = size in absurd (omega arith))
+inside (suc n) y set s t (a ∷ p) size lists stubborn listed runs goal =
+    let f = (stubborn s listed).first a p t runs goal in
+    let r = f.before ++ f.later in
+    let re = moved y (set s) s t (a ∷ p) lists listed f runs in
+    let m = re.runs.0 in
+    let lead = re.runs.1 in
+    let short : length r ≡ n = shorter f.before f.first f.later n (ap length (sym f.here) ∙ size) in
+    let rest = inside n y set m t r short lists stubborn (lists.steps f.first s m listed lead) re.runs.2 goal in
+    let next : m ≡ next_state y f.first s = sym (ap (λ (o : Option State). unwrap_or o s) lead.step) in (
+      f.first ∷ rest.0,
+      (f.inside, subst (λ (z : State). StepsInside y set z rest.0) next rest.1),
+      record {
+        runs = (m, lead, rest.2.runs);
+        same = λ x. re.same x ∙ count_same x f.first r rest.0 (rest.2.same x);
+        steps = ap suc rest.2.steps ∙ re.steps;
+        cost = ap (λ (c : ℕ). y.cost f.first + c) rest.2.cost ∙ re.cost;
+      },
+    )
+
+pub member : (y : System) (set : State → ℕ → Bool) (s t : State) (p : List ℕ) → ListsReached y → ((r : State) → Listed y.states r → Stubborn y (set r) r) → Listed y.states s → Runs y s p t → IsTrue (y.goal t) → (q : List ℕ) × StepsInside y set s q × Rearranges y s t p q
+member y set s t p lists stubborn listed runs goal = inside (length p) y set s t p refl lists stubborn listed runs goal
+
+-- each step chosen, after the operators `before`
+chosen : (n : ℕ) (y : System) (set : List ℕ → ℕ → Bool) (o s t : State) (before p : List ℕ) → length p ≡ n → ListsReached y → ((e : List ℕ) (r : State) → Runs y o e r → Stubborn y (set e) r) → Runs y o before s → Listed y.states s → Runs y s p t → IsTrue (y.goal t)
+    → (q : List ℕ) × StepsChosen set before q × Rearranges y s t p q
+chosen n y set o s t before [] size lists stubborn from listed runs goal = ([], tt, record { runs = runs; same = λ a. refl; steps = refl; cost = refl })
+chosen zero y set o s t before (a ∷ p) size lists stubborn from listed runs goal = (let e : suc (length p) ≡ 0 = size in absurd (omega arith))
+chosen (suc n) y set o s t before (a ∷ p) size lists stubborn from listed runs goal =
+    let f = (stubborn before s from).first a p t runs goal in
+    let r = f.before ++ f.later in
+    let re = moved y (set before) s t (a ∷ p) lists listed f runs in
+    let m = re.runs.0 in
+    let lead = re.runs.1 in
+    let short : length r ≡ n = shorter f.before f.first f.later n (ap length (sym f.here) ∙ size) in
+    let rest = chosen n y set o m t (before ++ f.first ∷ []) r short lists stubborn (run_more y o before s f.first m from lead) (lists.steps f.first s m listed lead) re.runs.2 goal in (
+      f.first ∷ rest.0,
+      (f.inside, rest.1),
+      record {
+        runs = (m, lead, rest.2.runs);
+        same = λ x. re.same x ∙ count_same x f.first r rest.0 (rest.2.same x);
+        steps = ap suc rest.2.steps ∙ re.steps;
+        cost = ap (λ (c : ℕ). y.cost f.first + c) rest.2.cost ∙ re.cost;
+      },
+    )
+
+pub chosen_member : (y : System) (set : List ℕ → ℕ → Bool) (s t : State) (p : List ℕ) → ListsReached y → ((e : List ℕ) (r : State) → Runs y s e r → Stubborn y (set e) r) → Listed y.states s → Runs y s p t → IsTrue (y.goal t)
+    → (q : List ℕ) × StepsChosen set [] q × Rearranges y s t p q
+chosen_member y set s t p lists stubborn listed runs goal = chosen (length p) y set s s t [] p refl lists stubborn refl listed runs goal

@@ -1,0 +1,2 @@
+pub mod Stubborn
+pub mod Laws

@@ -5,6 +5,7 @@ pub mod Seats
 pub mod Opening
 pub mod Adding
 pub mod Keeping
+pub mod Beside
 pub mod Rings
 pub mod Dividing
 pub mod Locating

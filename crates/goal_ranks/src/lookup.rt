@@ -7,34 +7,58 @@ pub struct Rank {
     pub number: usize,
 }
 
-ghost use Rattle.std.specs.Prelude.{◌≡◌, ◌+◌, ◌<◌, ◌≤◌, ◌^◌, ℕ, IsTrue, IsFalse, IfSome, IfNone, MatchOption};
+ghost use Rattle.std.specs.Prelude.{◌≡◌, ◌+◌, ◌<◌, ◌≤◌, ◌^◌, ℕ, ◌↔◌, IsTrue, IsFalse, IfSome, IfNone, MatchOption};
 ghost use Rattle.task_system.specs.System.{State};
-ghost use Rattle.space_api.specs.View.{View, Has};
+ghost use Rattle.space_api.specs.View.{View, Valid, Has};
 ghost use Rattle.single_states.specs.States.{IsReached};
 ghost use Rattle.run_graph.specs.Reached.{ReachedAt, AtCost, ReachedInside};
 ghost use Rattle.run_graph.specs.declared.Side.TheVariants.{Back};
 ghost use Rattle.rank_laws.specs.Inside.{InsideAt};
 ghost use Rattle.rank_laws.specs.Ranks.{NoneBelow};
-ghost use Rattle.goal_ranks.specs.Ranks.{IsGoalRanks, HasRank, WaitsIn, within_of, ranks_of, beyond_of};
-ghost use Rattle.goal_ranks.specs.Known.{HasWay, IsOutside};
+ghost use Rattle.goal_ranks.specs.Lists.{IsNextKey};
+ghost use Rattle.goal_ranks.specs.Ranks.{IsGoalRanks, HasRank, WaitsIn, within_of, ranks_of, beyond_of, left_of, items_of, slots_of};
+ghost use Rattle.goal_ranks.specs.Known.{HasWay, IsOutside, IsNewest};
 
 use crate::lists::First;
+use crate::parts::Ranked;
 use crate::search::GoalRanks;
 use single_states::has_state;
 use space_api::Space;
 use symk_task::State;
 
+/// Whether the ranked set has the state, and costs so much at least.
+fn may_have<S: Space>(space: &S, ranked: Ranked<S::Set>, state: &State, low: u64) -> bool
+    requires set { Valid (S.view space.now) ranked.set }
+    requires state { IsReached (S.view space.now).system state.now }
+    ensures { IsTrue result ↔ ((low ≤ ranked.cost) × Has (S.view space.now) ranked.set state.now) }
+{
+    if ranked.cost < low {
+        return false;
+    }
+    has_state(space, ranked.set, state)
+}
+
 impl<T: Copy> GoalRanks<T> {
-    /// The rank of the state, which operators reach. None exactly where it has none. It takes no memory.
-    pub fn rank_of<S: Space<Set = T>>(&self, space: &S, state: &State) -> Option<Rank>
+    /// The rank of the state, which operators reach, of those of this number or later whose cost is `low` or more. None
+    /// exactly where none of these has it. It takes no memory, and looks at one set where the state has no rank at all.
+    pub fn rank_from<S: Space<Set = T>>(
+        &self,
+        space: &S,
+        state: &State,
+        first: usize,
+        low: u64,
+    ) -> Option<Rank>
         requires ranks { IsGoalRanks (S.view space.now) self.now }
         requires state { IsReached (S.view space.now).system state.now }
-        ensures { MatchOption result ((i x : ℕ) → ¬ HasRank (S.view space.now) self.now i x state.now)
-            (λ rank. HasRank (S.view space.now) self.now rank.number rank.cost state.now) }
+        ensures { MatchOption result ((i x : ℕ) → first ≤ i → low ≤ x → ¬ HasRank (S.view space.now) self.now i x
+            state.now) (λ rank. HasRank (S.view space.now) self.now rank.number rank.cost state.now) }
     {
-        'ranks: for number in 0..self.ranks.len() {
+        if has_state(space, self.left, state) {
+            return None;
+        }
+        'ranks: for number in first..self.ranks.len() {
             let ranked = self.ranks[number];
-            if has_state(space, ranked.set, state) {
+            if may_have(space, ranked, state, low) {
                 return Some(Rank {
                     cost: ranked.cost,
                     number,
@@ -42,6 +66,33 @@ impl<T: Copy> GoalRanks<T> {
             }
         }
         None
+    }
+
+    /// The rank of the state, which operators reach. None exactly where it has none. It takes no memory.
+    pub fn rank_of<S: Space<Set = T>>(&self, space: &S, state: &State) -> Option<Rank>
+        requires ranks { IsGoalRanks (S.view space.now) self.now }
+        requires state { IsReached (S.view space.now).system state.now }
+        ensures { MatchOption result ((i x : ℕ) → ¬ HasRank (S.view space.now) self.now i x state.now)
+            (λ rank. HasRank (S.view space.now) self.now rank.number rank.cost state.now) }
+    {
+        self.rank_from(space, state, 0, 0)
+    }
+
+    /// The states that may have a rank and have none. The set stays its owner's, until a turn.
+    pub fn left(&self) -> T
+        ensures { result ≡ left_of self.now }
+    {
+        self.left
+    }
+
+    /// The cost of the newest rank. None exactly where no state has one.
+    pub fn newest(&self) -> Option<u64>
+        ensures { IsNewest (items_of self.now) result }
+    {
+        match self.ranks.last() {
+            Some(ranked) => Some(ranked.cost),
+            None => None,
+        }
     }
 
     /// How many ranks there are. A state has one at most, at its least cost to the goal inside `within`; and unless it is
@@ -61,6 +112,7 @@ impl<T: Copy> GoalRanks<T> {
     /// The least key of what waits: no plan costs less that comes through a state without a rank and goes on from there
     /// inside `within`, at a cost that 64 bits hold. None exactly where nothing waits: then there is no such plan.
     pub fn next(&self) -> Option<u128>
+        ensures key { IsNextKey (slots_of self.now) (items_of self.now) result }
         ensures least { (v : View T) → MatchOption result ((k x : ℕ) (s : State) → ¬ WaitsIn v self.now k x s)
             (NoneBelow (WaitsIn v self.now)) }
         ensures bound { (v : View T) → IsGoalRanks v self.now → IfSome result (λ n. (s : State)

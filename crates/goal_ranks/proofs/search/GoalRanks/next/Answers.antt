@@ -1,5 +1,5 @@
 use Rattle.goal_ranks.specs.Lists.{IsFirst}
-use Rattle.std.proofs.Common.{subst}
+use Rattle.std.proofs.Common.{inl, inr, subst}
 use Rattle.goal_ranks.proofs.Knowing.{key_bound, none_waits, keys_below, no_keys}
 use Rattle.goal_ranks.proofs.search.GoalRanks.next.Goals as goal
 
@@ -38,3 +38,21 @@ returns-in-Arcs-clause-bound g c = λ v z s out a d run inside lt.
     let f = c.args.self.now in
     let n = subst (IsFirst f.slots.items f.ranks.items) c.in-Arcs.is c.first.ensures in
     key_bound v f z c.in-Arcs.least.key (keys_below v.system v f.left f.ranks.items f.slots.items c.in-Arcs.least.key n.1) s out a d run inside lt
+
+pub returns-in-Nothing-clause-key : goal.returns-in-Nothing-clause-key
+returns-in-Nothing-clause-key g c = λ k h.
+    let f = c.args.self.now in
+    let n = subst (IsFirst f.slots.items f.ranks.items) c.in-Nothing.is c.first.ensures in
+    elim h [ inl i ↦ n.0 i.0 k i.1 | inr i ↦ n.1 i.0 k i.1 ]
+
+pub returns-in-Slot-clause-key : goal.returns-in-Slot-clause-key
+returns-in-Slot-clause-key g c =
+    let f = c.args.self.now in
+    let n = subst (IsFirst f.slots.items f.ranks.items) c.in-Slot.is c.first.ensures in
+    (inl (c.in-Slot.least.index, n.0), n.1)
+
+pub returns-in-Arcs-clause-key : goal.returns-in-Arcs-clause-key
+returns-in-Arcs-clause-key g c =
+    let f = c.args.self.now in
+    let n = subst (IsFirst f.slots.items f.ranks.items) c.in-Arcs.is c.first.ensures in
+    (inr (c.in-Arcs.least.index, n.0), n.1)

@@ -1,6 +1,0 @@
-use Rattle.std.proofs.Common.{ℕ, ◌<◌}
-use Rattle.goal_ranks.specs.Ranks.{HasRank}
-use Rattle.goal_ranks.proofs.search.GoalRanks.rank_of.Given as goal
-
-abbrev pub invariant-ranks : goal.invariant-ranks
-invariant-ranks g l = (i x : ℕ) → i < l.number → ¬ HasRank (g.S.Space.view l.space) l.self i x l.state

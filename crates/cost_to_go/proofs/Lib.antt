@@ -1,0 +1,4 @@
+pub mod Beside
+pub mod Opening
+pub mod Moving
+pub mod Knowing

@@ -1,0 +1,81 @@
+//! Which side goes on. It is steered by what each made, and told in no clause: it steers speed alone.
+
+ghost use Rattle.std.specs.Prelude.{◌<◌, ◌^◌, IsTrue};
+ghost use Rattle.space_api.specs.View.{View};
+ghost use Rattle.space_api.specs.Frames.{Stays};
+ghost use Rattle.least_costs.specs.Least.{next_of};
+ghost use Rattle.cost_to_go.specs.Standing.{IsCostToGo, ahead_in};
+
+use crate::search::CostToGo;
+use goal_ranks::{Turn, bound_ahead};
+use least_costs::Step;
+use space_api::{Space, SpaceFault};
+
+/// How many nodes were made in all, where so many more are held than before.
+pub(crate) fn made(so_far: usize, before: usize, now: usize) -> usize {
+    so_far.saturating_add(now.saturating_sub(before))
+}
+
+impl<T: Copy> CostToGo<T> {
+    /// Whether the search ahead is the one to go on: it has a cost that is open.
+    pub(crate) fn is_turn_of_ahead(&self) -> bool
+        ensures { IsTrue result → next_of (ahead_in self.now) < 2 ^ 64 }
+    {
+        if self.ahead.next_cost().is_none() {
+            return false;
+        }
+        self.both && self.ahead_nodes <= self.rank_nodes
+    }
+
+    /// Whether no state of the layer that the search ahead settled last has a rank.
+    fn is_layer_apart<S: Space<Set = T>>(
+        &self,
+        space: &mut S,
+        cost: u64,
+    ) -> Result<bool, SpaceFault>
+        requires { IsCostToGo (S.view space.old) self.now }
+        ensures { Stays (S.view space.old) (S.view space.new) }
+    {
+        match self.ahead.layers().layer(cost) {
+            Some(whole) => {
+                let known = space.minus(whole, self.ranks.left())?;
+                let apart = space.is_empty(known);
+                space.forget(known);
+                Ok(apart)
+            }
+            None => Ok(true),
+        }
+    }
+
+    /// Whether both sides go on after this step of the search ahead.
+    pub(crate) fn goes_on_after<S: Space<Set = T>>(
+        &self,
+        space: &mut S,
+        step: Step,
+    ) -> Result<bool, SpaceFault>
+        requires { IsCostToGo (S.view space.old) self.now }
+        ensures { Stays (S.view space.old) (S.view space.new) }
+    {
+        match step {
+            Step::Settled { cost } => self.is_layer_apart(space, cost),
+            Step::Closed => Ok(false),
+        }
+    }
+
+    /// Whether the search ahead has settled no state of the newest rank, which waited under this key.
+    fn is_rank_apart(&self, key: Option<u128>) -> bool {
+        match (key, self.ranks.newest()) {
+            (Some(key), Some(cost)) => key >= cost as u128 + bound_ahead(&self.ahead),
+            (_, _) => true,
+        }
+    }
+
+    /// Whether both sides go on, if both did, after this turn of what waited under the key.
+    pub(crate) fn goes_on_with(&self, turn: Turn, key: Option<u128>) -> bool {
+        match turn {
+            Turn::Ranked => self.both && self.is_rank_apart(key),
+            Turn::Waited => self.both,
+            Turn::Closed => false,
+        }
+    }
+}

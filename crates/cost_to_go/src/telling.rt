@@ -1,0 +1,68 @@
+//! What is known of what is left.
+
+ghost use Rattle.std.specs.Prelude.{◌≡◌, ◌<◌, ◌≤◌, ℕ, MatchOption};
+ghost use Rattle.task_system.specs.System.{State};
+ghost use Rattle.space_api.specs.View.{View};
+ghost use Rattle.run_graph.specs.Reached.{ToGoalAt};
+ghost use Rattle.single_states.specs.States.{IsReached};
+ghost use Rattle.cost_to_go.specs.Standing.{IsCostToGo, HasRank, HasWay, ranks_of, beyond_of, next_key_of};
+ghost use Rattle.cost_to_go.specs.Telling.{CostsAtLeast, TellsOutside};
+
+use crate::search::CostToGo;
+use goal_ranks::Rank;
+use space_api::Space;
+use symk_task::State;
+
+impl<T: Copy> CostToGo<T> {
+    /// The least key of what waits: no plan costs less that comes through a state without a rank, as far as 64 bits hold
+    /// what is left from there. None exactly where nothing waits: then what is left there costs more than 64 bits hold,
+    /// and unless `beyond` is true no list leads on to the goal.
+    pub fn next(&self) -> Option<u128>
+        ensures value { result ≡ next_key_of self.now }
+        ensures outside { (v : View T) → IsCostToGo v self.now → TellsOutside v self.now result }
+    {
+        self.next
+    }
+
+    /// How many ranks there are. A state has one at most. Its cost is that of a list of operators to the goal, and no list
+    /// from a reached state costs less; and unless it is a goal state and costs nothing, an operator leads from it to a
+    /// state of a rank before, at the cost between them.
+    pub fn ranks(&self) -> usize
+        ensures many { result ≡ ranks_of self.now }
+        ensures under { (v : View T) → (i x : ℕ) (s : State) → HasRank v self.now i x s → i < result }
+        ensures leads { (v : View T) → IsCostToGo v self.now → (i x : ℕ) (s : State) → HasRank v self.now i x s
+            → ToGoalAt v.system x s }
+        ensures least { (v : View T) → IsCostToGo v self.now → (i x : ℕ) (s : State) → HasRank v self.now i x s
+            → IsReached v.system s → CostsAtLeast v.system s x }
+        ensures once { (v : View T) → IsCostToGo v self.now → (i j x d : ℕ) (s : State) → HasRank v self.now i x s
+            → HasRank v self.now j d s → (i ≡ j) × (x ≡ d) }
+        ensures way { (v : View T) → IsCostToGo v self.now → (i x : ℕ) (s : State) → HasRank v self.now i x s
+            → HasWay v self.now i x s }
+    {
+        self.ranks.ranks()
+    }
+
+    /// Whether what costs more than 64 bits hold was left out.
+    pub fn beyond(&self) -> bool
+        ensures { result ≡ beyond_of self.now }
+    {
+        self.ranks.beyond()
+    }
+
+    /// The rank of the state, which operators reach, of those of this number or later whose cost is `low` or more. None
+    /// exactly where none of these has it. It takes no memory, and looks at one set where the state has no rank at all.
+    pub fn rank_from<S: Space<Set = T>>(
+        &self,
+        space: &S,
+        state: &State,
+        first: usize,
+        low: u64,
+    ) -> Option<Rank>
+        requires stands { IsCostToGo (S.view space.now) self.now }
+        requires state { IsReached (S.view space.now).system state.now }
+        ensures { MatchOption result ((i x : ℕ) → first ≤ i → low ≤ x → ¬ HasRank (S.view space.now) self.now i x
+            state.now) (λ rank. HasRank (S.view space.now) self.now rank.number rank.cost state.now) }
+    {
+        self.ranks.rank_from(space, state, first, low)
+    }
+}

@@ -5,6 +5,7 @@ pub mod Seats
 pub mod Opening
 pub mod Adding
 pub mod Keeping
+pub mod Nearing
 pub mod Beside
 pub mod Rings
 pub mod Dividing

@@ -6,5 +6,6 @@ pub mod Slots
 pub mod Ranks
 pub mod Steps
 pub mod Turns
+pub mod Nearing
 pub mod Known
 pub mod Giving

@@ -4,8 +4,8 @@
 //! costs of `least_costs`, by turns: the side that made fewer nodes so far goes on, until the two have met; then what is
 //! ahead stays as it is, and the ranks go on alone. So a state has a rank, which is its least cost to the goal, or the least
 //! key of what waits bounds what a plan through it costs. Each useful state may have a rank: so both hold of any list of
-//! operators from a state that is reached. It has no engine, and says of no state what it was not asked. It stands on
-//! `goal_ranks` for ranks and keys, on `least_costs` for the search ahead, and on `space_api` for sets.
+//! operators from a state that is reached. Each step leaves fewer steps. It stands on `goal_ranks` for ranks and keys, on
+//! `least_costs` for the search ahead, and on `space_api` for sets.
 //!
 //! Search from both ends by costs: T. A. J. Nicholson (1966); the keys of one side that look at the other: H. Kaindl and
 //! G. Kainz (1997).

@@ -11,9 +11,9 @@ use goal_ranks::{Turn, bound_ahead};
 use least_costs::Step;
 use space_api::{Space, SpaceFault};
 
-/// How many nodes were made in all, where so many more are held than before.
+/// How many nodes were made in all, where so many more are held than before. A step counts as one at least.
 pub(crate) fn made(so_far: usize, before: usize, now: usize) -> usize {
-    so_far.saturating_add(now.saturating_sub(before))
+    so_far.saturating_add(now.saturating_sub(before).max(1))
 }
 
 impl<T: Copy> CostToGo<T> {
@@ -24,7 +24,7 @@ impl<T: Copy> CostToGo<T> {
         if self.ahead.next_cost().is_none() {
             return false;
         }
-        self.both && self.ahead_nodes <= self.rank_nodes
+        self.both && self.ahead_nodes < self.rank_nodes
     }
 
     /// Whether no state of the layer that the search ahead settled last has a rank.

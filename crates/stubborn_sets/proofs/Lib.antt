@@ -1,3 +1,6 @@
+pub mod GrowingLaw
+pub mod KeptLaw
+pub mod ListsLaw
 pub mod Marks
 pub mod Needs
 pub mod Remaining

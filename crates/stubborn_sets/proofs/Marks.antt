@@ -1,11 +1,12 @@
 -- Marks that grow.
-use Rattle.std.proofs.Common.{◌≡◌, ◌≢◌, ℕ, ◌+◌, ◌<◌, ◌≤◌, ◌++◌, take, replicate, cond, Bool, true, false, not, IsTrue, List, length, get_or, refl, sym, ap, subst, ◌∙◌, inl, inr, arith}
+use Rattle.std.proofs.Common.{◌≡◌, ◌≢◌, ℕ, zero, suc, ◌+◌, ◌<◌, replicate, cond, Bool, true, false, not, IsTrue, List, [], ◌∷◌, length, get_or, refl, sym, subst, ◌∙◌, inl, inr, arith}
 use Rattle.std.proofs.Math.ListN.{set}
 use Rattle.std.proofs.lemmas.Bool.{cases_eq}
-use Rattle.std.proofs.Math.Seq.{take-length}
-use Rattle.std.proofs.lemmas.List.{get_or-set_same, get_or-set_other, take-append-le, get_or-replicate}
+use Rattle.std.proofs.lemmas.List.{get_or-set_same, get_or-set_other, get_or-replicate}
+use Rattle.std.proofs.lemmas.List.Folds.{sum_by-replicate}
 use Rattle.std.proofs.lemmas.List.Sums.{sum_by-set}
-use Rattle.stubborn_sets.specs.Closing.{is_in, Grows, left}
+use Rattle.stubborn_sets.specs.Closing.{is_in, Grows}
+use Rattle.stubborn_sets.specs.Growing.{left}
 
 pub here : (marks : List Bool) (at : ℕ) → at < length marks → IsTrue (is_in (set marks at true) at)
 here marks at lt = get_or-set_same marks at true false lt
@@ -19,17 +20,28 @@ still marks at lt a h = elim (cases_eq a at) [
 pub further : (a b c : List Bool) → Grows a b → Grows b c → Grows a c
 further a b c to on x h = on x (to x h)
 
--- one more is done
-pub fewer : (done : List Bool) (at : ℕ) → at < length done → ¬ IsTrue (is_in done at) → left (set done at true) < left done
-fewer done at lt unmarked = by (get_or done at false) (sum_by-set (λ x. cond (not x) 1 0) done at true false lt) unmarked
+-- one more is marked
+pub one_fewer : (marks : List Bool) (at : ℕ) → at < length marks → ¬ IsTrue (is_in marks at) → left (set marks at true) + 1 ≡ left marks
+one_fewer marks at lt unmarked = by (get_or marks at false) (sum_by-set (λ x. cond (not x) 1 0) marks at true false lt) unmarked
   where
-    by : (b : Bool) → left (set done at true) + cond (not b) 1 0 ≡ left done + 0 → ¬ IsTrue b → left (set done at true) < left done
+    by : (b : Bool) → left (set marks at true) + cond (not b) 1 0 ≡ left marks + 0 → ¬ IsTrue b → left (set marks at true) + 1 ≡ left marks
     by true e off = absurd (off refl)
     by false e off = omega (arith, e)
 
--- what a slice of the whole vector becomes
-pub whole : (xs ys : List Bool) (n : ℕ) → length xs ≡ n → take n (xs ++ ys) ≡ xs
-whole xs ys n e = (let le : n ≤ length xs = omega (arith, e) in take-append-le n xs ys le ∙ ap (λ (k : ℕ). take k xs) (sym e) ∙ take-length xs)
+-- none is marked
+pub left_none : (n : ℕ) → left (replicate n false) ≡ n
+left_none n = (let e = sum_by-replicate (λ (x : Bool). cond (not x) 1 0) n false in omega (arith, e))
+
+pub none_marked : (n a : ℕ) → ¬ IsTrue (is_in (replicate n false) a)
+none_marked zero a h = (cc)
+none_marked (suc n) zero h = (cc)
+none_marked (suc n) (suc a) h = none_marked n a h
+
+-- what is marked is there
+pub is_there : (marks : List Bool) (a : ℕ) → IsTrue (is_in marks a) → a < length marks
+is_there [] a h = absurd (cc)
+is_there (b ∷ marks) zero h = omega arith
+is_there (b ∷ marks) (suc a) h = (let lt = is_there marks a h in omega (arith, lt))
 
 -- each of so many is marked
 pub all_true : (items : List Bool) (n : ℕ) → items ≡ replicate n true → (a : ℕ) → a < n → IsTrue (is_in items a)

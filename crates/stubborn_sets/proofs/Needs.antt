@@ -1,9 +1,6 @@
 -- What members need stays marked as marks grow.
-use Rattle.std.proofs.Common.{◌≡◌, ◌≢◌, ℕ, ◌<◌, ◌⊎◌, inl, inr, Bool, true, false, IsTrue, List, length, get_or, Option, Some, None, IsSomeAnd, slice_get, sym, ap, subst, ◌∙◌, arith}
+use Rattle.std.proofs.Common.{◌≡◌, ℕ, ◌<◌, ◌⊎◌, inl, inr, Bool, List, length, get_or, Option, Some, None, IsSomeAnd, slice_get, sym, ap, subst, ◌∙◌, arith}
 use Rattle.std.specs.List.{All}
-use Rattle.std.proofs.Math.ListN.{set}
-use Rattle.std.proofs.lemmas.Bool.{cases_eq}
-use Rattle.std.proofs.lemmas.List.{get_or-set_other}
 use Rattle.symk_task.specs.declared.parts.Fact.{Fact}
 use Rattle.symk_task.specs.declared.parts.Operator.{Operator}
 use Rattle.symk_task.specs.declared.parts.TaskParts.{TaskParts}
@@ -13,7 +10,7 @@ use Rattle.task_run.specs.Values.{AppliesBy, AreBelow, IsOn}
 use Rattle.task_run.proofs.Applying.{below}
 use Rattle.task_run.proofs.Stepping.{operator_at}
 use Rattle.stubborn_sets.specs.Making.{IsMissing}
-use Rattle.stubborn_sets.specs.Closing.{is_in, Grows, HasMakers, HasConflicts, HasNeeds, HaveNeeds}
+use Rattle.stubborn_sets.specs.Closing.{Grows, HasMakers, HasConflicts, HasNeeds}
 
 pub makers_grow : (task : TaskParts) (fact : Fact) (old new : List Bool) → Grows old new → HasMakers task fact old → HasMakers task fact new
 makers_grow task fact old new grows h a lt = elim (h a lt) [ inl it_is ↦ inl (grows a it_is) | inr off ↦ inr off ]
@@ -25,19 +22,10 @@ conflicts_grow task one old new grows h a lt = elim (h a lt) [ inl it_is ↦ inl
 abbrev pub Needs : TaskParts → List ℕ → ℕ → List Bool → Operator → Type 0
 Needs task values one marks operator = (AppliesBy values operator × HasConflicts task one marks) ⊎ ((fact : Fact) × IsMissing values operator fact × HasMakers task fact marks)
 
-needs_grow : (task : TaskParts) (values : List ℕ) (one : ℕ) (old new : List Bool) (o : Option Operator) → Grows old new → IsSomeAnd o (Needs task values one old) → IsSomeAnd o (Needs task values one new)
+pub needs_grow : (task : TaskParts) (values : List ℕ) (one : ℕ) (old new : List Bool) (o : Option Operator) → Grows old new → IsSomeAnd o (Needs task values one old) → IsSomeAnd o (Needs task values one new)
 needs_grow task values one old new None grows h = h
 needs_grow task values one old new (Some operator) grows (inl (applies, conflicts)) = inl (applies, conflicts_grow task one old new grows conflicts)
 needs_grow task values one old new (Some operator) grows (inr (fact, lacks, makers)) = inr (fact, lacks, makers_grow task fact old new grows makers)
-
--- one member more
-pub one_more : (task : TaskParts) (values : List ℕ) (done old new : List Bool) (one : ℕ) → Grows old new → HaveNeeds task values done old → HasNeeds task values one new → HaveNeeds task values (set done one true) new
-one_more task values done old new one grows had has a h = elim (cases_eq a one) [
-  | inl same ↦ subst (λ (z : ℕ). HasNeeds task values z new) (sym same) has
-  | inr off ↦ (
-      let ne : a ≢ one = off in
-      let was : IsTrue (is_in done a) = sym (get_or-set_other done one a true false ne) ∙ h in needs_grow task values a old new (slice_get task.operators a) grows (had a was))
-]
 
 -- by what the code looked at
 module _ (task parts : TaskParts) (operators : List Operator) (one : ℕ) (operator : Operator) (values : List ℕ) (fits : Fits task) (same : parts ≡ task) (list : operators ≡ parts.operators) (lt : one < length task.operators) (is : operator ≡ get_or operators one operator) where

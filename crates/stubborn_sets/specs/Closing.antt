@@ -1,5 +1,5 @@
 -- Sets of operators, closed under what their members need.
-use Rattle.std.specs.Prelude.{ℕ, ◌<◌, ◌⊎◌, Bool, false, not, count_by, IsTrue, List, length, slice_get, slice_index_or, IsSomeAnd}
+use Rattle.std.specs.Prelude.{ℕ, ◌<◌, ◌⊎◌, Bool, false, IsTrue, List, length, slice_get, slice_index_or, IsSomeAnd}
 use Rattle.symk_task.specs.declared.parts.Fact.{Fact}
 use Rattle.symk_task.specs.declared.parts.TaskParts.{TaskParts}
 use Rattle.task_run.specs.Values.{AppliesBy}
@@ -15,19 +15,13 @@ is_in marks a = slice_index_or marks a false
 abbrev pub Grows : List Bool → List Bool → Type 0
 Grows old new = (a : ℕ) → IsTrue (is_in old a) → IsTrue (is_in new a)
 
--- each operator below the number is marked, or can't make the fact true
-abbrev pub HasMakersBelow : TaskParts → Fact → ℕ → List Bool → Type 0
-HasMakersBelow task fact below marks = (a : ℕ) → a < below → IsTrue (is_in marks a) ⊎ IsNoMaker task fact a
-
+-- each operator is marked, or can't make the fact true
 abbrev pub HasMakers : TaskParts → Fact → List Bool → Type 0
-HasMakers task fact marks = HasMakersBelow task fact (length task.operators) marks
+HasMakers task fact marks = (a : ℕ) → a < length task.operators → IsTrue (is_in marks a) ⊎ IsNoMaker task fact a
 
--- each operator below the number is marked, or commutes with this one
-abbrev pub HasConflictsBelow : TaskParts → ℕ → ℕ → List Bool → Type 0
-HasConflictsBelow task one below marks = (a : ℕ) → a < below → IsTrue (is_in marks a) ⊎ Commute (system_of task) one a
-
+-- each operator is marked, or commutes with this one
 abbrev pub HasConflicts : TaskParts → ℕ → List Bool → Type 0
-HasConflicts task one marks = HasConflictsBelow task one (length task.operators) marks
+HasConflicts task one marks = (a : ℕ) → a < length task.operators → IsTrue (is_in marks a) ⊎ Commute (system_of task) one a
 
 -- where the operator applies by the values, those that don't commute with it are marked, else those that can make one of its missing preconditions true
 abbrev pub HasNeeds : TaskParts → List ℕ → ℕ → List Bool → Type 0
@@ -38,15 +32,3 @@ HasNeeds task values one marks =
 -- each member has what it needs marked
 abbrev pub HaveNeeds : TaskParts → List ℕ → List Bool → List Bool → Type 0
 HaveNeeds task values members marks = (a : ℕ) → IsTrue (is_in members a) → HasNeeds task values a marks
-
--- what is marked is done
-abbrev pub AreAllDone : List Bool → List Bool → Type 0
-AreAllDone marks done = Grows marks done
-
--- it is marked, and not done
-abbrev pub IsOpen : List Bool → List Bool → ℕ → Type 0
-IsOpen marks done a = (a < length marks) × IsTrue (is_in marks a) × ¬ IsTrue (is_in done a)
-
--- how many are not done
-abbrev pub left : List Bool → ℕ
-left done = count_by not done

@@ -1,2 +1,5 @@
 pub mod Making
 pub mod Closing
+pub mod Kept
+pub mod Growing
+pub mod Sets

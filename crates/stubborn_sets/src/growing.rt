@@ -1,85 +1,60 @@
-//! Marks of operators, which grow.
+//! A set of operators that grows.
 
-ghost use Rattle.std.specs.Prelude.{◌≡◌, ◌<◌, ◌⊎◌, IsTrue, MatchOption, length};
-ghost use Rattle.task_system.specs.Computed.{system_of};
-ghost use Rattle.commuting.specs.Commuting.{Commute};
-ghost use Rattle.stubborn_sets.specs.Making.{IsNoMaker};
-ghost use Rattle.stubborn_sets.specs.Closing.{is_in, Grows, HasMakers, HasConflicts, AreAllDone, IsOpen};
-
-use crate::making::is_no_maker;
-use commuting::commute;
-use symk_task::{Fact, Task, TaskParts};
-
-/// Marks the operator.
-fn mark(marks: &mut [bool], at: usize)
-    requires { at < length marks.old }
-    ensures grows { Grows marks.old marks.new }
-    ensures here { IsTrue (is_in marks.new at) }
-    ensures each { length marks.new ≡ length marks.old }
-{
-    marks[at] = true;
+/// A set of operators that grows.
+#[derive(Drop)]
+pub(crate) struct Growing {
+    /// A mark for each operator that is in it.
+    pub(crate) marks: Vec<bool>,
+    /// Those in it whose needs were not added yet.
+    pub(crate) waiting: Vec<u32>,
+    /// How many of the others apply.
+    pub(crate) applying: usize,
 }
 
-/// Marks the operator if it can make the fact true.
-fn mark_maker(parts: &TaskParts, fact: Fact, at: usize, marks: &mut [bool])
-    requires { at < length marks.old }
-    ensures grows { Grows marks.old marks.new }
-    ensures here { IsTrue (is_in marks.new at) ⊎ IsNoMaker parts.now fact at }
-    ensures each { length marks.new ≡ length marks.old }
-{
-    if !marks[at] && !is_no_maker(parts, fact, at) {
-        mark(marks, at);
+ghost use Rattle.std.specs.Prelude.{◌≡◌, ◌<◌, [], All, IsTrue, IfOk, OnOk, length, replicate, false};
+ghost use Rattle.stubborn_sets.specs.Closing.{is_in};
+ghost use Rattle.stubborn_sets.specs.Growing.{Adds};
+
+use std::alloc::Global;
+use symk_task::Memory;
+
+impl Growing {
+    /// The empty set, where there are so many operators.
+    pub(crate) fn new(alloc: Global, operators: usize) -> Result<Growing, Memory>
+        ensures marks { IfOk result (λ set. set.marks.items ≡ replicate operators false) }
+        ensures waiting { IfOk result (λ set. set.waiting.items ≡ []) }
+        ensures applying { IfOk result (λ set. set.applying ≡ 0) }
+    {
+        Ok(Growing {
+            marks: vec![in alloc; false; operators]?,
+            waiting: Vec::new(alloc),
+            applying: 0,
+        })
     }
-}
 
-/// Marks each operator that can make the fact true.
-pub(crate) fn mark_makers(parts: &TaskParts, fact: Fact, marks: &mut [bool])
-    requires { length marks.old ≡ length parts.now.operators }
-    ensures grows { Grows marks.old marks.new }
-    ensures makers { HasMakers parts.now fact marks.new }
-    ensures each { length marks.new ≡ length marks.old }
-{
-    for i in 0..parts.operators.as_slice().len() {
-        mark_maker(parts, fact, i, marks);
-    }
-}
-
-/// Marks the operator unless it is seen to commute with the other.
-fn mark_conflict(task: &Task, one: u32, at: u32, marks: &mut [bool])
-    requires one { one < length task.now.operators }
-    requires within { at < length task.now.operators }
-    requires each { length marks.old ≡ length task.now.operators }
-    ensures grows { Grows marks.old marks.new }
-    ensures here { IsTrue (is_in marks.new at) ⊎ Commute (system_of task.now) one at }
-    ensures each { length marks.new ≡ length marks.old }
-{
-    if !marks[at as usize] && !commute(task, one, at) {
-        mark(marks, at as usize);
-    }
-}
-
-/// Marks each operator that isn't seen to commute with this one.
-pub(crate) fn mark_conflicts(task: &Task, one: u32, marks: &mut [bool])
-    requires one { one < length task.now.operators }
-    requires each { length marks.old ≡ length task.now.operators }
-    ensures grows { Grows marks.old marks.new }
-    ensures conflicts { HasConflicts task.now one marks.new }
-    ensures each { length marks.new ≡ length marks.old }
-{
-    for i in 0..task.operators() {
-        mark_conflict(task, one, i, marks);
-    }
-}
-
-/// The first that is marked and not done.
-pub(crate) fn next_open(marks: &[bool], done: &[bool]) -> Option<usize>
-    requires { length done.now ≡ length marks.now }
-    ensures { MatchOption result (AreAllDone marks.now done.now) (IsOpen marks.now done.now) }
-{
-    for i in 0..marks.len() {
-        if marks[i] && !done[i] {
-            return Some(i);
+    /// Adds the operator, unless it is in the set.
+    fn add(&mut self, op: u32) -> Result<(), Memory>
+        requires { op < length self.old.marks.items }
+        ensures adds { OnOk result (Adds self.old self.new) }
+        ensures has { OnOk result (IsTrue (is_in self.new.marks.items op)) }
+    {
+        if self.marks[op as usize] {
+            return Ok(());
         }
+        self.marks[op as usize] = true;
+        self.waiting.push(op)?;
+        Ok(())
     }
-    None
+
+    /// Adds the operators that are not in the set.
+    pub(crate) fn add_all(&mut self, ops: &[u32]) -> Result<(), Memory>
+        requires { All (λ op. op < length self.old.marks.items) ops.now }
+        ensures adds { OnOk result (Adds self.old self.new) }
+        ensures has { OnOk result (All (λ op. IsTrue (is_in self.new.marks.items op)) ops.now) }
+    {
+        for op in ops {
+            self.add(*op)?;
+        }
+        Ok(())
+    }
 }

@@ -1,7 +1,0 @@
-use Rattle.std.proofs.Common.{ℕ, ◌<◌, slice_index_or}
-use Rattle.symk_task.specs.declared.parts.Effect.{Effect}
-use Rattle.task_run.specs.Values.{AllowsBy}
-use Rattle.stubborn_sets.proofs.making.refused.Given as goal
-
-abbrev pub invariant-loop-effect : goal.invariant-loop-effect
-invariant-loop-effect l = (k : ℕ) (d : Effect) → k < l.effect-index → AllowsBy l.values (slice_index_or l.effects k d)

@@ -1,0 +1,45 @@
+//! Lists of operators by number.
+
+/// Lists of operators by number: empty where nothing was put into one.
+#[derive(Drop)]
+pub(crate) struct Lists {
+    lists: Vec<Vec<u32>>,
+}
+
+ghost use Rattle.std.specs.Prelude.{◌≡◌, ℕ, [], OnOk, Contains};
+ghost use Rattle.stubborn_sets.specs.Kept.{list_at, AddsOne};
+
+use std::alloc::Global;
+use symk_task::Memory;
+
+impl Lists {
+    pub(crate) fn new(alloc: Global) -> Lists
+        ensures { (i : ℕ) → list_at result i ≡ [] }
+    {
+        Lists {
+            lists: Vec::new(alloc),
+        }
+    }
+
+    /// The list of this number.
+    pub(crate) fn at(&self, number: usize) -> &[u32]
+        ensures { result.now ≡ list_at self.now number }
+    {
+        if number >= self.lists.len() {
+            return &[];
+        }
+        self.lists[number].as_slice()
+    }
+
+    /// Puts the operator last into the list of this number.
+    pub(crate) fn add(&mut self, alloc: Global, number: usize, op: u32) -> Result<(), Memory>
+        ensures has { OnOk result (Contains (list_at self.new number) op) }
+        ensures adds { OnOk result (AddsOne (list_at self.old) (list_at self.new) op) }
+    {
+        'places: while self.lists.len() <= number {
+            self.lists.push(Vec::new(alloc))?;
+        }
+        self.lists[number].push(op)?;
+        Ok(())
+    }
+}

@@ -1,5 +1,5 @@
 -- What is kept of a task is right.
-use Rattle.std.proofs.Common.{◌≡◌, ◌≢◌, ℕ, ◌+◌, inl, inr, List, [], ◌∷◌, ◌++◌, get_or, Option, Some, None, IsSomeAnd, slice_get, sym, ap, subst, ◌∙◌, arith}
+use Rattle.std.proofs.Common.{◌≡◌, ◌≢◌, ℕ, ◌+◌, inl, inr, Bool, IsTrue, List, [], ◌∷◌, ◌++◌, length, get_or, Option, Some, None, IsSomeAnd, slice_get, sym, ap, subst, ◌∙◌, arith}
 use Rattle.std.specs.List.{All, Contains}
 use Rattle.std.proofs.lemmas.Bool.{cases_eq}
 use Rattle.std.proofs.lemmas.List.Elements.{Contains-append_left, Contains-push, Contains-push_cases}
@@ -9,8 +9,9 @@ use Rattle.symk_task.specs.declared.parts.Operator.{Operator}
 use Rattle.symk_task.specs.declared.parts.TaskParts.{TaskParts}
 use Rattle.symk_task.specs.Variables.{IsBase}
 use Rattle.stubborn_sets.specs.declared.conflicts.Conflicts.{Conflicts}
-use Rattle.stubborn_sets.specs.Making.{WritesUnread, CannotMake}
-use Rattle.stubborn_sets.specs.Kept.{AddsOne, number_of, given_by, AreGiversBelow, AreGivers, LeavesOut, AreChangers, AreMakers, AreConflicts, row_at, PutsRow, KnowsConflicts}
+use Rattle.stubborn_sets.specs.Depending.{is_in, IsShut, WritesOff, LeavesAlone}
+use Rattle.stubborn_sets.specs.Making.{CannotMake}
+use Rattle.stubborn_sets.specs.Kept.{AddsOne, number_of, given_by, AreGiversBelow, AreGivers, LeavesOut, IsOff, AreChangers, AreMakers, AreConflicts, row_at, PutsRow, KnowsConflicts}
 use Rattle.stubborn_sets.proofs.ListsLaw.{none_in}
 
 -- Operators, one after the other, of which each is put last or left out.
@@ -95,11 +96,19 @@ makers_given task lists fact g base = record {
         ap (λ (v : ℕ). made v effect.post) var ∙ ap (λ (w : ℕ). made fact.var w) post
 
 -- of a derived one
-pub makers_changers : (task : TaskParts) (ops : List ℕ) (fact : Fact) → AreChangers task ops → ¬ IsBase task fact.var → AreMakers task fact ops
-makers_changers task ops fact g derived = record {
+pub makers_changers : (task : TaskParts) (ops : List ℕ) (fact : Fact) → AreChangers task fact.var ops → ¬ IsBase task fact.var → AreMakers task fact ops
+makers_changers task ops fact (inl base) derived = absurd (derived base)
+makers_changers task ops fact (inr g) derived = record {
   within = g.within;
-  out = λ a lt off. some_and (λ (o : Operator). WritesUnread task o.effects) (CannotMake task fact) (λ o h. (inl derived, inr h)) (slice_get task.operators a) (g.out a lt off);
+  out = λ a lt off. some_and (λ (o : Operator). LeavesAlone task fact.var o.effects) (CannotMake task fact) (λ o h. (inl derived, inr h)) (slice_get task.operators a) (g.out a lt off);
 }
+
+-- those off a set out of which no rule leads
+pub changers_off : (task : TaskParts) (var : ℕ) (marks : List Bool) (ops : List ℕ) → IsTrue (is_in marks var) → IsShut task.rules marks → LeavesOut (IsOff task marks) (length task.operators) ops → AreChangers task var ops
+changers_off task var marks ops on shut g = inr (record {
+  within = g.within;
+  out = λ a lt off. some_and (λ (o : Operator). WritesOff marks o.effects) (λ (o : Operator). LeavesAlone task var o.effects) (λ o h. (marks, on, shut, h)) (slice_get task.operators a) (g.out a lt off);
+})
 
 -- The lists of operators that don't commute.
 

@@ -1,3 +1,4 @@
+pub mod DependingLaw
 pub mod GrowingLaw
 pub mod KeptLaw
 pub mod ListsLaw

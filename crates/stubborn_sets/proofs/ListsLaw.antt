@@ -1,14 +1,10 @@
 -- Lists of operators that grow.
-use Rattle.std.proofs.Common.{◌≡◌, ◌≢◌, ℕ, zero, suc, ◌<◌, ◌⊎◌, inl, inr, List, [], ◌∷◌, ◌++◌, length, slice_get, refl, sym, ap, subst, ◌∙◌, arith, Vec, Global}
+use Rattle.std.proofs.Common.{◌≡◌, ◌≢◌, ℕ, zero, suc, ◌<◌, ◌⊎◌, inl, inr, List, [], ◌∷◌, ◌++◌, length, refl, sym, ap, subst, ◌∙◌, arith, Vec, Global}
 use Rattle.std.specs.List.{Contains}
 use Rattle.std.proofs.Math.ListN.{set}
 use Rattle.std.proofs.lemmas.Bool.{cases_eq}
 use Rattle.std.proofs.lemmas.List.Elements.{Contains-push, Contains-push_cases, Contains-append_left}
-use Rattle.stubborn_sets.specs.Kept.{items_in, AddsOne}
-
--- the list of this number among lists
-abbrev pub list_in : List (Vec ℕ Global) → ℕ → List ℕ
-list_in xs i = items_in (slice_get xs i)
+use Rattle.stubborn_sets.specs.Kept.{list_in, AddsOne}
 
 pub none_in : (x : ℕ) → ¬ Contains {X = ℕ} [] x
 none_in x h = (let lt : h.0 < 0 = h.1 in absurd (omega (arith, lt)))
@@ -19,6 +15,16 @@ one_more [] v e zero = e
 one_more [] v e (suc i) = refl
 one_more (x ∷ xs) v e zero = refl
 one_more (x ∷ xs) v e (suc i) = one_more xs v e i
+
+-- a list more, at the end
+pub last_list : (xs : List (Vec ℕ Global)) (v : Vec ℕ Global) → list_in (xs ++ v ∷ []) (length xs) ≡ v.items
+last_list [] v = refl
+last_list (x ∷ xs) v = last_list xs v
+
+pub other_lists : (xs : List (Vec ℕ Global)) (v : Vec ℕ Global) (i : ℕ) → i < length xs → list_in (xs ++ v ∷ []) i ≡ list_in xs i
+other_lists [] v i lt = absurd (omega (arith, lt))
+other_lists (x ∷ xs) v zero lt = refl
+other_lists (x ∷ xs) v (suc i) lt = other_lists xs v i (omega (arith, lt))
 
 -- one of them is another
 set_same : (xs : List (Vec ℕ Global)) (n : ℕ) (v : Vec ℕ Global) → n < length xs → list_in (set xs n v) n ≡ v.items

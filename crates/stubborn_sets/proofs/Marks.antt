@@ -1,12 +1,13 @@
 -- Marks that grow.
-use Rattle.std.proofs.Common.{◌≡◌, ◌≢◌, ℕ, zero, suc, ◌+◌, ◌<◌, replicate, cond, Bool, true, false, not, IsTrue, List, [], ◌∷◌, length, get_or, refl, sym, subst, ◌∙◌, inl, inr, arith}
+use Rattle.std.proofs.Common.{◌≡◌, ◌≢◌, ℕ, zero, suc, ◌+◌, ◌<◌, ◌≤◌, ◌++◌, take, replicate, cond, Bool, true, false, not, IsTrue, List, [], ◌∷◌, length, get_or, refl, sym, ap, subst, ◌∙◌, inl, inr, arith}
 use Rattle.std.proofs.Math.ListN.{set}
 use Rattle.std.proofs.lemmas.Bool.{cases_eq}
-use Rattle.std.proofs.lemmas.List.{get_or-set_same, get_or-set_other, get_or-replicate}
+use Rattle.std.proofs.Math.Seq.{take-length}
+use Rattle.std.proofs.lemmas.List.{get_or-set_same, get_or-set_other, take-append-le, get_or-replicate}
 use Rattle.std.proofs.lemmas.List.Folds.{sum_by-replicate}
 use Rattle.std.proofs.lemmas.List.Sums.{sum_by-set}
 use Rattle.stubborn_sets.specs.Closing.{is_in, Grows}
-use Rattle.stubborn_sets.specs.Growing.{left}
+use Rattle.stubborn_sets.specs.Depending.{left, Spreads}
 
 pub here : (marks : List Bool) (at : ℕ) → at < length marks → IsTrue (is_in (set marks at true) at)
 here marks at lt = get_or-set_same marks at true false lt
@@ -46,3 +47,23 @@ is_there (b ∷ marks) (suc a) h = (let lt = is_there marks a h in omega (arith,
 -- each of so many is marked
 pub all_true : (items : List Bool) (n : ℕ) → items ≡ replicate n true → (a : ℕ) → a < n → IsTrue (is_in items a)
 all_true items n e a lt = subst (λ (z : List Bool). IsTrue (is_in z a)) (sym e) (get_or-replicate n a true false lt)
+
+-- marks that spread
+
+pub spreads_refl : (marks : List Bool) → Spreads marks marks false
+spreads_refl marks = record { grows = λ a h. h; none = λ _. refl; some = λ h. absurd (cc) }
+
+pub spreads_new : (marks : List Bool) (at : ℕ) → at < length marks → ¬ IsTrue (is_in marks at) → Spreads marks (set marks at true) true
+spreads_new marks at lt off = record { grows = still marks at lt; none = λ h. absurd (cc); some = λ _. (let e = one_fewer marks at lt off in omega (arith, e)) }
+
+-- once more, and no more
+pub spreads_more : (a b c : List Bool) (more : Bool) → Spreads a b more → Spreads b c true → Spreads a c true
+spreads_more a b c true to on = record { grows = further a b c to.grows on.grows; none = λ h. absurd (cc); some = λ _. (let x = to.some refl in let y = on.some refl in omega (arith, x, y)) }
+spreads_more a b c false to on = record { grows = further a b c to.grows on.grows; none = λ h. absurd (cc); some = λ _. (let x = ap left (to.none refl) in let y = on.some refl in omega (arith, x, y)) }
+
+pub spreads_no_more : (a b c : List Bool) (more : Bool) → Spreads a b more → Spreads b c false → Spreads a c more
+spreads_no_more a b c more to on = subst (λ (z : List Bool). Spreads a z more) (sym (on.none refl)) to
+
+-- what a slice of the whole vector becomes
+pub whole : (xs ys : List Bool) (n : ℕ) → length xs ≡ n → take n (xs ++ ys) ≡ xs
+whole xs ys n e = (let le : n ≤ length xs = omega (arith, e) in take-append-le n xs ys le ∙ ap (λ (k : ℕ). take k xs) (sym e) ∙ take-length xs)

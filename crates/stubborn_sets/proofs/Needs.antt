@@ -4,7 +4,7 @@ use Rattle.std.specs.List.{All}
 use Rattle.symk_task.specs.declared.parts.Fact.{Fact}
 use Rattle.symk_task.specs.declared.parts.Operator.{Operator}
 use Rattle.symk_task.specs.declared.parts.TaskParts.{TaskParts}
-use Rattle.symk_task.specs.Fits.{Fits}
+use Rattle.symk_task.specs.Fits.{Fits, FitsOperator}
 use Rattle.symk_task.proofs.Places.{within_some}
 use Rattle.task_run.specs.Values.{AppliesBy, AreBelow, IsOn}
 use Rattle.task_run.proofs.Applying.{below}
@@ -34,6 +34,9 @@ module _ (task parts : TaskParts) (operators : List Operator) (one : ℕ) (opera
 
   pub here : slice_get task.operators one ≡ Some operator
   here = (operator_at task operators one operator fits all lt is).0
+
+  pub fits_at : FitsOperator task.variables operator
+  fits_at = (operator_at task operators one operator fits all lt is).1
 
   pub on_all : length values ≡ length task.variables → AreBelow (length values) operator.prevail × All (IsOn (length values)) operator.effects
   on_all each = below task values operator each (operator_at task operators one operator fits all lt is).1

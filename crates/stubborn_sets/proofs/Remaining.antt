@@ -1,5 +1,5 @@
 -- What no operator of a run can make true stays false.
-use Rattle.std.proofs.Common.{◌≡◌, ℕ, inl, inr, List, [], ◌∷◌, get_or, Option, Some, None, IsSomeAnd, slice_get, refl, sym, subst, ◌∙◌}
+use Rattle.std.proofs.Common.{◌≡◌, ℕ, inl, inr, Bool, IsTrue, List, [], ◌∷◌, get_or, Option, Some, None, IsSomeAnd, slice_get, refl, sym, subst, ◌∙◌}
 use Rattle.std.specs.List.{AllByRecursion}
 use Rattle.std.proofs.lemmas.List.Elements.{recursion_from_All}
 use Rattle.symk_task.specs.declared.parts.Fact.{Fact}
@@ -14,12 +14,12 @@ use Rattle.symk_task.proofs.Running.{step_state}
 use Rattle.task_system.specs.System.{Runs}
 use Rattle.task_system.specs.Computed.{system_of}
 use Rattle.task_system.proofs.RunsLaw.{leads_law}
-use Rattle.commuting.specs.Reading.{Unread}
-use Rattle.commuting.proofs.Agreeing.{RulesAgree, holds_to}
 use Rattle.commuting.proofs.Values.{at_written, unwritten, at_last}
 use Rattle.commuting.proofs.Pair.{Leaves, base_value}
 use Rattle.commuting.proofs.CommuteLaw.{leaves_by}
-use Rattle.stubborn_sets.specs.Making.{GivesOther, WritesUnread, CannotMake, IsNoMaker}
+use Rattle.stubborn_sets.specs.Depending.{is_in, WritesOff}
+use Rattle.stubborn_sets.specs.Making.{GivesOther, CannotMake, IsNoMaker}
+use Rattle.stubborn_sets.proofs.DependingLaw.{AgreeOn, holds_on}
 
 -- a base variable's value that no effect gives comes from before
 given : (task : TaskParts) (s : List ℕ) (effects : List Effect) (fact : Fact) (now : ℕ) → AllByRecursion (GivesOther fact) effects → ValueAfter (Fires task s) effects fact.var (get_or s (place task fact.var) 0) now → now ≡ fact.val
@@ -36,14 +36,14 @@ stays task s t operator fact within leaves cannot h = elim (which task fact with
   ]
   | inr (layer, has) ↦ elim cannot.1 [
     | inl on ↦ absurd (base_derived task fact.var layer on has)
-    | inr unread ↦ holds_to task t s fact (λ on. absurd (base_derived task fact.var layer on has)) (λ _ _. agree unread) h
+    | inr (marks, on, shut, off) ↦ holds_on task marks shut t s fact (agree marks off) on h
   ]
 ]
   where
-    agree : WritesUnread task operator.effects → RulesAgree task t s
-    agree unread var on = elim (at_written (Unread task) operator.effects var (recursion_from_All (λ (e : Effect). Unread task e.var) operator.effects unread)) [
-      | inl none ↦ inr (unwritten (Fires task s) operator.effects var (get_or s (place task var) 0) (get_or t (place task var) 0) none (leaves var on))
-      | inr un ↦ inl un
+    agree : (marks : List Bool) → WritesOff marks operator.effects → AgreeOn task marks t s
+    agree marks off var on in_them = elim (at_written (λ (v : ℕ). ¬ IsTrue (is_in marks v)) operator.effects var (recursion_from_All (λ (e : Effect). ¬ IsTrue (is_in marks e.var)) operator.effects off)) [
+      | inl none ↦ unwritten (Fires task s) operator.effects var (get_or s (place task var) 0) (get_or t (place task var) 0) none (leaves var on)
+      | inr un ↦ absurd (un in_them)
     ]
 
 one_step : (task : TaskParts) (s t : List ℕ) (a : ℕ) (fact : Fact) → Fits task → InRange task.variables fact → Step task s a t → IsNoMaker task fact a → Holds task t fact → Holds task s fact

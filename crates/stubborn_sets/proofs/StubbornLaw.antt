@@ -70,7 +70,7 @@ missing_holds task values m operator fact (inr (e, has, (on, asks, _))) allowed 
     let k = subst (λ (o : Option ℕ). IfSome o (λ val. Holds task m (record { var = e.var; val = val }))) asks (All-contains (Allows task m) operator.effects e allowed.effects has) in
     subst (λ (v : ℕ). Holds task m (record { var = v; val = fact.val })) (sym on) k
 
-missing_within : (task : TaskParts) (values : List ℕ) (operator : Operator) (fact : Fact) → FitsOperator task.variables operator → IsMissing values operator fact → InRange task.variables fact × ¬ HasValue values fact
+pub missing_within : (task : TaskParts) (values : List ℕ) (operator : Operator) (fact : Fact) → FitsOperator task.variables operator → IsMissing values operator fact → InRange task.variables fact × ¬ HasValue values fact
 missing_within task values operator fact fit (inl h) = (All-contains (InRange task.variables) operator.prevail fact fit.prevail.1 h.0, h.1)
 missing_within task values operator fact fit (inr (e, has, (on, asks, unlike))) =
     let k = subst (λ (o : Option ℕ). IfSome o (λ val. InRange task.variables (record { var = e.var; val = val }))) asks (All-contains (FitsEffect task.variables) operator.effects e fit.each has).pre in

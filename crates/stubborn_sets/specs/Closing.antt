@@ -1,19 +1,12 @@
 -- Sets of operators, closed under what their members need.
-use Rattle.std.specs.Prelude.{ℕ, ◌<◌, ◌⊎◌, Bool, false, IsTrue, List, length, slice_get, slice_index_or, IsSomeAnd}
+use Rattle.std.specs.Prelude.{ℕ, ◌<◌, ◌⊎◌, Bool, IsTrue, List, length, slice_get, IsSomeAnd}
 use Rattle.symk_task.specs.declared.parts.Fact.{Fact}
 use Rattle.symk_task.specs.declared.parts.TaskParts.{TaskParts}
 use Rattle.task_run.specs.Values.{AppliesBy}
 use Rattle.task_system.specs.Computed.{system_of}
 use Rattle.commuting.specs.Commuting.{Commute}
 use Rattle.stubborn_sets.specs.Making.{IsNoMaker, IsMissing}
-
--- whether the operator of this number is marked
-abbrev pub is_in : List Bool → ℕ → Bool
-is_in marks a = slice_index_or marks a false
-
--- what was marked is marked still
-abbrev pub Grows : List Bool → List Bool → Type 0
-Grows old new = (a : ℕ) → IsTrue (is_in old a) → IsTrue (is_in new a)
+pub use Rattle.stubborn_sets.specs.Depending.{is_in, Grows}
 
 -- each operator is marked, or can't make the fact true
 abbrev pub HasMakers : TaskParts → Fact → List Bool → Type 0

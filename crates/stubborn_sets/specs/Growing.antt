@@ -1,12 +1,9 @@
 -- Sets of operators that grow.
-use Rattle.std.specs.Prelude.{◌≡◌, ℕ, ◌+◌, ◌≤◌, ◌<◌, ◌⊎◌, Bool, not, count_by, IsTrue, List, length, Contains}
+use Rattle.std.specs.Prelude.{◌≡◌, ℕ, ◌+◌, ◌≤◌, ◌<◌, ◌⊎◌, IsTrue, List, length, Contains}
 use Rattle.symk_task.specs.declared.parts.TaskParts.{TaskParts}
 use Rattle.stubborn_sets.specs.declared.growing.Growing.{Growing}
+pub use Rattle.stubborn_sets.specs.Depending.{left}
 use Rattle.stubborn_sets.specs.Closing.{is_in, Grows, HasNeeds, HaveNeeds}
-
--- how many operators are not in the set
-abbrev pub left : List Bool → ℕ
-left marks = count_by not marks
 
 -- how many are not in it, or wait
 abbrev pub room : Growing → ℕ

@@ -1,23 +1,28 @@
 -- What is kept of a task: lists of operators.
-use Rattle.std.specs.Prelude.{◌≡◌, ℕ, ◌+◌, ◌<◌, ◌⊎◌, List, [], length, slice_get, slice_index, Option, Some, None, All, Contains, IsSomeAnd}
+use Rattle.std.specs.Prelude.{◌≡◌, ℕ, ◌+◌, ◌<◌, ◌⊎◌, Bool, List, [], length, slice_get, slice_index, Option, Some, None, All, Contains, IsSomeAnd}
 use Rattle.std.proofs.Common.{Vec, Global}
 use Rattle.symk_task.specs.declared.parts.Fact.{Fact}
 use Rattle.symk_task.specs.declared.parts.Effect.{Effect}
 use Rattle.symk_task.specs.declared.parts.TaskParts.{TaskParts}
+use Rattle.symk_task.specs.Variables.{IsBase}
 use Rattle.task_system.specs.Computed.{system_of}
 use Rattle.commuting.specs.Commuting.{Commute}
 use Rattle.stubborn_sets.specs.declared.lists.Lists.{Lists}
 use Rattle.stubborn_sets.specs.declared.makers.Makers.{Makers}
 use Rattle.stubborn_sets.specs.declared.conflicts.Conflicts.{Conflicts}
-use Rattle.stubborn_sets.specs.Making.{WritesUnread, IsNoMaker}
+use Rattle.stubborn_sets.specs.Depending.{WritesOff, LeavesAlone}
+use Rattle.stubborn_sets.specs.Making.{IsNoMaker}
 
 abbrev pub items_in : Option (Vec ℕ Global) → List ℕ
 items_in None = []
 items_in (Some v) = v.items
 
 -- the list of this number, empty where there is none
+abbrev pub list_in : List (Vec ℕ Global) → ℕ → List ℕ
+list_in lists i = items_in (slice_get lists i)
+
 abbrev pub list_at : Lists → ℕ → List ℕ
-list_at lists i = items_in (slice_get lists.lists.items i)
+list_at lists i = list_in lists.lists.items i
 
 -- Each list has what it had, and no operator is new but this one.
 pub record AddsOne (old new : ℕ → List ℕ) (op : ℕ) : Type 0 where
@@ -49,13 +54,17 @@ pub record LeavesOut (Fine : ℕ → Type 0) (below : ℕ) (ops : List ℕ) : Ty
   pub within : (a : ℕ) → Contains ops a → a < below
   pub out : (a : ℕ) → a < below → ¬ Contains ops a → Fine a
 
--- no effect of the operator is on a variable that a rule reads
-abbrev pub IsNoChanger : TaskParts → ℕ → Type 0
-IsNoChanger task a = IsSomeAnd (slice_get task.operators a) (λ operator. WritesUnread task operator.effects)
+-- no effect of the operator is on a marked variable
+abbrev pub IsOff : TaskParts → List Bool → ℕ → Type 0
+IsOff task marks a = IsSomeAnd (slice_get task.operators a) (λ operator. WritesOff marks operator.effects)
 
--- operators, among them each with an effect on a variable that a rule reads
-abbrev pub AreChangers : TaskParts → List ℕ → Type 0
-AreChangers task ops = LeavesOut (IsNoChanger task) (length task.operators) ops
+-- no effect of the operator is on what the variable depends on
+abbrev pub IsNoChanger : TaskParts → ℕ → ℕ → Type 0
+IsNoChanger task var a = IsSomeAnd (slice_get task.operators a) (λ operator. LeavesAlone task var operator.effects)
+
+-- operators, among them each with an effect on what the variable depends on, where it is a derived one
+abbrev pub AreChangers : TaskParts → ℕ → List ℕ → Type 0
+AreChangers task var ops = IsBase task var ⊎ LeavesOut (IsNoChanger task var) (length task.operators) ops
 
 -- operators, among them each that can make the fact true
 abbrev pub AreMakers : TaskParts → Fact → List ℕ → Type 0
@@ -64,7 +73,7 @@ AreMakers task fact ops = LeavesOut (IsNoMaker task fact) (length task.operators
 -- the operators that can make a fact true are known
 pub record KnowsMakers (task : TaskParts) (makers : Makers) : Type 0 where
   pub given : AreGivers task (givers_of makers.firsts.items makers.given)
-  pub changers : AreChangers task makers.changers.items
+  pub changers : (var : ℕ) → var < length task.variables → AreChangers task var (list_in makers.changers.items var)
 
 -- operators, among them each that doesn't commute with this one
 abbrev pub AreConflicts : TaskParts → ℕ → List ℕ → Type 0

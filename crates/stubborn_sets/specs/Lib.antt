@@ -1,3 +1,4 @@
+pub mod Depending
 pub mod Making
 pub mod Closing
 pub mod Kept

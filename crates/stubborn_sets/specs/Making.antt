@@ -6,7 +6,7 @@ use Rattle.symk_task.specs.declared.parts.Operator.{Operator}
 use Rattle.symk_task.specs.declared.parts.TaskParts.{TaskParts}
 use Rattle.symk_task.specs.Variables.{IsBase}
 use Rattle.task_run.specs.Values.{HasValue}
-use Rattle.commuting.specs.Reading.{Unread}
+use Rattle.stubborn_sets.specs.Depending.{LeavesAlone}
 
 abbrev pub GivesOther : Fact → Effect → Type 0
 GivesOther fact effect = effect.var ≡ fact.var → effect.post ≢ fact.val
@@ -15,14 +15,10 @@ GivesOther fact effect = effect.var ≡ fact.var → effect.post ≢ fact.val
 abbrev pub GivesNone : Fact → List Effect → Type 0
 GivesNone fact effects = All (GivesOther fact) effects
 
--- no effect is on a variable that a rule reads
-abbrev pub WritesUnread : TaskParts → List Effect → Type 0
-WritesUnread task effects = All (λ effect. Unread task effect.var) effects
-
--- the operator can't make the fact true: of a base variable, no effect gives it; of a derived one, no effect is on a variable that a rule reads
+-- the operator can't make the fact true: of a base variable, no effect gives it; of a derived one, no effect is on what it depends on
 abbrev pub CannotMake : TaskParts → Fact → Operator → Type 0
 CannotMake task fact operator =
-    (¬ IsBase task fact.var ⊎ GivesNone fact operator.effects) × (IsBase task fact.var ⊎ WritesUnread task operator.effects)
+    (¬ IsBase task fact.var ⊎ GivesNone fact operator.effects) × (IsBase task fact.var ⊎ LeavesAlone task fact.var operator.effects)
 
 -- the operator of this number can't
 abbrev pub IsNoMaker : TaskParts → Fact → ℕ → Type 0

@@ -45,6 +45,7 @@ fn lacking(
 ) -> Option<Lack>
     requires known { KnowsMakers parts.now makers.now }
     requires each { length marks.now ≡ length parts.now.operators }
+    requires valued { length values.now ≡ length parts.now.variables }
     requires within { fact.var < length values.now }
     ensures { MatchOption result (HasValue values.now fact)
         (λ lack. (lack.fact ≡ fact) × ¬ HasValue values.now fact) }
@@ -68,6 +69,7 @@ fn refused(
 ) -> Option<Lack>
     requires known { KnowsMakers parts.now makers.now }
     requires each { length marks.now ≡ length parts.now.operators }
+    requires valued { length values.now ≡ length parts.now.variables }
     requires within { effect.now.var < length values.now }
     ensures { MatchOption result (AllowsBy values.now effect.now)
         (λ lack. IsRefused values.now effect.now lack.fact) }
@@ -90,6 +92,7 @@ fn scarcest(
 ) -> Option<Lack>
     requires known { KnowsMakers parts.now makers.now }
     requires each { length marks.now ≡ length parts.now.operators }
+    requires valued { length values.now ≡ length parts.now.variables }
     requires within { AreBelow (length values.now) facts.now }
     ensures { MatchOption result (All (HasValue values.now) facts.now)
         (λ lack. IsUnmet values.now facts.now lack.fact) }
@@ -111,6 +114,7 @@ fn scarcest_asked(
 ) -> Option<Lack>
     requires known { KnowsMakers parts.now makers.now }
     requires each { length marks.now ≡ length parts.now.operators }
+    requires valued { length values.now ≡ length parts.now.variables }
     requires within { All (IsOn (length values.now)) effects.now }
     ensures { MatchOption result (All (AllowsBy values.now) effects.now)
         (λ lack. IsRefusedOf values.now effects.now lack.fact) }
@@ -132,6 +136,7 @@ pub(crate) fn missing(
 ) -> Option<Fact>
     requires known { KnowsMakers parts.now makers.now }
     requires each { length marks.now ≡ length parts.now.operators }
+    requires valued { length values.now ≡ length parts.now.variables }
     requires prevail { AreBelow (length values.now) operator.now.prevail }
     requires effects { All (IsOn (length values.now)) operator.now.effects }
     ensures { MatchOption result (AppliesBy values.now operator.now) (IsMissing values.now operator.now) }

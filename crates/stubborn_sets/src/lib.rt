@@ -11,6 +11,7 @@
 
 mod choosing;
 mod conflicts;
+mod depending;
 mod growing;
 mod lists;
 mod makers;

@@ -7,10 +7,20 @@ pub(crate) struct Lists {
 }
 
 ghost use Rattle.std.specs.Prelude.{◌≡◌, ℕ, [], OnOk, Contains};
-ghost use Rattle.stubborn_sets.specs.Kept.{list_at, AddsOne};
+ghost use Rattle.stubborn_sets.specs.Kept.{list_at, list_in, AddsOne};
 
 use std::alloc::Global;
 use symk_task::Memory;
+
+/// The list of this number, empty where there is none.
+pub(crate) fn list_of(lists: &[Vec<u32>], number: usize) -> &[u32]
+    ensures { result.now ≡ list_in lists.now number }
+{
+    if number >= lists.len() {
+        return &[];
+    }
+    lists[number].as_slice()
+}
 
 impl Lists {
     pub(crate) fn new(alloc: Global) -> Lists
@@ -25,10 +35,7 @@ impl Lists {
     pub(crate) fn at(&self, number: usize) -> &[u32]
         ensures { result.now ≡ list_at self.now number }
     {
-        if number >= self.lists.len() {
-            return &[];
-        }
-        self.lists[number].as_slice()
+        list_of(&self.lists, number)
     }
 
     /// Puts the operator last into the list of this number.

@@ -7,17 +7,17 @@ pub(crate) struct Makers {
     firsts: Vec<u32>,
     /// By the numbers of facts: the operators with an effect that gives the fact.
     given: Lists,
-    /// The operators with an effect on a variable that a rule reads.
-    changers: Vec<u32>,
+    /// Of each derived variable the operators with an effect on what it depends on.
+    changers: Vec<Vec<u32>>,
 }
 
-ghost use Rattle.std.specs.Prelude.{◌≡◌, ◌≤◌, ◌↔◌, IsTrue, All, Contains, IfOk, OnOk, length};
+ghost use Rattle.std.specs.Prelude.{◌≡◌, ◌≤◌, ◌<◌, ℕ, All, Contains, IfOk, OnOk, length};
 ghost use Rattle.symk_task.specs.Fits.{FitsVariable};
-ghost use Rattle.stubborn_sets.specs.Making.{WritesUnread};
-ghost use Rattle.stubborn_sets.specs.Kept.{number_of, given_by, list_at, givers_of, AddsOne, AreGivers, AreChangers, AreMakers, KnowsMakers};
+ghost use Rattle.stubborn_sets.specs.Kept.{number_of, given_by, list_at, givers_of, AddsOne, list_in, LeavesOut, IsOff, AreGivers, AreChangers, AreMakers, KnowsMakers};
 
-use crate::lists::Lists;
-use commuting::{is_base, unread};
+use crate::depending::{dependencies, writes_off};
+use crate::lists::{Lists, list_of};
+use commuting::is_base;
 use std::alloc::Global;
 use symk_task::{Effect, Fact, Memory, Task, TaskParts, Variable};
 
@@ -80,30 +80,47 @@ fn givers(alloc: Global, task: &Task, firsts: &[u32]) -> Result<Lists, Memory>
     Ok(given)
 }
 
-/// Whether no effect is on a variable that a rule reads.
-fn writes_unread(parts: &TaskParts, effects: &[Effect]) -> bool
-    ensures { IsTrue result ↔ WritesUnread parts.now effects.now }
+/// The operators with an effect on a marked variable.
+fn writers(alloc: Global, task: &Task, marks: &[bool]) -> Result<Vec<u32>, Memory>
+    ensures { IfOk result (λ ops. LeavesOut (IsOff task.now marks.now) (length task.now.operators) ops.items) }
 {
-    effects.iter().all(|effect| unread(parts, effect.var))
-}
-
-/// The operators with an effect on a variable that a rule reads.
-fn changers(alloc: Global, task: &Task) -> Result<Vec<u32>, Memory>
-    ensures { IfOk result (λ ops. AreChangers task.now ops.items) }
-{
-    let parts = task.parts();
-    let operators = parts.operators.as_slice();
+    let operators = task.parts().operators.as_slice();
     let mut ops = Vec::new(alloc);
     for op in 0..task.operators() {
-        if !writes_unread(parts, operators[op as usize].effects.as_slice()) {
+        if !writes_off(operators[op as usize].effects.as_slice(), marks) {
             ops.push(op)?;
         }
     }
     Ok(ops)
 }
 
+/// The operators with an effect on what the variable depends on; none of a base variable.
+fn changers_of(alloc: Global, task: &Task, var: u32) -> Result<Vec<u32>, Memory>
+    requires { var < length task.now.variables }
+    ensures { IfOk result (λ ops. AreChangers task.now var ops.items) }
+{
+    let parts = task.parts();
+    if is_base(parts, var) {
+        return Ok(Vec::new(alloc));
+    }
+    let marks = dependencies(alloc, parts, var)?;
+    writers(alloc, task, &marks)
+}
+
+/// So of each variable.
+fn changers(alloc: Global, task: &Task) -> Result<Vec<Vec<u32>>, Memory>
+    ensures { IfOk result (λ lists.
+        (var : ℕ) → var < length task.now.variables → AreChangers task.now var (list_in lists.items var)) }
+{
+    let mut lists = Vec::new(alloc);
+    for var in 0..task.parts().variables.len() {
+        lists.push(changers_of(alloc, task, var as u32)?)?;
+    }
+    Ok(lists)
+}
+
 impl Makers {
-    /// Of each fact of the task the operators that can make it true, by one pass over the effects.
+    /// Of each fact of the task the operators that can make it true.
     pub(crate) fn new(alloc: Global, task: &Task) -> Result<Makers, Memory>
         ensures { IfOk result (KnowsMakers task.now) }
     {
@@ -118,15 +135,16 @@ impl Makers {
     }
 
     /// The operators that can make the fact true where it isn't: of a base variable, those with an effect that gives it;
-    /// of a derived one, those with an effect on a variable that a rule reads.
+    /// of a derived one, those with an effect on a variable on which it depends, through rules.
     pub(crate) fn of(&self, parts: &TaskParts, fact: Fact) -> &[u32]
-        requires { KnowsMakers parts.now self.now }
+        requires known { KnowsMakers parts.now self.now }
+        requires within { fact.var < length parts.now.variables }
         ensures { AreMakers parts.now fact result.now }
     {
         if is_base(parts, fact.var) {
             self.given.at(number_of(&self.firsts, fact))
         } else {
-            self.changers.as_slice()
+            list_of(&self.changers, fact.var as usize)
         }
     }
 }

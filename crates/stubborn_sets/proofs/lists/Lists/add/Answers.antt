@@ -1,8 +1,8 @@
 use Rattle.std.proofs.Common.{List, ℕ, [], ◌∷◌, ◌++◌, ◌<◌, length, Some, ap, sym, ◌∙◌, arith}
 use Rattle.std.specs.Vec.{with_item}
 use Rattle.std.proofs.lemmas.Option.{slice_get-get_or}
-use Rattle.stubborn_sets.specs.Kept.{list_at, items_in}
-use Rattle.stubborn_sets.proofs.ListsLaw.{list_in, put_adds, adds_from}
+use Rattle.stubborn_sets.specs.Kept.{list_at, list_in, items_in}
+use Rattle.stubborn_sets.proofs.ListsLaw.{put_adds, adds_from}
 use Rattle.stubborn_sets.proofs.lists.Lists.add.Goals as goal
 
 pub returns-clause-adds : goal.returns-clause-adds

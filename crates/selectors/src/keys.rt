@@ -1,8 +1,11 @@
 //! What plans are told apart by.
 
-ghost use Rattle.std.specs.Prelude.{◌≡◌, ◌++◌, ◌↔◌, [], ◌∷◌, ℕ, List, map, IsTrue, Contains, IfOk, OnErr, MatchBool};
+ghost use Rattle.std.specs.Prelude.{◌≡◌, ◌++◌, ◌↔◌, [], ◌∷◌, ℕ, List, map, IsTrue, All, Contains, IfOk, OnErr, MatchBool};
 ghost use Rattle.std.specs.List.Sorted.{IsPermutation, IsNonDecreasing};
+ghost use Rattle.symk_task.specs.declared.parts.Mode.TheVariants.{Unordered as unordered};
+ghost use Rattle.symk_task.specs.Plans.{IsListed};
 ghost use Rattle.selector_laws.specs.Owing.{IsKey};
+ghost use Rattle.selectors.specs.Noted.{IsNoted};
 
 use indexmap::IndexSet;
 use std::alloc::Global;
@@ -70,4 +73,18 @@ fn sorted(mut numbers: Vec<u32>) -> Vec<u32>
 {
     numbers.sort_unstable();
     numbers
+}
+
+/// Notes the class of the plan, by its key in `Unordered`, and tells whether the plan is a rearrangement of none whose
+/// class was noted before. Want of memory leaves the keys as they were.
+pub fn note_class(alloc: Global, seen: &mut Keys, plan: &Plan) -> Result<bool, Memory>
+    requires { All (λ key. (p : List ℕ) × IsKey unordered p key) seen.old }
+    ensures ok { IfOk result (λ fresh. MatchBool fresh
+        (IsNoted unordered seen.old seen.new plan.now)
+        (IsListed unordered seen.old plan.now × (seen.new ≡ seen.old))) }
+    ensures err { OnErr result (seen.new ≡ seen.old) }
+{
+    let key = key_of(alloc, Mode::Unordered, plan)?;
+    let fresh = seen.note(key)?;
+    Ok(fresh)
 }

@@ -1,33 +1,18 @@
 //! The first plan of each class of rearrangements.
 
-ghost use Rattle.std.specs.Prelude.{◌≡◌, ℕ, List, None, All, IfOk, OnErr, MatchBool};
+ghost use Rattle.std.specs.Prelude.{◌≡◌, None};
 ghost use Rattle.symk_task.specs.declared.parts.Mode.TheVariants.{TopK, Unordered as unordered};
-ghost use Rattle.symk_task.specs.Plans.{IsListed};
 ghost use Rattle.lazy_plans.specs.Law.{last_of, Turned};
-ghost use Rattle.selector_laws.specs.Owing.{IsKey, AreKeys, Owes, Holds};
-ghost use Rattle.selectors.specs.Noted.{IsNoted};
+ghost use Rattle.selector_laws.specs.Owing.{AreKeys, Owes, Holds};
 
 mod engine;
 
-use crate::keys::{Keys, key_of};
-pub use engine::Unordered;
+use crate::keys::{Keys, note_class};
+pub use engine::{Unordered, lasting};
 use lazy_plans::{LazyPlans, Steps, Stop};
 use std::alloc::Global;
 use std::sync::ledger::Ledger;
-use symk_task::{Memory, Mode, Plan};
-
-/// Notes the key of the plan, and tells whether the plan counts as one with none before it.
-fn note(alloc: Global, seen: &mut Keys, plan: &Plan) -> Result<bool, Memory>
-    requires { All (λ key. (p : List ℕ) × IsKey unordered p key) seen.old }
-    ensures ok { IfOk result (λ fresh. MatchBool fresh
-        (IsNoted unordered seen.old seen.new plan.now)
-        (IsListed unordered seen.old plan.now × (seen.new ≡ seen.old))) }
-    ensures err { OnErr result (seen.new ≡ seen.old) }
-{
-    let key = key_of(alloc, Mode::Unordered, plan)?;
-    let fresh = seen.note(key)?;
-    Ok(fresh)
-}
+use symk_task::Plan;
 
 /// The next plan that is no rearrangement of one seen. Where memory is refused the plan drawn is held.
 fn draw<I: LazyPlans, L: Ledger>(
@@ -52,7 +37,7 @@ fn draw<I: LazyPlans, L: Ledger>(
 {
     'plans: loop {
         match inner.next_plan(alloc, steps) {
-            Ok(Some(plan)) => match note(alloc, seen, &plan) {
+            Ok(Some(plan)) => match note_class(alloc, seen, &plan) {
                 Ok(true) => return Ok(Some(plan)),
                 Ok(false) => {}
                 Err(_) => {

@@ -46,8 +46,8 @@ impl<I: LazyPlans> Unordered<I> {
     }
 }
 
-/// What every later call repeats.
-fn lasting(given: &Result<Option<Plan>, Stop>) -> Option<Option<Stop>>
+/// What every later call of an engine repeats that gave this answer.
+pub fn lasting(given: &Result<Option<Plan>, Stop>) -> Option<Option<Stop>>
     ensures { result ≡ last_of given.now }
 {
     match given {

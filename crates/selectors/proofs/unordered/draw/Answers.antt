@@ -31,12 +31,12 @@ returns-in-Ok-true-clause-law g c =
     let noted = rw (c.in-Ok-true.field-0-test, i.seen) at c.in-Ok-true.ensures.ok in
     law_fresh _ _ c.args.seen.now (e.pends c.args.inner.now) (e.pends c.plans.inner) (e.pends c.next_plan.new.self) i.stays c.in-Ok-Some.plan noted.key _ c.plans.held gave (key_same Unordered c.in-Ok-Some.plan noted.key noted.is) noted.fresh noted.more i.held
 
-pub returns-in-Err-note-clause-law : goal.returns-in-Err-note-clause-law
-returns-in-Err-note-clause-law g c =
+pub returns-in-Err-note_class-clause-law : goal.returns-in-Err-note_class-clause-law
+returns-in-Err-note_class-clause-law g c =
     let i = c.plans.invariant in
     let e = g.I.LazyPlans in
     let gave = rw (i.system, i.mode, i.most) at (rw c.in-Ok-Some.field-0-is at c.in-Ok-Some.ensures.law) in
-    (tt, law_held _ _ c.args.seen.now (e.pends c.args.inner.now) (e.pends c.plans.inner) (e.pends c.next_plan.new.self) i.stays c.in-Ok-Some.plan _ gave (c.in-Err-note.ensures.err ∙ i.seen))
+    (tt, law_held _ _ c.args.seen.now (e.pends c.args.inner.now) (e.pends c.plans.inner) (e.pends c.next_plan.new.self) i.stays c.in-Ok-Some.plan _ gave (c.in-Err-note_class.ensures.err ∙ i.seen))
 
 pub plans-smaller : goal.plans-smaller
 plans-smaller g c =
@@ -70,5 +70,5 @@ returns-in-Err-clause-law g c =
     let law = rw (i.system, i.most) at (rw c.in-Err.stop-is at c.in-Err.ensures.law) in
     law_stop _ _ c.args.seen.now (e.pends c.args.inner.now) (e.pends c.plans.inner) (e.pends c.next_plan.new.self) i.stays c.in-Err.stop _ c.plans.held c.requires.seen law i.seen i.held
 
-pub note-requires : goal.note-requires
-note-requires g c = rw c.plans.invariant.seen c.requires.seen.each
+pub note_class-requires : goal.note_class-requires
+note_class-requires g c = rw c.plans.invariant.seen c.requires.seen.each

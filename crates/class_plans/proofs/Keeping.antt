@@ -18,7 +18,7 @@ rearranged Loopless p q e = subst (λ (z : List ℕ). Same Unordered p z) e (sam
 rearranged Unordered p q h = h
 
 -- what pends is a member of its own class
-own_member : (pends : List ℕ → Type 0) (q : List ℕ) → pends q → HasMember pends q
+pub own_member : (pends : List ℕ → Type 0) (q : List ℕ) → pends q → HasMember pends q
 own_member pends q h = record { member = q; alike = same_self Unordered q; pending = h }
 
 keeps_whole : (before after : List ℕ → Type 0) → Stays before after → KeepsMembers before after

@@ -13,7 +13,7 @@ use Rattle.lazy_plans.specs.Law.{Fair, Last}
 use Rattle.scripted_plans.specs.Free.{free, is_one_of, IsOneOf, IsScript}
 
 -- every list of operators is a plan
-runs_free : (p : List ℕ) → All (λ a. a < 2 ^ 32) p → Runs free [] p []
+pub runs_free : (p : List ℕ) → All (λ a. a < 2 ^ 32) p → Runs free [] p []
 runs_free [] all = refl
 runs_free (a ∷ p) all = ([], record { number = All-head (λ a. a < 2 ^ 32) a p all; step = refl }, runs_free p (All-tail (λ a. a < 2 ^ 32) a p all))
 

@@ -3,7 +3,8 @@
 ghost use Rattle.std.specs.Prelude.{◌≡◌, IfOk};
 ghost use Rattle.symk_task.specs.declared.parts.Mode.TheVariants.{TopK, Unordered as unordered};
 
-use crate::Script;
+use crate::{Endless, Script};
+use class_plans::{Classes, Whole};
 use selectors::{After, LazyPlans, Limited, Stop, Unordered};
 use std::alloc::Global;
 use std::test::Fail;
@@ -166,6 +167,44 @@ fn gives_the_classes_that_an_earlier_list_lacks(rt: HostRuntime) -> Result<(), F
             after_classes(alloc, plans, refused, earlier)?.as_slice(),
             want.as_bytes()
         );
+    }
+    Ok(())
+}
+
+/// One plan of each class, of an engine that leaves out rearrangements that it was not told.
+fn classes_of_members(alloc: Global, rows: &[&[u32]], k: u64) -> Result<Vec<u8>, Memory> {
+    let classes = Classes::new(alloc, Endless::of(alloc, rows)?);
+    let (text, _) = listed(alloc, classes, k)?;
+    Ok(text)
+}
+
+/// The same of an engine of all plans.
+fn classes_of_whole(alloc: Global, rows: &[&[u32]], k: u64) -> Result<Vec<u8>, Memory> {
+    let classes = Classes::new(alloc, Whole::new(Endless::of(alloc, rows)?));
+    let (text, _) = listed(alloc, classes, k)?;
+    Ok(text)
+}
+
+#[test]
+fn gives_one_plan_of_each_class_of_which_members_are_kept(rt: HostRuntime) -> Result<(), Fail> {
+    let alloc = rt.alloc();
+    let rows: [(&[&[u32]], u64, &str); 4] = [
+        (CIRCLES, 9, "[0][10][110][1110]memory"),
+        (CIRCLES, 2, "[0][10]"),
+        (
+            &[&[2, 0, 1], &[1, 2, 0], &[0, 0], &[0, 1, 2], &[0, 1]],
+            9,
+            "[201][00][01]memory",
+        ),
+        (&[], 9, "memory"),
+    ];
+    for (plans, k, want) in rows {
+        let members = classes_of_members(alloc, plans, k)?;
+        assert_eq!(rt; members.as_slice(), want.as_bytes());
+        let whole = classes_of_whole(alloc, plans, k)?;
+        assert_eq!(rt; whole.as_slice(), want.as_bytes());
+        let (same, _) = listed(alloc, Unordered::new(alloc, Endless::of(alloc, plans)?)?, k)?;
+        assert_eq!(rt; same.as_slice(), want.as_bytes());
     }
     Ok(())
 }

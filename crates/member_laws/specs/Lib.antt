@@ -1,0 +1,4 @@
+pub mod Nodes
+pub mod Told
+pub mod Opening
+pub mod Laws

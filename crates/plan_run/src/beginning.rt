@@ -76,7 +76,7 @@ pub fn top_plans<S: Space + Drop>(
     }
 }
 
-/// All plans of the task by their prefixes, in the same way. They are searched for backward, whatever the direction.
+/// All plans of the task by their prefixes, in the same way. They are searched for from both ends, whatever the direction.
 pub fn prefix_plans<S: Space + Drop>(
     alloc: Global,
     task: &Task,

@@ -7,9 +7,8 @@ use Rattle.lazy_plans.specs.Law.{Turned, Ended, Last, last_of}
 use Rattle.lazy_plans.specs.declared.stop.Stop.{Stop}
 use Rattle.lazy_plans.specs.declared.stop.Stop.TheVariants.{Memory}
 use Rattle.lazy_plans.proofs.Given.{ended_by}
-use Rattle.cost_search.specs.Search.{within_of}
-use Rattle.least_costs.specs.Least.{search_of}
-use Rattle.least_costs.specs.declared.search.LeastCosts.{LeastCosts}
+use Rattle.cost_to_go.specs.Standing.{within_of}
+use Rattle.cost_to_go.specs.declared.search.CostToGo.{CostToGo}
 use Rattle.prefix_laws.specs.Queue.{Right, Pending}
 use Rattle.prefix_tree.specs.declared.state_graph.StateGraph.{StateGraph}
 use Rattle.prefix_tree.specs.declared.tree.Node.{Node}
@@ -27,8 +26,8 @@ none_some : ◌≡◌ {A = Last} None (Some None) → ⊥
 none_some e = cc
 
 -- after the turns of a call, and after the space was tidied
-module _ {Set : Type 0} (v w : View Set) (h : LeastCosts Set) (within : Set) (m : StateGraph) (nodes grown : List Node) (most : Option ℕ) (es new : List Entry)
-    (system : w.system ≡ v.system) (kept : within ≡ within_of (search_of h)) (ready : IsReady w h m grown new) (right : Right v.system TopK most (prefixes grown new)) where
+module _ {Set : Type 0} (v w : View Set) (h : CostToGo Set) (within : Set) (m : StateGraph) (nodes grown : List Node) (most : Option ℕ) (es new : List Entry)
+    (system : w.system ≡ v.system) (kept : within ≡ within_of h) (ready : IsReady w h m grown new) (right : Right v.system TopK most (prefixes grown new)) where
   abbrev Before : List ℕ → Type 0
   Before = Owes v.system TopK (prefixes nodes es) None
 

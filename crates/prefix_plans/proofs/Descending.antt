@@ -1,18 +1,12 @@
 -- From a ranked prefix that is no plan a child is nearer to one.
-use Rattle.std.proofs.Common.{◌≡◌, ℕ, ◌+◌, ◌-◌, ◌<◌, inl, inr, Bool, IsTrue, List, [], ◌∷◌, ◌++◌, refl, sym, ap, subst, arith}
+use Rattle.std.proofs.Common.{◌≡◌, ℕ, ◌+◌, ◌-◌, ◌<◌, ◌⊎◌, inl, inr, Bool, IsTrue, List, [], ◌∷◌, ◌++◌, refl, sym, ap, subst, arith}
 use Rattle.std.specs.List.{AllByRecursion}
 use Rattle.symk_task.specs.declared.parts.Mode.TheVariants.{TopK}
 use Rattle.task_system.specs.System.{State, Listed, Runs, IsPlan, cost_of}
 use Rattle.space_api.specs.View.{View}
-use Rattle.run_graph.specs.Graph.{seen_from}
-use Rattle.run_graph.specs.Reached.{Useful}
-use Rattle.run_graph.specs.declared.Side.{Side}
-use Rattle.run_graph.specs.declared.Side.TheVariants.{Back}
-use Rattle.cost_layers.specs.Layers.{Stands}
-use Rattle.cost_search.specs.Search.{layers_of}
-use Rattle.least_costs.specs.Least.{HasWay, ComesFrom, search_of, next_of}
-use Rattle.least_costs.specs.declared.search.LeastCosts.{LeastCosts}
-use Rattle.least_costs.proofs.Standing.{rings_lead}
+use Rattle.goal_ranks.specs.Known.{LeadsLower}
+use Rattle.cost_to_go.specs.Standing.{IsCostToGo, HasWay, ranks_in}
+use Rattle.cost_to_go.specs.declared.search.CostToGo.{CostToGo}
 use Rattle.prefix_laws.specs.Queue.{prefix, ind, Hopeless}
 use Rattle.prefix_laws.proofs.Splits.{cost_join}
 use Rattle.prefix_laws.proofs.Traces.{runs_join, leads_on}
@@ -20,21 +14,24 @@ use Rattle.prefix_tree.specs.Tree.{path_at}
 use Rattle.prefix_tree.specs.Entries.{prefixes}
 use Rattle.prefix_tree.specs.declared.tree.Node.{Node}
 use Rattle.prefix_tree.specs.declared.entry.Entry.{Entry}
-use Rattle.prefix_plans.specs.Left.{IsBack}
+use Rattle.prefix_plans.specs.Left.{known_of}
 use Rattle.prefix_plans.specs.Children.{EndsRanked, IsEntry, IsNew, AreChildren, outdated}
 use Rattle.prefix_plans.specs.Standing.{farness, all_outdated}
-use Rattle.prefix_plans.proofs.Layers.{useful_on, ranked_leads}
+use Rattle.prefix_plans.proofs.Ranks.{ranked_leads, ranked_way}
 use Rattle.prefix_plans.proofs.Far.{near, one_near, nearer, one_nearer}
 
-fresh_kids : {Set : Type 0} (v : View Set) (f : LeastCosts Set) (nodes : List Node) (kids : List Entry) → AllByRecursion (IsNew v f nodes) kids → all_outdated (next_of f) kids ≡ 0
+no_more : (a w b : ℕ) → a + w ≡ b → (a < b) ⊎ (a ≡ b)
+no_more a w b e = grind (arith, e)
+
+fresh_kids : {Set : Type 0} (v : View Set) (f : CostToGo Set) (nodes : List Node) (kids : List Entry) → AllByRecursion (IsNew v f nodes) kids → all_outdated (known_of f) kids ≡ 0
 fresh_kids v f nodes [] a = refl
-fresh_kids v f nodes (k ∷ kids) a = both (outdated (next_of f) k) (all_outdated (next_of f) kids) a.0.2 (fresh_kids v f nodes kids a.1)
+fresh_kids v f nodes (k ∷ kids) a = both (outdated (known_of f) k) (all_outdated (known_of f) kids) a.0.2 (fresh_kids v f nodes kids a.1)
   where
     both : (a b : ℕ) → a ≡ 0 → b ≡ 0 → a + b ≡ 0
     both a b p q = omega (arith, p, q)
 
 -- the child of this prefix is nearer than n
-near_kid : {Set : Type 0} (v : View Set) (f : LeastCosts Set) (nodes : List Node) (n : ℕ) (p : List ℕ) (kids : List Entry) → ((k : Entry) → IsNew v f nodes k → path_at nodes k.node ≡ p → farness k < n) → AllByRecursion (IsNew v f nodes) kids → Listed (prefixes nodes kids) p → 0 < near n kids
+near_kid : {Set : Type 0} (v : View Set) (f : CostToGo Set) (nodes : List Node) (n : ℕ) (p : List ℕ) (kids : List Entry) → ((k : Entry) → IsNew v f nodes k → path_at nodes k.node ≡ p → farness k < n) → AllByRecursion (IsNew v f nodes) kids → Listed (prefixes nodes kids) p → 0 < near n kids
 near_kid v f nodes n p [] closer a l = absurd l
 near_kid v f nodes n p (k ∷ kids) closer a (inl is) = some (one_near n k) (near n kids) (one_nearer n k (closer k a.0 is))
   where
@@ -45,25 +42,20 @@ near_kid v f nodes n p (k ∷ kids) closer a (inr l) = more (one_near n k) (near
     more : (a b : ℕ) → 0 < b → 0 < a + b
     more a b lt = omega (arith, lt)
 
-module _ {Set : Type 0} (v : View Set) (f : LeastCosts Set) (z : IsBack v f) (nodes : List Node) (e : Entry) (entry : IsEntry v f nodes e) (ends : EndsRanked v f (path_at nodes e.node) (e.bound.0 - e.cost) e.ring.0) (kids : List Entry) (children : AreChildren v f nodes (path_at nodes e.node) v.system.operators kids) where
+module _ {Set : Type 0} (v : View Set) (f : CostToGo Set) (z : IsCostToGo v f) (nodes : List Node) (e : Entry) (entry : IsEntry v f nodes e) (ends : EndsRanked v f (path_at nodes e.node) (e.bound.0 - e.cost) e.ring.0) (kids : List Entry) (children : AreChildren v f nodes (path_at nodes e.node) v.system.operators kids) where
   end : State
   end = ends.0
 
-  useful : Useful v.system ends.0
-  useful =
-      let w = ranked_leads v f z (e.bound.0 - e.cost) e.ring.0 ends.0 ends.2 in
-      useful_on v.system ends.0 (path_at nodes e.node, ends.1) w.0 w.1 w.2 w.3
+  way : HasWay v f e.ring.0 (e.bound.0 - e.cost) ends.0
+  way = ranked_way v f z (e.bound.0 - e.cost) e.ring.0 ends.0 ends.2
 
-  way : HasWay (seen_from Back v.system) (Stands v (layers_of (search_of f))) (e.bound.0 - e.cost) e.ring.0 ends.0
-  way = subst (λ (d : Side). HasWay (seen_from d v.system) (Stands v (layers_of (search_of f))) (e.bound.0 - e.cost) e.ring.0 ends.0) z.side (rings_lead v f z.least z.wide (e.bound.0 - e.cost) e.ring.0 ends.0 useful ends.2)
-
-  module _ (c : ComesFrom (seen_from Back v.system) (Stands v (layers_of (search_of f))) (e.bound.0 - e.cost) e.ring.0 ends.0) where
+  module _ (c : LeadsLower v (ranks_in f) e.ring.0 (e.bound.0 - e.cost) ends.0) where
     run_on : Runs v.system v.system.initial (path_at nodes e.node ++ c.op ∷ []) c.state
-    run_on = runs_join v.system (path_at nodes e.node) (c.op ∷ []) v.system.initial ends.0 c.state ends.1 (c.state, c.arc, refl)
+    run_on = runs_join v.system (path_at nodes e.node) (c.op ∷ []) v.system.initial ends.0 c.state ends.1 (c.state, c.leads, refl)
 
     hopeful : ¬ Hopeless v.system TopK (path_at nodes e.node ++ c.op ∷ [])
     hopeful lost =
-        let w = ranked_leads v f z c.from c.ring c.state c.member in
+        let w = ranked_leads v f z c.cost c.number c.state c.ranked in
         let on = leads_on v.system (path_at nodes e.node ++ c.op ∷ []) w.0 c.state w.1 run_on w.2 w.3 in
         clash (prefix (path_at nodes e.node ++ c.op ∷ []) ((path_at nodes e.node ++ c.op ∷ []) ++ w.0)) on.1 (lost ((path_at nodes e.node ++ c.op ∷ []) ++ w.0) on.0)
       where
@@ -75,23 +67,23 @@ module _ {Set : Type 0} (v : View Set) (f : LeastCosts Set) (z : IsBack v f) (no
 
     closer : (k : Entry) → IsNew v f nodes k → path_at nodes k.node ≡ path_at nodes e.node ++ c.op ∷ [] → farness k < farness e
     closer k new path =
-        let t = new.1 c.from c.ring (c.state, subst (λ (p : List ℕ). Runs v.system v.system.initial p c.state) (sym path) run_on, c.member) in
+        let t = new.1 c.cost c.number (c.state, subst (λ (p : List ℕ). Runs v.system v.system.initial p c.state) (sym path) run_on, c.ranked) in
         let cost : k.cost ≡ e.cost + v.system.cost c.op = omega (arith, new.0.cost, ap (cost_of v.system) path, cost_join v.system (path_at nodes e.node) (c.op ∷ []), entry.cost) in
-        let between : c.from + v.system.cost c.op ≡ e.bound.0 - e.cost = c.between in
-        let ring = t.1 in
-        nearer e k c.from (omega (arith, t.0, cost, between, entry.least)) t.0 (elim c.earlier [
+        let between : c.cost + v.system.cost c.op ≡ e.bound.0 - e.cost = c.between in
+        let lower : k.ring.0 < e.ring.0 = omega (arith, t.1, c.lower) in
+        nearer e k c.cost (omega (arith, t.0, cost, between, entry.least)) t.0 (elim (no_more c.cost (v.system.cost c.op) (e.bound.0 - e.cost) between) [
           | inl less ↦ inl less
-          | inr h ↦ inr (h.0, subst (λ (i : ℕ). i < e.ring.0) (sym ring) h.1)
+          | inr same ↦ inr (same, lower)
         ]) new.0.ring
 
     some : 0 < near (farness e) kids
-    some = elim (children.all c.op c.arc.number) [
+    some = elim (children.all c.op c.leads.number) [
       | inl lost ↦ absurd (hopeful lost)
       | inr l ↦ near_kid v f nodes (farness e) (path_at nodes e.node ++ c.op ∷ []) kids closer children.each l
     ]
 
   pub descends : ¬ IsPlan v.system (path_at nodes e.node) → 0 < near (farness e) kids
-  descends off = elim way [ inl h ↦ absurd (off (ends.0, ends.1, h.2)) | inr c ↦ some c ]
+  descends off = elim way [ inl h ↦ absurd (off (ends.0, ends.1, h.1)) | inr c ↦ some c ]
 
-  pub kids_fresh : all_outdated (next_of f) kids ≡ 0
+  pub kids_fresh : all_outdated (known_of f) kids ≡ 0
   kids_fresh = fresh_kids v f nodes kids children.each

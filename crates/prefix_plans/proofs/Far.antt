@@ -1,17 +1,18 @@
 -- How far entries are from a plan, and what is left to do.
 use Rattle.std.proofs.Common.{◌≡◌, ℕ, ◌+◌, ◌-◌, ◌*◌, ◌<◌, ◌≤◌, ◌^◌, ◌⊎◌, inl, inr, min, cond, Bool, true, false, List, [], ◌∷◌, refl, arith}
 use Rattle.std.proofs.Math.Nat.{mul-le-mul_right}
-use Rattle.std.specs.Prelude.{nat_lt}
+use Rattle.std.specs.Prelude.{nat_lt, ◌||◌}
 use Rattle.std.specs.List.{AllByRecursion, sum_by}
 use Rattle.std.proofs.lemmas.Bool.Decides.{nat_tests}
 use Rattle.std.proofs.lemmas.List.Sums.{sum_by-cons}
 use Rattle.space_api.specs.View.{View}
-use Rattle.least_costs.specs.declared.search.LeastCosts.{LeastCosts}
+use Rattle.cost_to_go.specs.declared.search.CostToGo.{CostToGo}
 use Rattle.prefix_laws.specs.Queue.{Replaced}
 use Rattle.prefix_tree.specs.Order.{IsNoLater}
 use Rattle.prefix_tree.specs.declared.tree.Node.{Node}
 use Rattle.prefix_tree.specs.declared.entry.Entry.{Entry}
-use Rattle.prefix_plans.specs.Children.{IsEntry, outdated}
+use Rattle.prefix_plans.specs.Left.{Known, bound_at}
+use Rattle.prefix_plans.specs.Children.{IsEntry, IsOutdated, outdated}
 use Rattle.prefix_plans.specs.Standing.{farness, farthest, nearest, all_outdated, work}
 
 next_times : (a b c : ℕ) → a < b → a * c + c ≤ b * c
@@ -37,11 +38,11 @@ module _ (D R : ℕ) where
 same_or : (a b : ℕ) → a ≤ b → (a < b) ⊎ (a ≡ b)
 same_or a b le = grind arith
 
-far_below : {Set : Type 0} (v : View Set) (f : LeastCosts Set) (nodes : List Node) (e : Entry) → IsEntry v f nodes e → farness e < farthest
+far_below : {Set : Type 0} (v : View Set) (f : CostToGo Set) (nodes : List Node) (e : Entry) → IsEntry v f nodes e → farness e < farthest
 far_below v f nodes e z = far_most (2 ^ 64 + 1) (2 ^ 64) e.bound.0 (e.bound.0 - e.cost) e.ring.0 (2 ^ 128) z.range (omega (arith, z.span)) z.ring
 
 -- an entry that is handed out no later is no farther
-no_farther : {Set : Type 0} (v : View Set) (f : LeastCosts Set) (nodes : List Node) (e k : Entry) → IsEntry v f nodes e → IsEntry v f nodes k → IsNoLater e k → farness e ≤ farness k
+no_farther : {Set : Type 0} (v : View Set) (f : CostToGo Set) (nodes : List Node) (e k : Entry) → IsEntry v f nodes e → IsEntry v f nodes k → IsNoLater e k → farness e ≤ farness k
 no_farther v f nodes e k z w (inl less) =
     let l = far_first (2 ^ 64 + 1) (2 ^ 64) e.bound.0 k.bound.0 (e.bound.0 - e.cost) (k.bound.0 - k.cost) e.ring.0 k.ring.0 less (omega (arith, z.span)) z.ring in
     weaker (farness e) (farness k) l
@@ -103,7 +104,7 @@ near_sum n (e ∷ es) = plus (one_near n e) (near n es) (sum_by (one_near n) es)
     plus : (a b c d : ℕ) → b ≡ c → d ≡ a + c → a + b ≡ d
     plus a b c d p q = omega (arith, p, q)
 
-outdated_sum : (n : ℕ) (es : List Entry) → all_outdated n es ≡ sum_by (outdated n) es
+outdated_sum : (n : Known) (es : List Entry) → all_outdated n es ≡ sum_by (outdated n) es
 outdated_sum n [] = refl
 outdated_sum n (e ∷ es) = plus (outdated n e) (all_outdated n es) (sum_by (outdated n) es) (sum_by (outdated n) (e ∷ es)) (outdated_sum n es) (sum_by-cons (outdated n) e es)
   where
@@ -133,7 +134,7 @@ none_nearer n [] top a = top
 none_nearer n (e ∷ es) top a = min_both (farness e) (nearest es) n a.0 (none_nearer n es top a.1)
 
 -- the first entry is the nearest
-module _ {Set : Type 0} (v : View Set) (f : LeastCosts Set) (nodes : List Node) where
+module _ {Set : Type 0} (v : View Set) (f : CostToGo Set) (nodes : List Node) where
   none_before : (e : Entry) (es : List Entry) → IsEntry v f nodes e → AllByRecursion (IsEntry v f nodes) es → AllByRecursion (IsNoLater e) es → AllByRecursion (λ k. farness e ≤ farness k) es
   none_before e [] z a b = tt
   none_before e (k ∷ es) z a b = (no_farther v f nodes e k z a.0 b.0, none_before e es z a.1 b.1)
@@ -145,7 +146,7 @@ module _ {Set : Type 0} (v : View Set) (f : LeastCosts Set) (nodes : List Node) 
       weaker a b lt = omega (arith, lt)
 
   -- e gave way to its children, of which none is out of date and one is nearer
-  pub open_less : (known : ℕ) (es kids new : List Entry) (e : Entry) → Replaced es kids e new → IsEntry v f nodes e → AllByRecursion (IsEntry v f nodes) es → AllByRecursion (IsNoLater e) es → outdated known e ≡ 0 → all_outdated known kids ≡ 0 → 0 < near (farness e) kids → work known new < work known es
+  pub open_less : (known : Known) (es kids new : List Entry) (e : Entry) → Replaced es kids e new → IsEntry v f nodes e → AllByRecursion (IsEntry v f nodes) es → AllByRecursion (IsNoLater e) es → outdated known e ≡ 0 → all_outdated known kids ≡ 0 → 0 < near (farness e) kids → work known new < work known es
   open_less known es kids new e taken z a b own fresh nearer =
       up_to (all_outdated known new) (all_outdated known es) (nearest new) (nearest es) (farthest + 1)
       (few (all_outdated known es) (all_outdated known kids) (outdated known e) (all_outdated known new) (sum_by (outdated known) es) (sum_by (outdated known) kids) (sum_by (outdated known) new) (taken (outdated known)) (outdated_sum known es) (outdated_sum known kids) (outdated_sum known new) fresh)
@@ -164,7 +165,7 @@ module _ {Set : Type 0} (v : View Set) (f : LeastCosts Set) (nodes : List Node) 
       many o k s n p q r h i j l z lt = omega (arith, h, i, j, l, z, lt)
 
 -- e gave way to what is known of it now
-pub learn_less : (known : ℕ) (es others new : List Entry) (e : Entry) → Replaced es others e new → outdated known e ≡ 1 → all_outdated known others ≡ 0 → work known new < work known es
+pub learn_less : (known : Known) (es others new : List Entry) (e : Entry) → Replaced es others e new → outdated known e ≡ 1 → all_outdated known others ≡ 0 → work known new < work known es
 learn_less known es others new e taken own fresh =
     lex (all_outdated known new) (all_outdated known es) (nearest new) (nearest es) (farthest + 1)
     (fewer (all_outdated known es) (all_outdated known others) (outdated known e) (all_outdated known new) (sum_by (outdated known) es) (sum_by (outdated known) others) (sum_by (outdated known) new) (taken (outdated known)) (outdated_sum known es) (outdated_sum known others) (outdated_sum known new) fresh own)
@@ -176,17 +177,25 @@ learn_less known es others new e taken own fresh =
     top : (a b : ℕ) → a ≤ b → a < b + 1
     top a b le = omega (arith, le)
 
-settled_dated : (b : Bool) (a known : ℕ) → b ≡ true → ◌≡◌ {A = ℕ} (cond b 0 (cond (nat_lt a known) 1 0)) 0
-settled_dated b a known e = rw e refl
+settled_dated : (b t : Bool) → b ≡ true → ◌≡◌ {A = ℕ} (cond b 0 (cond t 1 0)) 0
+settled_dated b t e = rw e refl
 
-pub ranked_dated : (known : ℕ) (e : Entry) → e.settled ≡ true → outdated known e ≡ 0
-ranked_dated known e on = settled_dated e.settled (e.bound.0 - e.cost) known on
+pub ranked_dated : (known : Known) (e : Entry) → e.settled ≡ true → outdated known e ≡ 0
+ranked_dated known e on = settled_dated e.settled (nat_lt e.ring.0 known.many || nat_lt e.bound.0 (bound_at known.next e.cost)) on
 
-open_dated : (b : Bool) (a known : ℕ) → b ≡ false → a < known → ◌≡◌ {A = ℕ} (cond b 0 (cond (nat_lt a known) 1 0)) 1
-open_dated b a known e lt = rw e (test_less a known lt)
+less_true : (a b : ℕ) → a < b → nat_lt a b ≡ true
+less_true a b lt = grind (arith, nat_tests)
 
-pub unranked_dated : (known : ℕ) (e : Entry) → e.settled ≡ false → e.bound.0 - e.cost < known → outdated known e ≡ 1
-unranked_dated known e off lt = open_dated e.settled (e.bound.0 - e.cost) known off lt
+open_dated : (b t u : Bool) → b ≡ false → (t ≡ true) ⊎ (u ≡ true) → ◌≡◌ {A = ℕ} (cond b 0 (cond (t || u) 1 0)) 1
+open_dated b t u off (inl e) = rw (off, e) refl
+open_dated b true u off (inr e) = rw off refl
+open_dated b false u off (inr e) = rw (off, e) refl
+
+pub unranked_dated : (known : Known) (e : Entry) → e.settled ≡ false → IsOutdated known e → outdated known e ≡ 1
+unranked_dated known e off old = open_dated e.settled (nat_lt e.ring.0 known.many) (nat_lt e.bound.0 (bound_at known.next e.cost)) off (elim old [
+  | inl lt ↦ inl (less_true e.ring.0 known.many lt)
+  | inr lt ↦ inr (less_true e.bound.0 (bound_at known.next e.cost) lt)
+])
 
 -- an entry that is nearer than another, by what is left and the ring
 pub nearer : (e k : Entry) (from : ℕ) → k.bound.0 ≡ e.bound.0 → k.bound.0 ≡ k.cost + from → (from < e.bound.0 - e.cost) ⊎ ((from ≡ e.bound.0 - e.cost) × (k.ring.0 < e.ring.0)) → k.ring.0 < 2 ^ 64 → farness k < farness e

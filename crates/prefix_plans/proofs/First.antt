@@ -9,9 +9,8 @@ use Rattle.task_system.specs.System.{State, System, Listed, IsPlan, IsPlanOf, co
 use Rattle.symk_task.specs.declared.parts.Mode.TheVariants.{TopK}
 use Rattle.space_api.specs.View.{View}
 use Rattle.lazy_plans.specs.Law.{Last}
-use Rattle.cost_search.specs.Search.{within_of}
-use Rattle.least_costs.specs.Least.{search_of}
-use Rattle.least_costs.specs.declared.search.LeastCosts.{LeastCosts}
+use Rattle.cost_to_go.specs.Standing.{within_of}
+use Rattle.cost_to_go.specs.declared.search.CostToGo.{CostToGo}
 use Rattle.prefix_laws.specs.Queue.{Good, Right, Pending}
 use Rattle.prefix_laws.proofs.Traces.{good_first, plan_by}
 use Rattle.prefix_laws.proofs.Turns.{first_right, first_pends}
@@ -34,8 +33,8 @@ only e (x ∷ []) p =
     ap (λ (k : Entry). k ∷ []) one.0
 only e (x ∷ y ∷ es) p = absurd (omega (arith, length_permutation (e ∷ []) (x ∷ y ∷ es) p))
 
-module _ {Set : Type 0} (y : System) (v : View Set) (b : LeastCosts Set) (inner : Set) (m : StateGraph) (n : Node) (e : Entry) (es : List Entry)
-    (same : v.system ≡ y) (alone : IsAlone v b) (kept : inner ≡ within_of (search_of b)) (graph : IsStateGraph v.system m) (within : n.state < length (states_of m)) (starts : state_at (states_of m) n.state ≡ v.system.initial)
+module _ {Set : Type 0} (y : System) (v : View Set) (b : CostToGo Set) (inner : Set) (m : StateGraph) (n : Node) (e : Entry) (es : List Entry)
+    (same : v.system ≡ y) (alone : IsAlone v b) (kept : inner ≡ within_of b) (graph : IsStateGraph v.system m) (within : n.state < length (states_of m)) (starts : state_at (states_of m) n.state ≡ v.system.initial)
     (put : IsPermutation (e ∷ []) es) (bound : e.bound.0 ≡ 0) (cost : e.cost ≡ 0) (ring : e.ring.0 ≡ 0) (unranked : e.settled ≡ false) (place : e.node ≡ 0)
     (goal : Decides e.at_goal (IsTrue (v.system.goal v.system.initial))) where
   good : Good v.system TopK []
@@ -68,10 +67,12 @@ module _ {Set : Type 0} (y : System) (v : View Set) (b : LeastCosts Set) (inner 
     least = omega (arith, cost);
     span = omega (arith, bound);
     ring = omega (arith, ring);
+    seen = omega (arith, ring);
     range = omega (arith, bound);
     bounds = λ p plan on. omega (arith, bound);
     plan = subst (λ (p : List ℕ). Decides e.at_goal (IsPlan v.system p)) (sym path) (plan_by v.system [] good.end good.runs e.at_goal (subst (λ (s : State). Decides e.at_goal (IsTrue (v.system.goal s))) end goal));
     ranked = λ on. absurd (clash on unranked);
+    looked = λ c i lt r. absurd (omega (arith, lt, ring));
   }
     where
       clash : {t : Bool} → t ≡ true → t ≡ false → ⊥

@@ -1,6 +1,5 @@
-pub mod Layers
+pub mod Ranks
 pub mod Moving
-pub mod Inside
 pub mod Far
 pub mod Growing
 pub mod Reaching

@@ -28,7 +28,7 @@ use Rattle.prefix_tree.proofs.Entries.{first_is, first_in, replaced_by, each_new
 use Rattle.prefix_plans.specs.Left.{LeadsOn}
 use Rattle.prefix_plans.specs.Standing.{KeepsPending}
 use Rattle.prefix_plans.specs.Turned.{TellsLeading, GoesOnFrom, IsDear, TellsLeft}
-use Rattle.prefix_plans.proofs.Layers.{run_inside, inside_run}
+use Rattle.prefix_plans.proofs.Ranks.{run_inside, inside_run}
 
 -- whether a plan goes on from the prefix that ends in s
 pub decides_on : {Set : Type 0} (v : View Set) (a : Set) (e : List ℕ) (s : State) (b : Bool) → TellsLeading v a → Runs v.system v.system.initial e s → b ≡ v.has a s → Decides b (GoesOnFrom v.system e)

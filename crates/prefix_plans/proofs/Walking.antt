@@ -1,5 +1,5 @@
 -- How turns stop, and turns one after the other.
-use Rattle.std.proofs.Common.{◌≡◌, ℕ, ◌+◌, ◌<◌, ◌≤◌, ◌^◌, List, [], ◌∷◌, length, slice_index_or, Option, Some, None, Result, Ok, Err, IfOk, refl, sym, subst, arith}
+use Rattle.std.proofs.Common.{◌≡◌, ℕ, ◌+◌, ◌<◌, ◌≤◌, ◌^◌, inr, IsSome, List, [], ◌∷◌, length, slice_index_or, Option, Some, None, Result, Ok, Err, IfOk, refl, sym, subst, arith}
 use Rattle.std.specs.List.{AllByRecursion}
 use Rattle.symk_task.specs.declared.parts.Mode.TheVariants.{TopK}
 use Rattle.task_system.specs.System.{System}
@@ -7,8 +7,8 @@ use Rattle.space_api.specs.View.{View}
 use Rattle.lazy_plans.specs.Law.{Stays, NoneLeft, Turned, top}
 use Rattle.lazy_plans.specs.declared.stop.Stop.TheVariants.{Memory, CostRange}
 use Rattle.lazy_plans.proofs.Given.{turned_from, stays_trans}
-use Rattle.least_costs.specs.Least.{next_of}
-use Rattle.least_costs.specs.declared.search.LeastCosts.{LeastCosts}
+use Rattle.cost_to_go.specs.Standing.{next_key_of}
+use Rattle.cost_to_go.specs.declared.search.CostToGo.{CostToGo}
 use Rattle.prefix_laws.specs.Queue.{Bounds, Right, Pending}
 use Rattle.prefix_laws.proofs.Owed.{memory_stops}
 use Rattle.prefix_laws.proofs.Turns as turns
@@ -16,6 +16,7 @@ use Rattle.prefix_tree.specs.Entries.{prefixes}
 use Rattle.prefix_tree.specs.declared.tree.Node.{Node}
 use Rattle.prefix_tree.specs.declared.entry.Entry.{Entry}
 use Rattle.prefix_tree.proofs.Entries.{first_is}
+use Rattle.prefix_plans.specs.Left.{Known, known_of, bound_at}
 use Rattle.prefix_plans.specs.Children.{IsEntry}
 use Rattle.prefix_plans.specs.Standing.{KeepsPending}
 use Rattle.prefix_plans.specs.Turned.{Acts, TurnOf, HaltsAt, IsDear}
@@ -33,25 +34,25 @@ pub keeps_trans : (y : System) (most : Option ℕ) (a b c : List Node) (old mid 
 keeps_trans y most a b c old mid new k h = (h.0, stays_trans (Pending y TopK (prefixes a old)) (Pending y TopK (prefixes b mid)) (Pending y TopK (prefixes c new)) k.1 h.1)
 
 -- no entry is left
-pub empty_ends : (y : System) (known : ℕ) (most : Option ℕ) (nodes : List Node) (es : List Entry) → es ≡ [] → Right y TopK most (prefixes nodes es) → HaltsAt y known most nodes nodes es es Ends
+pub empty_ends : (y : System) (known : Known) (most : Option ℕ) (nodes : List Node) (es : List Entry) → es ≡ [] → Right y TopK most (prefixes nodes es) → HaltsAt y known most nodes nodes es es Ends
 empty_ends y known most nodes es none right = (keeps_all y most nodes es right, subst (λ (l : List Entry). NoneLeft y most (Pending y TopK (prefixes nodes l))) (sym none) (turns.empty y TopK most))
 
-bounds_past : {Set : Type 0} (v : View Set) (f : LeastCosts Set) (nodes : List Node) (m : ℕ) (es : List Entry) → AllByRecursion (IsEntry v f nodes) es → AllByRecursion (λ (k : Entry). m < k.bound.0) es → AllByRecursion (λ x. Bounds v.system x (m + 1)) (prefixes nodes es)
+bounds_past : {Set : Type 0} (v : View Set) (f : CostToGo Set) (nodes : List Node) (m : ℕ) (es : List Entry) → AllByRecursion (IsEntry v f nodes) es → AllByRecursion (λ (k : Entry). m < k.bound.0) es → AllByRecursion (λ x. Bounds v.system x (m + 1)) (prefixes nodes es)
 bounds_past v f nodes m [] a b = tt
 bounds_past v f nodes m (k ∷ es) a b = ((λ p plan on. let le = a.0.bounds p plan on in omega (arith, le, b.0)), bounds_past v f nodes m es a.1 b.1)
 
 -- each entry is dearer than what is wanted
-pub past_ends : {Set : Type 0} (v : View Set) (f : LeastCosts Set) (nodes : List Node) (known m : ℕ) (es : List Entry) → AllByRecursion (IsEntry v f nodes) es → AllByRecursion (λ (k : Entry). m < k.bound.0) es → Right v.system TopK (Some m) (prefixes nodes es) → HaltsAt v.system known (Some m) nodes nodes es es Ends
+pub past_ends : {Set : Type 0} (v : View Set) (f : CostToGo Set) (nodes : List Node) (known : Known) (m : ℕ) (es : List Entry) → AllByRecursion (IsEntry v f nodes) es → AllByRecursion (λ (k : Entry). m < k.bound.0) es → Right v.system TopK (Some m) (prefixes nodes es) → HaltsAt v.system known (Some m) nodes nodes es es Ends
 past_ends v f nodes known m es each dear right = (keeps_all v.system (Some m) nodes es right, turns.past v.system TopK m (m + 1) (prefixes nodes es) (bounds_past v f nodes m es each dear) (omega arith))
 
-pub past_some : {Set : Type 0} (v : View Set) (f : LeastCosts Set) (nodes : List Node) (known : ℕ) (most : Option ℕ) (m : ℕ) (es : List Entry) → most ≡ Some m → AllByRecursion (IsEntry v f nodes) es → AllByRecursion (λ (k : Entry). top most < k.bound.0) es → Right v.system TopK most (prefixes nodes es) → HaltsAt v.system known most nodes nodes es es Ends
+pub past_some : {Set : Type 0} (v : View Set) (f : CostToGo Set) (nodes : List Node) (known : Known) (most : Option ℕ) (m : ℕ) (es : List Entry) → most ≡ Some m → AllByRecursion (IsEntry v f nodes) es → AllByRecursion (λ (k : Entry). top most < k.bound.0) es → Right v.system TopK most (prefixes nodes es) → HaltsAt v.system known most nodes nodes es es Ends
 past_some v f nodes known None m es is each dear right = absurd (none_some is)
   where
     none_some : None ≡ Some m → ⊥
     none_some e = cc
 past_some v f nodes known (Some n) m es is each dear right = past_ends v f nodes known n es each dear right
 
-pub dear_each : {Set : Type 0} (v : View Set) (f : LeastCosts Set) (nodes : List Node) (es : List Entry) → AllByRecursion (IsEntry v f nodes) es → AllByRecursion (λ (k : Entry). top None < k.bound.0) es → AllByRecursion (IsDear v.system nodes) es
+pub dear_each : {Set : Type 0} (v : View Set) (f : CostToGo Set) (nodes : List Node) (es : List Entry) → AllByRecursion (IsEntry v f nodes) es → AllByRecursion (λ (k : Entry). top None < k.bound.0) es → AllByRecursion (IsDear v.system nodes) es
 dear_each v f nodes [] a b = tt
 dear_each v f nodes (k ∷ es) a b = (record { inside = a.0.inside; bounds = λ p plan on. let le = a.0.bounds p plan on in omega (arith, le, b.0) }, dear_each v f nodes es a.1 b.1)
 
@@ -60,23 +61,28 @@ pub all_past : (n : ℕ) (e : Entry) (es : List Entry) → n < e.bound.0 → All
 all_past n e [] lt a = tt
 all_past n e (k ∷ es) lt a = (omega (arith, lt, a.0), all_past n e es lt a.1)
 
+-- a bound in range that is all that is known is so by what waits
+something_waits : (o : Option ℕ) (g b m : ℕ) → b ≤ m → m < 2 ^ 64 → ¬ (b < bound_at o g) → IsSome o
+something_waits None g b m cheap range all = absurd (all (omega (arith, cheap, range)))
+something_waits (Some n) g b m cheap range all = refl
+
 -- what was done with the first entry is a turn
-pub turn_acts : {Set : Type 0} (v : View Set) (f : LeastCosts Set) (most : Option ℕ) (a b : List Node) (e : Entry) (old new : List Entry) (o : Option Halt) → AllByRecursion (IsEntry v f a) old → 0 < length old → e ≡ slice_index_or old 0 e → e.bound.0 ≤ top most → top most < 2 ^ 64 → Right v.system TopK most (prefixes a old) → Acts v f a b e old new o → TurnOf v.system (next_of f) most a b old new o
+pub turn_acts : {Set : Type 0} (v : View Set) (f : CostToGo Set) (most : Option ℕ) (a b : List Node) (e : Entry) (old new : List Entry) (o : Option Halt) → AllByRecursion (IsEntry v f a) old → 0 < length old → e ≡ slice_index_or old 0 e → e.bound.0 ≤ top most → top most < 2 ^ 64 → Right v.system TopK most (prefixes a old) → Acts v f a b e old new o → TurnOf v.system (known_of f) most a b old new o
 turn_acts v f most a b e old new None each some first cheap range right h = h most right
 turn_acts v f most a b e old new (Some (Gives p)) each some first cheap range right h =
     let z = first_is (IsEntry v f a) old e some first each in
     h most right (omega (arith, z.least, cheap))
 turn_acts v f most a b e old new (Some Waits) each some first cheap range right h =
     let same : prefixes b new ≡ prefixes a old = subst (λ (c : List Node). prefixes c new ≡ prefixes a old) (sym h.0) (subst (λ (l : List Entry). prefixes a l ≡ prefixes a old) (sym h.1) refl) in
-    (keeps_same v.system most a b old new right same, omega (arith, h.2, cheap, range))
+    (keeps_same v.system most a b old new right same, something_waits (next_key_of f) e.cost e.bound.0 (top most) cheap range (λ lt. h.2 (inr lt)))
 turn_acts v f most a b e old new (Some Ends) each some first cheap range right h = absurd h
 turn_acts v f most a b e old new (Some OutOfRange) each some first cheap range right h = absurd h
 
-pub acts_ok : {Set E : Type 0} (v : View Set) (f : LeastCosts Set) (most : Option ℕ) (a b : List Node) (e : Entry) (old new : List Entry) (r : Result (Option Halt) E) → AllByRecursion (IsEntry v f a) old → 0 < length old → e ≡ slice_index_or old 0 e → e.bound.0 ≤ top most → top most < 2 ^ 64 → Right v.system TopK most (prefixes a old) → IfOk r (Acts v f a b e old new) → IfOk r (TurnOf v.system (next_of f) most a b old new)
+pub acts_ok : {Set E : Type 0} (v : View Set) (f : CostToGo Set) (most : Option ℕ) (a b : List Node) (e : Entry) (old new : List Entry) (r : Result (Option Halt) E) → AllByRecursion (IsEntry v f a) old → 0 < length old → e ≡ slice_index_or old 0 e → e.bound.0 ≤ top most → top most < 2 ^ 64 → Right v.system TopK most (prefixes a old) → IfOk r (Acts v f a b e old new) → IfOk r (TurnOf v.system (known_of f) most a b old new)
 acts_ok v f most a b e old new (Ok o) each some first cheap range right h = turn_acts v f most a b e old new o each some first cheap range right h
 acts_ok v f most a b e old new (Err x) each some first cheap range right h = h
 
-module _ (y : System) (known : ℕ) (most : Option ℕ) (a b c : List Node) (old mid new : List Entry) (keeps : KeepsPending y most a b old mid) where
+module _ (y : System) (known : Known) (most : Option ℕ) (a b c : List Node) (old mid new : List Entry) (keeps : KeepsPending y most a b old mid) where
   -- after turns that went on
   pub halts_after : (halt : Halt) → HaltsAt y known most b c mid new halt → HaltsAt y known most a c old new halt
   halts_after (Gives p) h = (h.0, turned_from y TopK most (Pending y TopK (prefixes a old)) (Pending y TopK (prefixes b mid)) (Pending y TopK (prefixes c new)) (Ok (Some p)) keeps.1 h.1)
@@ -89,7 +95,7 @@ module _ (y : System) (known : ℕ) (most : Option ℕ) (a b c : List Node) (old
       ((h.0.0, t.1), t.0)
 
 -- what a call answers
-module _ (y : System) (known : ℕ) (most : Option ℕ) (a b : List Node) (old new : List Entry) where
+module _ (y : System) (known : Known) (most : Option ℕ) (a b : List Node) (old new : List Entry) where
   pub law_gives : (p : List ℕ) → HaltsAt y known most a b old new (Gives p) → Turned y TopK most (Pending y TopK (prefixes a old)) (Pending y TopK (prefixes b new)) (Ok (Some p))
   law_gives p h = h.1
 

@@ -34,7 +34,7 @@ tells view x p = tells_owed (view x.space).system TopK (prefixes x.tree.items (e
 abbrev pub IsEngine : {S Set : Type 0} → (S → View Set) → PrefixPlans S Set → Type 0
 IsEngine view x = IsSound (view x.space) x.search x.within x.graph x.tree.items x.most (entries_of x.queue) x.held x.ended
 
--- every valid set is one of the search back, or the one that it is kept to
+-- every valid set is one of the search, or the one that it is kept to
 abbrev pub KeepsAll : {S Set : Type 0} → (S → View Set) → PrefixPlans S Set → Type 0
 KeepsAll {S} {Set} view x = (a : Set) → Valid (view x.space) a → IsBeneath x.search a
 

@@ -4,9 +4,8 @@ use Rattle.symk_task.specs.declared.parts.Mode.TheVariants.{TopK}
 use Rattle.space_api.specs.View.{View}
 use Rattle.lazy_plans.specs.Law.{Last, Ended, Turned, last_of}
 use Rattle.lazy_plans.specs.declared.stop.Stop.{Stop}
-use Rattle.cost_search.specs.Search.{within_of}
-use Rattle.least_costs.specs.Least.{search_of}
-use Rattle.least_costs.specs.declared.search.LeastCosts.{LeastCosts}
+use Rattle.cost_to_go.specs.Standing.{within_of}
+use Rattle.cost_to_go.specs.declared.search.CostToGo.{CostToGo}
 use Rattle.prefix_laws.specs.Queue.{Right}
 use Rattle.prefix_laws.specs.Owing.{Owes, IsHeld}
 use Rattle.prefix_tree.specs.Entries.{prefixes}
@@ -21,9 +20,9 @@ IsTidy v = v.held ≤ 2 * v.last + 1000
 
 -- what every engine meets between two calls: the queue stands, what was answered last still holds, and where no plan was left
 -- the space is tidy
-pub record IsSound {Set : Type 0} (v : View Set) (f : LeastCosts Set) (within : Set) (m : StateGraph) (nodes : List Node) (most : Option ℕ) (es : List Entry) (held : Option (List ℕ)) (ended : Last) : Type 0 where
+pub record IsSound {Set : Type 0} (v : View Set) (f : CostToGo Set) (within : Set) (m : StateGraph) (nodes : List Node) (most : Option ℕ) (es : List Entry) (held : Option (List ℕ)) (ended : Last) : Type 0 where
   pub ready : IsReady v f m nodes es
-  pub kept : within ≡ within_of (search_of f)
+  pub kept : within ≡ within_of f
   pub right : Right v.system TopK most (prefixes nodes es)
   pub holds : IsHeld v.system TopK held ended
   pub said : Ended v.system most (Owes v.system TopK (prefixes nodes es) held) ended

@@ -5,8 +5,7 @@ ghost use Rattle.space_api.specs.View.{View, Valid};
 ghost use Rattle.prefix_plans.specs.Engine.{system_of, most_of, ended_of, IsEngine, HasNone, HasAlone, HasUseful, OwesAll};
 
 use crate::engine::PrefixPlans;
-use crate::racing::keep_to_reached;
-use least_costs::{LeastCosts, Side};
+use cost_to_go::CostToGo;
 use prefix_tree::{Entry, Node, Queue, StateGraph, number_of_start};
 use single_states::goal_at;
 use space_api::Space;
@@ -15,9 +14,8 @@ use std::cmp::Reverse;
 use symk_task::Memory;
 
 impl<S: Space + Drop> PrefixPlans<S> {
-    /// All plans of the space's system that cost at most `most`, where it is given. No plan is taken
-    /// yet: each one pends. The search back is kept to `within`, and to the states that are reached where these
-    /// are soon found.
+    /// All plans of the space's system that cost at most `most`, where it is given. No plan is taken yet: each one pends.
+    /// The search is kept to `within`.
     ///
     /// The caller knows that `within` has each useful state and alone is valid.
     fn begin(
@@ -36,8 +34,7 @@ impl<S: Space + Drop> PrefixPlans<S> {
         ensures last { IfOk result (λ x. ended_of x ≡ None) }
     {
         let mut space = space;
-        let search = LeastCosts::new(alloc, &mut space, Side::Back, within)?;
-        let kept = keep_to_reached(alloc, &mut space, search, within, most)?;
+        let search = CostToGo::new(alloc, &mut space, within)?;
         let mut graph = StateGraph::new(alloc);
         let start = number_of_start(alloc, &space, &mut graph)?;
         let at_goal = goal_at(alloc, &space, graph.state(start))?;
@@ -58,8 +55,8 @@ impl<S: Space + Drop> PrefixPlans<S> {
         })?;
         Ok(PrefixPlans {
             space,
-            search: kept.search,
-            within: kept.within,
+            search,
+            within,
             graph,
             tree,
             queue,
@@ -71,8 +68,7 @@ impl<S: Space + Drop> PrefixPlans<S> {
 
     /// All plans of the space's system. No plan is taken yet: each one pends.
     ///
-    /// The search back is kept to `within`, which the caller knows to have each useful state and to be the one
-    /// valid set.
+    /// The search is kept to `within`, which the caller knows to have each useful state and to be the one valid set.
     pub fn new_within(alloc: Global, space: S, within: S::Set) -> Result<PrefixPlans<S>, Memory>
         requires within { Valid (S.view space) within }
         requires alone { HasAlone (S.view space) within }

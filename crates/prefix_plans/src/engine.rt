@@ -1,7 +1,7 @@
 //! The engine: all plans, the cheapest first.
 
+use cost_to_go::CostToGo;
 use lazy_plans::Stop;
-use least_costs::LeastCosts;
 use prefix_tree::{Node, Queue, StateGraph};
 use space_api::Space;
 use symk_task::Plan;
@@ -10,9 +10,9 @@ use symk_task::Plan;
 #[derive(Drop)]
 pub struct PrefixPlans<S: Space> {
     pub(crate) space: S,
-    /// The search back from the goal.
-    pub(crate) search: LeastCosts<S::Set>,
-    /// The states that it is kept to.
+    /// The search from both ends.
+    pub(crate) search: CostToGo<S::Set>,
+    /// The states that its ranks are kept to.
     pub(crate) within: S::Set,
     /// The states to which prefixes come.
     pub(crate) graph: StateGraph,
@@ -98,7 +98,7 @@ impl<S: Space> LazyPlans for PrefixPlans<S> {
     ghost last = { λ x. ended_of x };
 
     /// The next plan. One turn is one step. After each call, also one that is refused, every valid set is one
-    /// of the search back, or the one that it is kept to. After a plan or None the space is tidy.
+    /// of the search, or the one that it is kept to. After a plan or None the space is tidy.
     fn next_plan<L: Ledger>(
         &mut self,
         alloc: Global,

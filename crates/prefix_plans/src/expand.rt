@@ -6,12 +6,12 @@ ghost use Rattle.space_api.specs.View.{View};
 ghost use Rattle.prefix_tree.specs.Tree.{IsTree, Grows, path_at, end_at};
 ghost use Rattle.prefix_tree.specs.StateGraph.{states_of, IsStateGraph, IsMove, AreMoves};
 ghost use Rattle.prefix_tree.specs.Entries.{HasRoom, entries_of};
-ghost use Rattle.prefix_plans.specs.Left.{IsBack};
+ghost use Rattle.cost_to_go.specs.Standing.{IsCostToGo};
 ghost use Rattle.prefix_plans.specs.Children.{IsEntry, Added, AreChildren};
 
-use crate::left::{Left, left_after};
+use crate::left::Left;
 use crate::reach::reach;
-use least_costs::LeastCosts;
+use cost_to_go::CostToGo;
 use prefix_tree::{Entry, Move, Node, Queue, StateGraph, add, find_moves, node_at};
 use space_api::{Space, SpaceFault};
 use std::alloc::Global;
@@ -45,14 +45,14 @@ pub(crate) fn entry_of(cost: u128, left: Left, node: usize, at_goal: bool) -> En
 fn add_child<S: Space>(
     alloc: Global,
     space: &S,
-    search: &LeastCosts<S::Set>,
+    search: &CostToGo<S::Set>,
     graph: &StateGraph,
     tree: &mut Vec<Node>,
     entry: Entry,
     step: Move,
     children: &mut Vec<Entry>,
 ) -> Result<(), SpaceFault>
-    requires search { IsBack (S.view space.now) search.now }
+    requires search { IsCostToGo (S.view space.now) search.now }
     requires graph { IsStateGraph (S.view space.now).system graph.now }
     requires tree { IsTree (S.view space.now).system TopK (states_of graph.now) tree.old.items }
     requires entry { IsEntry (S.view space.now) search.now tree.old.items entry }
@@ -62,13 +62,11 @@ fn add_child<S: Space>(
     ensures added { OnOk result (Added (S.view space.now) search.now tree.new.items
         (path_at tree.old.items entry.node) step.op children.old.items children.new.items) }
 {
-    let cost = entry.cost + space.cost_of(step.op) as u128;
-    let low = left_after(entry.bound.0, cost);
-    match reach(alloc, space, search, graph, tree, entry.node, step, low)? {
+    match reach(alloc, space, search, graph, tree, entry, step)? {
         None => Ok(()),
         Some(to) => {
             let node = add(tree, entry.node, step.op, step.to)?;
-            children.push(entry_of(cost, to.left, node, to.at_goal))?;
+            children.push(entry_of(to.cost, to.left, node, to.at_goal))?;
             Ok(())
         }
     }
@@ -79,14 +77,14 @@ fn add_child<S: Space>(
 fn add_all<S: Space>(
     alloc: Global,
     space: &S,
-    search: &LeastCosts<S::Set>,
+    search: &CostToGo<S::Set>,
     graph: &StateGraph,
     tree: &mut Vec<Node>,
     entry: Entry,
     moves: &[Move],
     children: &mut Vec<Entry>,
 ) -> Result<(), SpaceFault>
-    requires search { IsBack (S.view space.now) search.now }
+    requires search { IsCostToGo (S.view space.now) search.now }
     requires graph { IsStateGraph (S.view space.now).system graph.now }
     requires tree { IsTree (S.view space.now).system TopK (states_of graph.now) tree.old.items }
     requires entry { IsEntry (S.view space.now) search.now tree.old.items entry }
@@ -107,13 +105,13 @@ fn add_all<S: Space>(
 pub(crate) fn expand<S: Space>(
     alloc: Global,
     space: &S,
-    search: &LeastCosts<S::Set>,
+    search: &CostToGo<S::Set>,
     graph: &mut StateGraph,
     tree: &mut Vec<Node>,
     queue: &mut Queue,
     entry: Entry,
 ) -> Result<Vec<Entry>, SpaceFault>
-    requires search { IsBack (S.view space.now) search.now }
+    requires search { IsCostToGo (S.view space.now) search.now }
     requires graph { IsStateGraph (S.view space.now).system graph.old }
     requires tree { IsTree (S.view space.now).system TopK (states_of graph.old) tree.old.items }
     requires entry { IsEntry (S.view space.now) search.now tree.old.items entry }

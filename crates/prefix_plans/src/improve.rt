@@ -1,28 +1,28 @@
-//! Entries whose last state is not ranked yet.
+//! Entries whose last state had no rank.
 
 ghost use Rattle.symk_task.specs.declared.parts.Mode.TheVariants.{TopK};
 ghost use Rattle.space_api.specs.View.{View};
 ghost use Rattle.prefix_tree.specs.StateGraph.{states_of, IsStateGraph};
 ghost use Rattle.prefix_tree.specs.Tree.{IsTree};
-ghost use Rattle.prefix_plans.specs.Left.{IsBack};
+ghost use Rattle.cost_to_go.specs.Standing.{IsCostToGo};
 ghost use Rattle.prefix_plans.specs.Children.{IsEntry};
 ghost use Rattle.prefix_plans.specs.Standing.{IsBetter};
 
 use crate::expand::entry_of;
 use crate::left::{left_after, left_from};
-use least_costs::LeastCosts;
+use cost_to_go::CostToGo;
 use prefix_tree::{Entry, Node, StateGraph, node_at};
 use space_api::Space;
 
-/// The entry with what the search back knows now; None where no plan goes on from it.
+/// The entry with what the search knows now; None where no plan goes on from it.
 pub(crate) fn improve<S: Space>(
     space: &S,
-    search: &LeastCosts<S::Set>,
+    search: &CostToGo<S::Set>,
     graph: &StateGraph,
     tree: &[Node],
     entry: Entry,
 ) -> Option<Entry>
-    requires search { IsBack (S.view space.now) search.now }
+    requires search { IsCostToGo (S.view space.now) search.now }
     requires graph { IsStateGraph (S.view space.now).system graph.now }
     requires tree { IsTree (S.view space.now).system TopK (states_of graph.now) tree.now }
     requires entry { IsEntry (S.view space.now) search.now tree.now entry }
@@ -30,7 +30,8 @@ pub(crate) fn improve<S: Space>(
 {
     let low = left_after(entry.bound.0, entry.cost);
     let here = node_at(tree, entry.node);
-    match left_from(space, search, graph.state(here.state), low) {
+    let state = graph.state(here.state);
+    match left_from(space, search, state, entry.cost, entry.ring.0, low) {
         None => None,
         Some(left) => Some(entry_of(entry.cost, left, entry.node, entry.at_goal)),
     }

@@ -6,7 +6,7 @@ ghost use Rattle.std.specs.List.{AllByRecursion};
 ghost use Rattle.symk_task.specs.declared.parts.Mode.TheVariants.{TopK};
 ghost use Rattle.space_api.specs.View.{View, Valid};
 ghost use Rattle.space_api.specs.Frames.{Stays};
-ghost use Rattle.least_costs.specs.declared.search.LeastCosts.{LeastCosts};
+ghost use Rattle.cost_to_go.specs.declared.search.CostToGo.{CostToGo};
 ghost use Rattle.prefix_laws.specs.Queue.{Right};
 ghost use Rattle.prefix_tree.specs.Entries.{entries_of, prefixes};
 ghost use Rattle.prefix_tree.specs.StateGraph.{states_of, IsStateGraph};
@@ -61,7 +61,7 @@ fn some_goes_on<S: Space, L: Ledger>(
     requires tree { IsTree (S.view space.now).system TopK (states_of graph.now) tree.now }
     requires right { Right (S.view space.now).system TopK None (prefixes tree.now (entries_of queue.old)) }
     requires dear { AllByRecursion (IsDear (S.view space.now).system tree.now) (entries_of queue.old) }
-    ensures each { (w : View S.Set) (f : LeastCosts S.Set) → AllByRecursion (IsEntry w f tree.now)
+    ensures each { (w : View S.Set) (f : CostToGo S.Set) → AllByRecursion (IsEntry w f tree.now)
         (entries_of queue.old) → AllByRecursion (IsEntry w f tree.now) (entries_of queue.new) }
     ensures keeps { KeepsPending (S.view space.now).system None tree.now tree.now (entries_of queue.old)
         (entries_of queue.new) }
@@ -100,7 +100,7 @@ pub(crate) fn is_left<S: Space, L: Ledger>(
     requires right { Right (S.view space.old).system TopK None (prefixes tree.now (entries_of queue.old)) }
     requires dear { AllByRecursion (IsDear (S.view space.old).system tree.now) (entries_of queue.old) }
     ensures stays { Stays (S.view space.old) (S.view space.new) }
-    ensures each { (w : View S.Set) (f : LeastCosts S.Set) → AllByRecursion (IsEntry w f tree.now)
+    ensures each { (w : View S.Set) (f : CostToGo S.Set) → AllByRecursion (IsEntry w f tree.now)
         (entries_of queue.old) → AllByRecursion (IsEntry w f tree.now) (entries_of queue.new) }
     ensures keeps { KeepsPending (S.view space.old).system None tree.now tree.now (entries_of queue.old)
         (entries_of queue.new) }

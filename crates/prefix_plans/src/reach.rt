@@ -1,18 +1,20 @@
 //! What is known of a state that a prefix may go on to.
 
-ghost use Rattle.std.specs.Prelude.{◌<◌, ◌++◌, ◌∷◌, [], IsTrue, IfOk, length};
+ghost use Rattle.std.specs.Prelude.{IsTrue, IfOk};
 ghost use Rattle.std.specs.Bool.{Decides};
 ghost use Rattle.symk_task.specs.declared.parts.Mode.TheVariants.{TopK};
 ghost use Rattle.space_api.specs.View.{View};
 ghost use Rattle.single_states.specs.States.{IsReached};
 ghost use Rattle.prefix_tree.specs.StateGraph.{states_of, IsStateGraph, IsMove};
 ghost use Rattle.prefix_tree.specs.Tree.{IsTree, path_at, end_at};
-ghost use Rattle.prefix_plans.specs.Left.{IsBack, CostsAtLeast, EndsAtLeast};
+ghost use Rattle.cost_to_go.specs.Standing.{IsCostToGo};
+ghost use Rattle.cost_to_go.specs.Telling.{CostsAtLeast};
+ghost use Rattle.prefix_plans.specs.Children.{IsEntry};
 ghost use Rattle.prefix_plans.specs.Reach.{IsReach};
 
-use crate::left::{Left, left_from};
-use least_costs::LeastCosts;
-use prefix_tree::{Move, Node, StateGraph};
+use crate::left::{Left, left_after, left_from};
+use cost_to_go::CostToGo;
+use prefix_tree::{Entry, Move, Node, StateGraph};
 use single_states::goal_at;
 use space_api::{Space, SpaceFault};
 use std::alloc::Global;
@@ -21,6 +23,8 @@ use symk_task::State;
 /// What is known of a state that a prefix may go on to.
 #[derive(Clone, Copy)]
 pub(crate) struct Reached {
+    /// What the longer prefix costs.
+    pub(crate) cost: u128,
     pub(crate) left: Left,
     pub(crate) at_goal: bool,
 }
@@ -42,33 +46,36 @@ fn goal_after<S: Space>(
     goal_at(alloc, space, state)
 }
 
-/// What is known of the state to which the move leads from the end of the prefix; None where no plan goes on so. The
-/// caller knows that no less than `low` is left there.
+/// What is known of the state to which the move leads from the end of the entry's prefix; None where no plan goes on so.
 pub(crate) fn reach<S: Space>(
     alloc: Global,
     space: &S,
-    search: &LeastCosts<S::Set>,
+    search: &CostToGo<S::Set>,
     graph: &StateGraph,
     tree: &[Node],
-    node: usize,
+    entry: Entry,
     step: Move,
-    low: u64,
 ) -> Result<Option<Reached>, SpaceFault>
-    requires search { IsBack (S.view space.now) search.now }
+    requires search { IsCostToGo (S.view space.now) search.now }
     requires graph { IsStateGraph (S.view space.now).system graph.now }
     requires tree { IsTree (S.view space.now).system TopK (states_of graph.now) tree.now }
-    requires node { node < length tree.now }
+    requires entry { IsEntry (S.view space.now) search.now tree.now entry }
     requires step { IsMove (S.view space.now).system (states_of graph.now)
-        (end_at (states_of graph.now) tree.now node) step }
-    requires low { EndsAtLeast (S.view space.now).system (path_at tree.now node ++ step.op ∷ []) low }
-    ensures { IfOk result (IsReach (S.view space.now) search.now (path_at tree.now node) step.op) }
+        (end_at (states_of graph.now) tree.now entry.node) step }
+    ensures { IfOk result (IsReach (S.view space.now) search.now (path_at tree.now entry.node) step.op) }
 {
     let next = graph.state(step.to);
-    match left_from(space, search, next, low) {
+    let cost = entry.cost + space.cost_of(step.op) as u128;
+    let low = left_after(entry.bound.0, cost);
+    match left_from(space, search, next, cost, 0, low) {
         None => Ok(None),
         Some(left) => {
             let at_goal = goal_after(alloc, space, next, left)?;
-            Ok(Some(Reached { left, at_goal }))
+            Ok(Some(Reached {
+                cost,
+                left,
+                at_goal,
+            }))
         }
     }
 }

@@ -1,18 +1,19 @@
 //! What is done with the first entry of the queue.
 
-ghost use Rattle.std.specs.Prelude.{◌≡◌, ◌+◌, ◌-◌, ◌<◌, IsTrue, IsFalse, All, IfOk, OnOk, OnErr, length, slice_index_or};
+ghost use Rattle.std.specs.Prelude.{◌≡◌, ◌+◌, ◌<◌, IsTrue, IsFalse, All, IfOk, OnOk, OnErr, length, slice_index_or};
 ghost use Rattle.space_api.specs.View.{View};
-ghost use Rattle.least_costs.specs.Least.{next_of};
 ghost use Rattle.prefix_tree.specs.Tree.{AreLinked};
 ghost use Rattle.prefix_tree.specs.Order.{IsNoLater};
 ghost use Rattle.prefix_tree.specs.Entries.{entries_of};
 ghost use Rattle.prefix_tree.specs.Entries.{prefixes};
+ghost use Rattle.prefix_plans.specs.Left.{known_of};
+ghost use Rattle.prefix_plans.specs.Children.{IsOutdated};
 ghost use Rattle.prefix_plans.specs.Standing.{IsReady, GoesOn, Opens, IsPlanAt, listed_of};
 
 use crate::expand::expand;
 use crate::improve::improve;
+use cost_to_go::CostToGo;
 use lazy_plans::Steps;
-use least_costs::LeastCosts;
 use prefix_tree::{Entry, Node, Queue, StateGraph, operators_to};
 use space_api::{Space, SpaceFault};
 use std::alloc::{AllocError, Global};
@@ -36,11 +37,11 @@ fn one_or_none(alloc: Global, entry: Option<Entry>) -> Result<Vec<Entry>, AllocE
 /// A turn that learns more of the first entry's bound, which puts it where it then belongs, or takes it out where no
 /// plan goes on from it. Want of memory leaves the entries.
 ///
-/// The search back has gone on since the bound was told.
+/// The search has gone on since the bound was told.
 pub(crate) fn learn<S: Space, L: Ledger>(
     alloc: Global,
     space: &S,
-    search: &LeastCosts<S::Set>,
+    search: &CostToGo<S::Set>,
     graph: &StateGraph,
     tree: &[Node],
     queue: &mut Queue,
@@ -51,7 +52,7 @@ pub(crate) fn learn<S: Space, L: Ledger>(
     requires some { 0 < length (entries_of queue.old) }
     requires first { entry ≡ slice_index_or (entries_of queue.old) 0 entry }
     requires open { IsFalse entry.settled }
-    requires more { entry.bound.0 - entry.cost < next_of search.now }
+    requires more { IsOutdated (known_of search.now) entry }
     ensures ready { IsReady (S.view space.now) search.now graph.now tree.now (entries_of queue.new) }
     ensures ok { OnOk result (GoesOn (S.view space.now) search.now tree.now tree.now
         (entries_of queue.old) (entries_of queue.new)) }
@@ -83,7 +84,7 @@ fn plan_of(alloc: Global, tree: &[Node], entry: Entry) -> Result<Option<Plan>, A
 pub(crate) fn open<S: Space, L: Ledger>(
     alloc: Global,
     space: &S,
-    search: &LeastCosts<S::Set>,
+    search: &CostToGo<S::Set>,
     graph: &mut StateGraph,
     tree: &mut Vec<Node>,
     queue: &mut Queue,

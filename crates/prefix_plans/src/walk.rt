@@ -1,26 +1,27 @@
 //! Turns of the queue, until a plan is given.
 
-ghost use Rattle.std.specs.Prelude.{◌≡◌, ◌-◌, ◌<◌, ◌≤◌, ◌^◌, All, IfOk, OnOk, OnErr, List, length, slice_index_or};
+ghost use Rattle.std.specs.Prelude.{◌≡◌, ◌+◌, ◌<◌, ◌^◌, All, IfOk, OnOk, OnErr, IsSome, List, length, slice_index_or};
 ghost use Rattle.std.specs.Bool.{Decides};
 ghost use Rattle.std.specs.List.{AllByRecursion};
 ghost use Rattle.symk_task.specs.declared.parts.Mode.TheVariants.{TopK};
 ghost use Rattle.space_api.specs.View.{View};
 ghost use Rattle.lazy_plans.specs.Law.{Turned, top};
-ghost use Rattle.cost_search.specs.Search.{within_of};
-ghost use Rattle.least_costs.specs.Least.{search_of, next_of};
+ghost use Rattle.cost_to_go.specs.Standing.{within_of, next_key_of, steps_left};
 ghost use Rattle.prefix_laws.specs.Queue.{Right, Pending};
 ghost use Rattle.prefix_tree.specs.Order.{IsNoLater};
 ghost use Rattle.prefix_tree.specs.Entries.{entries_of, prefixes};
 ghost use Rattle.prefix_tree.specs.declared.entry.Entry.{Entry};
 ghost use Rattle.prefix_tree.specs.declared.tree.Node.{Node};
 ghost use Rattle.prefix_tree.specs.declared.state_graph.StateGraph.{StateGraph};
+ghost use Rattle.prefix_plans.specs.Left.{known_of, bound_at};
+ghost use Rattle.prefix_plans.specs.Children.{IsOutdated};
 ghost use Rattle.prefix_plans.specs.Standing.{IsAlone, IsReady, KeepsPending};
 ghost use Rattle.prefix_plans.specs.Turned.{Acts, TurnOf, HaltsAt, CountsTurn};
 
 use crate::range::is_left;
 use crate::turn::{learn, open};
+use cost_to_go::CostToGo;
 use lazy_plans::{Steps, Stop};
-use least_costs::LeastCosts;
 use prefix_tree::{Entry, Node, Queue, StateGraph};
 use space_api::{Space, SpaceFault};
 use std::alloc::Global;
@@ -32,7 +33,7 @@ use symk_task::Plan;
 pub(crate) enum Halt {
     /// The first entry is this plan.
     Gives(Plan),
-    /// The last state of the first entry is not ranked yet: the search back has to go on.
+    /// The last state of the first entry has no rank yet: the search has to go on.
     Waits,
     /// No plan is left that is wanted.
     Ends,
@@ -50,20 +51,32 @@ fn top_of(most: Option<u64>) -> u64
     }
 }
 
-/// Whether the search back knows more than the bound of the entry says.
-fn is_known<T: Copy>(search: &LeastCosts<T>, entry: Entry) -> bool
-    requires { entry.cost ≤ entry.bound.0 }
-    ensures { Decides result (entry.bound.0 - entry.cost < next_of search.now) }
+/// The least bound of a prefix of this cost whose last state has no rank.
+fn least_bound<T: Copy>(search: &CostToGo<T>, cost: u128) -> u128
+    requires { cost + 2 ^ 64 < 2 ^ 128 }
+    ensures { result ≡ bound_at (next_key_of search.now) cost }
 {
-    entry.bound.0 - entry.cost < search.layers().known_below()
+    let most = cost + (1 << 64);
+    match search.next() {
+        Some(next) => next.min(most),
+        None => most,
+    }
 }
 
-/// What is done with the first entry: it is opened where its last state is ranked; else more is
-/// learned of it, where more is known.
+/// Whether the search knows more than the entry says, whose last state had no rank.
+fn is_outdated<T: Copy>(search: &CostToGo<T>, entry: Entry) -> bool
+    requires { entry.cost + 2 ^ 64 < 2 ^ 128 }
+    ensures { Decides result (IsOutdated (known_of search.now) entry) }
+{
+    entry.ring.0 < search.ranks() || entry.bound.0 < least_bound(search, entry.cost)
+}
+
+/// What is done with the first entry: it is opened where its last state is ranked; else more is learned of it, where
+/// more is known.
 fn act<S: Space, L: Ledger>(
     alloc: Global,
     space: &S,
-    search: &LeastCosts<S::Set>,
+    search: &CostToGo<S::Set>,
     graph: &mut StateGraph,
     tree: &mut Vec<Node>,
     queue: &mut Queue,
@@ -88,7 +101,7 @@ fn act<S: Space, L: Ledger>(
             Some(plan) => Ok(Some(Halt::Gives(plan))),
         };
     }
-    if !is_known(search, entry) {
+    if !is_outdated(search, entry) {
         return Ok(Some(Halt::Waits));
     }
     learn(alloc, space, search, graph, tree, queue, entry, steps)?;
@@ -99,7 +112,7 @@ fn act<S: Space, L: Ledger>(
 fn end<S: Space, L: Ledger>(
     alloc: Global,
     space: &mut S,
-    search: &LeastCosts<S::Set>,
+    search: &CostToGo<S::Set>,
     within: S::Set,
     graph: &StateGraph,
     tree: &[Node],
@@ -108,12 +121,12 @@ fn end<S: Space, L: Ledger>(
     steps: &mut Steps<L>,
 ) -> Result<Halt, SpaceFault>
     requires ready { IsReady (S.view space.old) search.now graph.now tree.now (entries_of queue.old) }
-    requires within { within ≡ within_of (search_of search.now) }
+    requires within { within ≡ within_of search.now }
     requires right { Right (S.view space.old).system TopK most (prefixes tree.now (entries_of queue.old)) }
     requires dear { AllByRecursion (λ (k : Entry). top most < k.bound.0) (entries_of queue.old) }
     ensures system { (S.view space.new).system ≡ (S.view space.old).system }
     ensures ready { IsReady (S.view space.new) search.now graph.now tree.now (entries_of queue.new) }
-    ensures ok { IfOk result (HaltsAt (S.view space.old).system (next_of search.now) most tree.now tree.now
+    ensures ok { IfOk result (HaltsAt (S.view space.old).system (known_of search.now) most tree.now tree.now
         (entries_of queue.old) (entries_of queue.new)) }
     ensures last { IfOk result (λ halt. CountsTurn steps.old steps.new (Some halt)) }
     ensures err { OnErr result (KeepsPending (S.view space.old).system most tree.now tree.now
@@ -134,7 +147,7 @@ fn end<S: Space, L: Ledger>(
 fn take_turn<S: Space, L: Ledger>(
     alloc: Global,
     space: &mut S,
-    search: &LeastCosts<S::Set>,
+    search: &CostToGo<S::Set>,
     within: S::Set,
     graph: &mut StateGraph,
     tree: &mut Vec<Node>,
@@ -143,11 +156,11 @@ fn take_turn<S: Space, L: Ledger>(
     steps: &mut Steps<L>,
 ) -> Result<Option<Halt>, SpaceFault>
     requires ready { IsReady (S.view space.old) search.now graph.old tree.old.items (entries_of queue.old) }
-    requires within { within ≡ within_of (search_of search.now) }
+    requires within { within ≡ within_of search.now }
     requires right { Right (S.view space.old).system TopK most (prefixes tree.old.items (entries_of queue.old)) }
     ensures system { (S.view space.new).system ≡ (S.view space.old).system }
     ensures ready { IsReady (S.view space.new) search.now graph.new tree.new.items (entries_of queue.new) }
-    ensures ok { IfOk result (TurnOf (S.view space.old).system (next_of search.now) most tree.old.items
+    ensures ok { IfOk result (TurnOf (S.view space.old).system (known_of search.now) most tree.old.items
         tree.new.items (entries_of queue.old) (entries_of queue.new)) }
     ensures one { IfOk result (CountsTurn steps.old steps.new) }
     ensures err { OnErr result (KeepsPending (S.view space.old).system most tree.old.items tree.new.items
@@ -171,7 +184,7 @@ fn take_turn<S: Space, L: Ledger>(
 fn take_turns<S: Space, L: Ledger>(
     alloc: Global,
     space: &mut S,
-    search: &LeastCosts<S::Set>,
+    search: &CostToGo<S::Set>,
     within: S::Set,
     graph: &mut StateGraph,
     tree: &mut Vec<Node>,
@@ -180,11 +193,11 @@ fn take_turns<S: Space, L: Ledger>(
     steps: &mut Steps<L>,
 ) -> Result<Halt, SpaceFault>
     requires ready { IsReady (S.view space.old) search.now graph.old tree.old.items (entries_of queue.old) }
-    requires within { within ≡ within_of (search_of search.now) }
+    requires within { within ≡ within_of search.now }
     requires right { Right (S.view space.old).system TopK most (prefixes tree.old.items (entries_of queue.old)) }
     ensures system { (S.view space.new).system ≡ (S.view space.old).system }
     ensures ready { IsReady (S.view space.new) search.now graph.new tree.new.items (entries_of queue.new) }
-    ensures ok { IfOk result (HaltsAt (S.view space.old).system (next_of search.now) most tree.old.items
+    ensures ok { IfOk result (HaltsAt (S.view space.old).system (known_of search.now) most tree.old.items
         tree.new.items (entries_of queue.old) (entries_of queue.new)) }
     ensures err { OnErr result (KeepsPending (S.view space.old).system most tree.old.items tree.new.items
         (entries_of queue.old) (entries_of queue.new)) }
@@ -198,30 +211,31 @@ fn take_turns<S: Space, L: Ledger>(
     }
 }
 
-/// The search back goes on by one step, where not every cost is settled. What stands on it still stands.
+/// The search goes on by one step, where something waits for a rank. What stands on it still stands, and one that
+/// succeeds leaves fewer to do.
 fn go_on<S: Space>(
     alloc: Global,
     space: &mut S,
-    search: &mut LeastCosts<S::Set>,
+    search: &mut CostToGo<S::Set>,
 ) -> Result<(), SpaceFault>
     requires alone { IsAlone (S.view space.old) search.old }
-    requires more { next_of search.old < 2 ^ 64 }
+    requires more { IsSome (next_key_of search.old) }
     ensures system { (S.view space.new).system ≡ (S.view space.old).system }
-    ensures within { within_of (search_of search.new) ≡ within_of (search_of search.old) }
+    ensures within { within_of search.new ≡ within_of search.old }
     ensures ready { (graph : StateGraph) (tree : List Node) (entries : List Entry)
         → IsReady (S.view space.old) search.old graph tree entries
         → IsReady (S.view space.new) search.new graph tree entries }
-    ensures later { OnOk result (next_of search.old < next_of search.new) }
+    ensures fewer { let y = (S.view space.old).system in OnOk result (steps_left y search.new
+        < steps_left y search.old) }
 {
-    search.extend(alloc, space)?;
-    Ok(())
+    search.go_on(alloc, space)
 }
 
 /// The next plan out of the queue. Each entry that is taken is one step. Want of memory leaves what pends.
 pub(crate) fn walk<S: Space, L: Ledger>(
     alloc: Global,
     space: &mut S,
-    search: &mut LeastCosts<S::Set>,
+    search: &mut CostToGo<S::Set>,
     within: S::Set,
     graph: &mut StateGraph,
     tree: &mut Vec<Node>,
@@ -230,17 +244,17 @@ pub(crate) fn walk<S: Space, L: Ledger>(
     steps: &mut Steps<L>,
 ) -> Result<Option<Plan>, Stop>
     requires ready { IsReady (S.view space.old) search.old graph.old tree.old.items (entries_of queue.old) }
-    requires within { within ≡ within_of (search_of search.old) }
+    requires within { within ≡ within_of search.old }
     requires right { Right (S.view space.old).system TopK most (prefixes tree.old.items (entries_of queue.old)) }
     ensures system { (S.view space.new).system ≡ (S.view space.old).system }
     ensures ready { IsReady (S.view space.new) search.new graph.new tree.new.items (entries_of queue.new) }
-    ensures within { within ≡ within_of (search_of search.new) }
+    ensures within { within ≡ within_of search.new }
     ensures right { Right (S.view space.old).system TopK most (prefixes tree.new.items (entries_of queue.new)) }
     ensures law { Turned (S.view space.old).system TopK most (Pending (S.view space.old).system TopK
         (prefixes tree.old.items (entries_of queue.old))) (Pending (S.view space.old).system TopK
         (prefixes tree.new.items (entries_of queue.new))) result }
 {
-    'costs: loop {
+    'steps: loop {
         match take_turns(
             alloc, space, search, within, graph, tree, most, queue, steps,
         ) {

@@ -1,36 +1,32 @@
-use Rattle.std.proofs.Common.{◌≡◌, ◌∙◌, true, false, None, refl, ap, subst, arith}
-use Rattle.cost_layers.specs.Layers.{known_of, Stands}
-use Rattle.least_costs.specs.Least.{next_of}
-use Rattle.prefix_plans.specs.Left.{IsFirstIn}
+use Rattle.std.proofs.Common.{◌≡◌, ◌<◌, ◌^◌, ◌∙◌, true, false, max, refl, sym, arith}
 use Rattle.prefix_plans.specs.declared.left.Left.{Left}
-use Rattle.prefix_plans.proofs.Layers.{known_some, known_none, nowhere, next_small}
+use Rattle.prefix_plans.proofs.Ranks.{known_some, unranked_by, known_none, nowhere}
 use Rattle.prefix_plans.proofs.left.left_from.Goals as goal
 
-pub returns-then-knows_all : goal.returns-then-knows_all
-returns-then-knows_all g c =
-    let v = g.S.Space.view c.args.space.now in
-    let f = c.args.search.now in
-    let s = c.args.state.now in
-    let none = subst (λ (l : _). IsFirstIn v l s c.args.low None) c.layers-layers.ensures.value (rw c.in-None.is at c.first_layer.ensures) in
-    let all = c.knows_all.ensures c.if-knows_all.true in
-    nowhere v f c.requires.search s c.requires.reached c.args.low c.requires.low none all.0 all.1
+pub rank_from-requires-clause-state : goal.rank_from-requires-clause-state
+rank_from-requires-clause-state g c = (c.requires.reached.0, c.requires.reached.1)
 
-pub returns-in-Some-ring_of : goal.returns-in-Some-ring_of
-returns-in-Some-ring_of g c =
+pub returns-in-Some : goal.returns-in-Some
+returns-in-Some g c =
     let v = g.S.Space.view c.args.space.now in
-    let f = c.args.search.now in
-    let s = c.args.state.now in
-    let left : Left = record { cost = c.in-Some.cost; ranked = true; ring = c.in-Some-ring_of.ring } in
-    let stands = subst (λ (l : _). Stands v l c.in-Some.cost c.in-Some-ring_of.ring s) c.layers-layers.ensures.value c.in-Some-ring_of.ensures.some in
-    known_some v f c.requires.search s c.requires.reached c.args.low c.requires.low left stands refl
+    let left : Left = record { cost = c.in-Some.rank.cost; ranked = true; ring = c.in-Some.rank.number } in
+    known_some v c.args.search.now c.requires.search c.args.state.now c.args.cost c.requires.reached left (rw c.in-Some.is at c.rank_from.ensures) refl
 
-pub returns-else-knows_all : goal.returns-else-knows_all
-returns-else-knows_all g c =
+pub returns-in-None : goal.returns-in-None
+returns-in-None g c =
     let v = g.S.Space.view c.args.space.now in
     let f = c.args.search.now in
     let s = c.args.state.now in
-    let left : Left = record { cost = c.max.result; ranked = false; ring = 0 } in
-    let none = subst (λ (l : _). IsFirstIn v l s c.args.low None) c.layers-layers.ensures.value (rw c.in-None.is at c.first_layer.ensures) in
-    let known : c.known_below.result ≡ next_of f = c.known_below.ensures ∙ ap known_of c.layers-layers.ensures.value in
-    let low = next_small v f c.requires.search in
-    known_none v f c.requires.search s c.requires.reached c.args.low c.requires.low none left refl (omega (arith, known, low)) (omega (arith, known)) (λ n a b. omega (arith, known, a, b))
+    let none = unranked_by v f c.requires.search s c.args.cost c.requires.reached c.args.first c.args.low c.requires.low c.requires.first (rw c.in_default.is at c.rank_from.ensures) in
+    nowhere v f c.requires.search s c.args.cost c.requires.reached none (sym c.left_unranked.ensures ∙ c.in-None.is)
+
+pub returns-in-Some-left_unranked : goal.returns-in-Some-left_unranked
+returns-in-Some-left_unranked g c =
+    let v = g.S.Space.view c.args.space.now in
+    let f = c.args.search.now in
+    let s = c.args.state.now in
+    let none = unranked_by v f c.requires.search s c.args.cost c.requires.reached c.args.first c.args.low c.requires.low c.requires.first (rw c.in_default.is at c.rank_from.ensures) in
+    let left : Left = record { cost = c.max.result; ranked = false; ring = c.ranks.result } in
+    let range : c.args.low < 2 ^ 64 = omega arith in
+    let cost : c.max.result ≡ max c.in-Some-left_unranked.left c.args.low = omega arith in
+    known_none v f c.requires.search s c.args.cost c.requires.reached none c.in-Some-left_unranked.left c.args.low c.requires.low range (sym c.left_unranked.ensures ∙ c.in-Some-left_unranked.is) left refl c.ranks.ensures.many cost

@@ -1,5 +1,5 @@
 use Rattle.prefix_tree.specs.Entries.{entries_of}
-use Rattle.least_costs.specs.Least.{next_of}
+use Rattle.prefix_plans.specs.Left.{known_of}
 use Rattle.prefix_plans.specs.Standing.{IsReady}
 use Rattle.prefix_plans.proofs.Moving.{ready_stays}
 use Rattle.prefix_plans.proofs.Walking.{past_some}
@@ -33,4 +33,4 @@ returns-else-branch-clause-ready g c =
     ready_stays v w f c.args.graph.now c.args.tree.now (entries_of c.is_left.new.queue) c.is_left.ensures.stays now
 
 pub returns-in-Some-clause-ok : goal.returns-in-Some-clause-ok
-returns-in-Some-clause-ok g c = past_some (g.S.Space.view c.args.space.now) c.args.search.now c.args.tree.now (next_of c.args.search.now) c.args.most c.in-Some.field-0 (entries_of c.args.queue.now) c.in-Some.is c.requires.ready.each c.requires.dear c.requires.right
+returns-in-Some-clause-ok g c = past_some (g.S.Space.view c.args.space.now) c.args.search.now c.args.tree.now (known_of c.args.search.now) c.args.most c.in-Some.field-0 (entries_of c.args.queue.now) c.in-Some.is c.requires.ready.each c.requires.dear c.requires.right

@@ -1,9 +1,9 @@
 use Rattle.std.proofs.Common.{◌∙◌, Some, None, refl, sym, subst}
 use Rattle.task_system.specs.System.{System}
 use Rattle.symk_task.specs.declared.parts.Mode.TheVariants.{TopK}
-use Rattle.least_costs.specs.Least.{next_of}
 use Rattle.prefix_laws.specs.Queue.{Right}
 use Rattle.prefix_tree.specs.Entries.{entries_of, prefixes}
+use Rattle.prefix_plans.specs.Left.{known_of}
 use Rattle.prefix_plans.specs.Standing.{KeepsPending}
 use Rattle.prefix_plans.specs.Turned.{TurnOf}
 use Rattle.prefix_plans.proofs.Ranging.{keeps_all}
@@ -24,7 +24,7 @@ take_turn-requires-clause-right g c = subst (λ (x : System). Right x TopK c.arg
 pub turns-preserved : goal.turns-preserved
 turns-preserved g c =
     let y = (g.S.Space.view c.args.space.now).system in
-    let t = subst (λ (x : System). TurnOf x (next_of c.args.search.now) c.args.most c.turns.tree.items c.take_turn.new.tree.items (entries_of c.turns.queue) (entries_of c.take_turn.new.queue) None) c.turns.invariant.system (rw c.in_default.is at c.in_ok-halt.ensures.ok) in
+    let t = subst (λ (x : System). TurnOf x (known_of c.args.search.now) c.args.most c.turns.tree.items c.take_turn.new.tree.items (entries_of c.turns.queue) (entries_of c.take_turn.new.queue) None) c.turns.invariant.system (rw c.in_default.is at c.in_ok-halt.ensures.ok) in
     record {
       system = c.take_turn.ensures.system ∙ c.turns.invariant.system;
       ready = c.take_turn.ensures.ready;
@@ -39,8 +39,8 @@ turns-smaller g c =
 pub returns-in-Some-clause-ok : goal.returns-in-Some-clause-ok
 returns-in-Some-clause-ok g c =
     let y = (g.S.Space.view c.args.space.now).system in
-    let t = subst (λ (x : System). TurnOf x (next_of c.args.search.now) c.args.most c.turns.tree.items c.take_turn.new.tree.items (entries_of c.turns.queue) (entries_of c.take_turn.new.queue) (Some c.in-Some.halt)) c.turns.invariant.system (rw c.in-Some.is at c.in_ok-halt.ensures.ok) in
-    halts_after y (next_of c.args.search.now) c.args.most c.args.tree.now.items c.turns.tree.items c.take_turn.new.tree.items (entries_of c.args.queue.now) (entries_of c.turns.queue) (entries_of c.take_turn.new.queue) c.turns.invariant.keeps c.in-Some.halt t
+    let t = subst (λ (x : System). TurnOf x (known_of c.args.search.now) c.args.most c.turns.tree.items c.take_turn.new.tree.items (entries_of c.turns.queue) (entries_of c.take_turn.new.queue) (Some c.in-Some.halt)) c.turns.invariant.system (rw c.in-Some.is at c.in_ok-halt.ensures.ok) in
+    halts_after y (known_of c.args.search.now) c.args.most c.args.tree.now.items c.turns.tree.items c.take_turn.new.tree.items (entries_of c.args.queue.now) (entries_of c.turns.queue) (entries_of c.take_turn.new.queue) c.turns.invariant.keeps c.in-Some.halt t
 
 pub returns-in_err-halt-clause-err : goal.returns-in_err-halt-clause-err
 returns-in_err-halt-clause-err g c =

@@ -1,6 +1,6 @@
 use Rattle.std.proofs.Common.{◌≡◌}
 use Rattle.prefix_tree.specs.Entries.{entries_of}
-use Rattle.least_costs.specs.Least.{next_of}
+use Rattle.prefix_plans.specs.Left.{known_of}
 use Rattle.prefix_plans.specs.Standing.{IsReady, KeepsPending, work}
 use Rattle.prefix_plans.proofs.walk.take_turns.Given as goal
 
@@ -15,4 +15,4 @@ invariant-turns g l =
     }
 
 abbrev pub decreases-turns : goal.decreases-turns
-decreases-turns g l = work (next_of l.search) (entries_of l.queue)
+decreases-turns g l = work (known_of l.search) (entries_of l.queue)

@@ -1,9 +1,10 @@
-use Rattle.std.proofs.Common.{◌∙◌, refl, sym, subst, arith}
+use Rattle.std.proofs.Common.{◌<◌, ◌∙◌, refl, sym, subst}
 use Rattle.task_system.specs.System.{System}
 use Rattle.symk_task.specs.declared.parts.Mode.TheVariants.{TopK}
-use Rattle.least_costs.specs.Least.{next_of}
+use Rattle.cost_to_go.specs.Standing.{steps_left}
 use Rattle.prefix_laws.specs.Queue.{Right}
 use Rattle.prefix_tree.specs.Entries.{entries_of, prefixes}
+use Rattle.prefix_plans.specs.Left.{known_of}
 use Rattle.prefix_plans.specs.Standing.{KeepsPending}
 use Rattle.prefix_plans.specs.Turned.{HaltsAt}
 use Rattle.prefix_plans.specs.declared.walk.Halt.TheVariants.{Gives, Waits, Ends, OutOfRange}
@@ -11,8 +12,8 @@ use Rattle.prefix_plans.proofs.Ranging.{keeps_all}
 use Rattle.prefix_plans.proofs.Walking.{keeps_trans, halts_after, law_gives, law_ends, law_out, law_stops}
 use Rattle.prefix_plans.proofs.walk.walk.Goals as goal
 
-pub costs-init : goal.costs-init
-costs-init g c = record {
+pub steps-init : goal.steps-init
+steps-init g c = record {
   system = refl;
   ready = c.requires.ready;
   within = c.requires.within;
@@ -20,69 +21,63 @@ costs-init g c = record {
 }
 
 pub take_turns-requires-clause-right : goal.take_turns-requires-clause-right
-take_turns-requires-clause-right g c = subst (λ (x : System). Right x TopK c.args.most (prefixes c.costs.tree.items (entries_of c.costs.queue))) (sym c.costs.invariant.system) c.costs.invariant.keeps.0
+take_turns-requires-clause-right g c = subst (λ (x : System). Right x TopK c.args.most (prefixes c.steps.tree.items (entries_of c.steps.queue))) (sym c.steps.invariant.system) c.steps.invariant.keeps.0
 
 pub returns-in-Err-clause-right : goal.returns-in-Err-clause-right
 returns-in-Err-clause-right g c =
     let y = (g.S.Space.view c.args.space.now).system in
-    let k = subst (λ (x : System). KeepsPending x c.args.most c.costs.tree.items c.take_turns.new.tree.items (entries_of c.costs.queue) (entries_of c.take_turns.new.queue)) c.costs.invariant.system c.in-Err.ensures.err in
-    let t = keeps_trans y c.args.most c.args.tree.now.items c.costs.tree.items c.take_turns.new.tree.items (entries_of c.args.queue.now) (entries_of c.costs.queue) (entries_of c.take_turns.new.queue) c.costs.invariant.keeps k in
+    let k = subst (λ (x : System). KeepsPending x c.args.most c.steps.tree.items c.take_turns.new.tree.items (entries_of c.steps.queue) (entries_of c.take_turns.new.queue)) c.steps.invariant.system c.in-Err.ensures.err in
+    let t = keeps_trans y c.args.most c.args.tree.now.items c.steps.tree.items c.take_turns.new.tree.items (entries_of c.args.queue.now) (entries_of c.steps.queue) (entries_of c.take_turns.new.queue) c.steps.invariant.keeps k in
     t.0
 
 pub returns-in-Err-clause-law : goal.returns-in-Err-clause-law
 returns-in-Err-clause-law g c =
     let y = (g.S.Space.view c.args.space.now).system in
-    let k = subst (λ (x : System). KeepsPending x c.args.most c.costs.tree.items c.take_turns.new.tree.items (entries_of c.costs.queue) (entries_of c.take_turns.new.queue)) c.costs.invariant.system c.in-Err.ensures.err in
-    let t = keeps_trans y c.args.most c.args.tree.now.items c.costs.tree.items c.take_turns.new.tree.items (entries_of c.args.queue.now) (entries_of c.costs.queue) (entries_of c.take_turns.new.queue) c.costs.invariant.keeps k in
-    law_stops y (next_of c.costs.search) c.args.most c.args.tree.now.items c.take_turns.new.tree.items (entries_of c.args.queue.now) (entries_of c.take_turns.new.queue) t
+    let k = subst (λ (x : System). KeepsPending x c.args.most c.steps.tree.items c.take_turns.new.tree.items (entries_of c.steps.queue) (entries_of c.take_turns.new.queue)) c.steps.invariant.system c.in-Err.ensures.err in
+    let t = keeps_trans y c.args.most c.args.tree.now.items c.steps.tree.items c.take_turns.new.tree.items (entries_of c.args.queue.now) (entries_of c.steps.queue) (entries_of c.take_turns.new.queue) c.steps.invariant.keeps k in
+    law_stops y (known_of c.steps.search) c.args.most c.args.tree.now.items c.take_turns.new.tree.items (entries_of c.args.queue.now) (entries_of c.take_turns.new.queue) t
 
 pub returns-in-Gives-clause-right : goal.returns-in-Gives-clause-right
 returns-in-Gives-clause-right g c =
     let y = (g.S.Space.view c.args.space.now).system in
-    let known = next_of c.costs.search in
-    let t = subst (λ (x : System). HaltsAt x (next_of c.costs.search) c.args.most c.costs.tree.items c.take_turns.new.tree.items (entries_of c.costs.queue) (entries_of c.take_turns.new.queue) (Gives c.in-Gives.plan)) c.costs.invariant.system (rw c.in-Gives.is at c.in-Ok.ensures.ok) in
-    let h = halts_after y (next_of c.costs.search) c.args.most c.args.tree.now.items c.costs.tree.items c.take_turns.new.tree.items (entries_of c.args.queue.now) (entries_of c.costs.queue) (entries_of c.take_turns.new.queue) c.costs.invariant.keeps (Gives c.in-Gives.plan) t in
+    let t = subst (λ (x : System). HaltsAt x (known_of c.steps.search) c.args.most c.steps.tree.items c.take_turns.new.tree.items (entries_of c.steps.queue) (entries_of c.take_turns.new.queue) (Gives c.in-Gives.plan)) c.steps.invariant.system (rw c.in-Gives.is at c.in-Ok.ensures.ok) in
+    let h = halts_after y (known_of c.steps.search) c.args.most c.args.tree.now.items c.steps.tree.items c.take_turns.new.tree.items (entries_of c.args.queue.now) (entries_of c.steps.queue) (entries_of c.take_turns.new.queue) c.steps.invariant.keeps (Gives c.in-Gives.plan) t in
     h.0
 
 pub returns-in-Gives-clause-law : goal.returns-in-Gives-clause-law
 returns-in-Gives-clause-law g c =
     let y = (g.S.Space.view c.args.space.now).system in
-    let known = next_of c.costs.search in
-    let t = subst (λ (x : System). HaltsAt x (next_of c.costs.search) c.args.most c.costs.tree.items c.take_turns.new.tree.items (entries_of c.costs.queue) (entries_of c.take_turns.new.queue) (Gives c.in-Gives.plan)) c.costs.invariant.system (rw c.in-Gives.is at c.in-Ok.ensures.ok) in
-    let h = halts_after y (next_of c.costs.search) c.args.most c.args.tree.now.items c.costs.tree.items c.take_turns.new.tree.items (entries_of c.args.queue.now) (entries_of c.costs.queue) (entries_of c.take_turns.new.queue) c.costs.invariant.keeps (Gives c.in-Gives.plan) t in
-    law_gives y (next_of c.costs.search) c.args.most c.args.tree.now.items c.take_turns.new.tree.items (entries_of c.args.queue.now) (entries_of c.take_turns.new.queue) c.in-Gives.plan h
+    let t = subst (λ (x : System). HaltsAt x (known_of c.steps.search) c.args.most c.steps.tree.items c.take_turns.new.tree.items (entries_of c.steps.queue) (entries_of c.take_turns.new.queue) (Gives c.in-Gives.plan)) c.steps.invariant.system (rw c.in-Gives.is at c.in-Ok.ensures.ok) in
+    let h = halts_after y (known_of c.steps.search) c.args.most c.args.tree.now.items c.steps.tree.items c.take_turns.new.tree.items (entries_of c.args.queue.now) (entries_of c.steps.queue) (entries_of c.take_turns.new.queue) c.steps.invariant.keeps (Gives c.in-Gives.plan) t in
+    law_gives y (known_of c.steps.search) c.args.most c.args.tree.now.items c.take_turns.new.tree.items (entries_of c.args.queue.now) (entries_of c.take_turns.new.queue) c.in-Gives.plan h
 
 pub returns-in-Ends-clause-right : goal.returns-in-Ends-clause-right
 returns-in-Ends-clause-right g c =
     let y = (g.S.Space.view c.args.space.now).system in
-    let known = next_of c.costs.search in
-    let t = subst (λ (x : System). HaltsAt x (next_of c.costs.search) c.args.most c.costs.tree.items c.take_turns.new.tree.items (entries_of c.costs.queue) (entries_of c.take_turns.new.queue) Ends) c.costs.invariant.system (rw c.in-Ends.is at c.in-Ok.ensures.ok) in
-    let h = halts_after y (next_of c.costs.search) c.args.most c.args.tree.now.items c.costs.tree.items c.take_turns.new.tree.items (entries_of c.args.queue.now) (entries_of c.costs.queue) (entries_of c.take_turns.new.queue) c.costs.invariant.keeps Ends t in
+    let t = subst (λ (x : System). HaltsAt x (known_of c.steps.search) c.args.most c.steps.tree.items c.take_turns.new.tree.items (entries_of c.steps.queue) (entries_of c.take_turns.new.queue) Ends) c.steps.invariant.system (rw c.in-Ends.is at c.in-Ok.ensures.ok) in
+    let h = halts_after y (known_of c.steps.search) c.args.most c.args.tree.now.items c.steps.tree.items c.take_turns.new.tree.items (entries_of c.args.queue.now) (entries_of c.steps.queue) (entries_of c.take_turns.new.queue) c.steps.invariant.keeps Ends t in
     h.0.0
 
 pub returns-in-Ends-clause-law : goal.returns-in-Ends-clause-law
 returns-in-Ends-clause-law g c =
     let y = (g.S.Space.view c.args.space.now).system in
-    let known = next_of c.costs.search in
-    let t = subst (λ (x : System). HaltsAt x (next_of c.costs.search) c.args.most c.costs.tree.items c.take_turns.new.tree.items (entries_of c.costs.queue) (entries_of c.take_turns.new.queue) Ends) c.costs.invariant.system (rw c.in-Ends.is at c.in-Ok.ensures.ok) in
-    let h = halts_after y (next_of c.costs.search) c.args.most c.args.tree.now.items c.costs.tree.items c.take_turns.new.tree.items (entries_of c.args.queue.now) (entries_of c.costs.queue) (entries_of c.take_turns.new.queue) c.costs.invariant.keeps Ends t in
-    law_ends y (next_of c.costs.search) c.args.most c.args.tree.now.items c.take_turns.new.tree.items (entries_of c.args.queue.now) (entries_of c.take_turns.new.queue) h
+    let t = subst (λ (x : System). HaltsAt x (known_of c.steps.search) c.args.most c.steps.tree.items c.take_turns.new.tree.items (entries_of c.steps.queue) (entries_of c.take_turns.new.queue) Ends) c.steps.invariant.system (rw c.in-Ends.is at c.in-Ok.ensures.ok) in
+    let h = halts_after y (known_of c.steps.search) c.args.most c.args.tree.now.items c.steps.tree.items c.take_turns.new.tree.items (entries_of c.args.queue.now) (entries_of c.steps.queue) (entries_of c.take_turns.new.queue) c.steps.invariant.keeps Ends t in
+    law_ends y (known_of c.steps.search) c.args.most c.args.tree.now.items c.take_turns.new.tree.items (entries_of c.args.queue.now) (entries_of c.take_turns.new.queue) h
 
 pub returns-in-OutOfRange-clause-right : goal.returns-in-OutOfRange-clause-right
 returns-in-OutOfRange-clause-right g c =
     let y = (g.S.Space.view c.args.space.now).system in
-    let known = next_of c.costs.search in
-    let t = subst (λ (x : System). HaltsAt x (next_of c.costs.search) c.args.most c.costs.tree.items c.take_turns.new.tree.items (entries_of c.costs.queue) (entries_of c.take_turns.new.queue) OutOfRange) c.costs.invariant.system (rw c.in-OutOfRange.is at c.in-Ok.ensures.ok) in
-    let h = halts_after y (next_of c.costs.search) c.args.most c.args.tree.now.items c.costs.tree.items c.take_turns.new.tree.items (entries_of c.args.queue.now) (entries_of c.costs.queue) (entries_of c.take_turns.new.queue) c.costs.invariant.keeps OutOfRange t in
+    let t = subst (λ (x : System). HaltsAt x (known_of c.steps.search) c.args.most c.steps.tree.items c.take_turns.new.tree.items (entries_of c.steps.queue) (entries_of c.take_turns.new.queue) OutOfRange) c.steps.invariant.system (rw c.in-OutOfRange.is at c.in-Ok.ensures.ok) in
+    let h = halts_after y (known_of c.steps.search) c.args.most c.args.tree.now.items c.steps.tree.items c.take_turns.new.tree.items (entries_of c.args.queue.now) (entries_of c.steps.queue) (entries_of c.take_turns.new.queue) c.steps.invariant.keeps OutOfRange t in
     h.0.0
 
 pub returns-in-OutOfRange-clause-law : goal.returns-in-OutOfRange-clause-law
 returns-in-OutOfRange-clause-law g c =
     let y = (g.S.Space.view c.args.space.now).system in
-    let known = next_of c.costs.search in
-    let t = subst (λ (x : System). HaltsAt x (next_of c.costs.search) c.args.most c.costs.tree.items c.take_turns.new.tree.items (entries_of c.costs.queue) (entries_of c.take_turns.new.queue) OutOfRange) c.costs.invariant.system (rw c.in-OutOfRange.is at c.in-Ok.ensures.ok) in
-    let h = halts_after y (next_of c.costs.search) c.args.most c.args.tree.now.items c.costs.tree.items c.take_turns.new.tree.items (entries_of c.args.queue.now) (entries_of c.costs.queue) (entries_of c.take_turns.new.queue) c.costs.invariant.keeps OutOfRange t in
-    law_out y (next_of c.costs.search) c.args.most c.args.tree.now.items c.take_turns.new.tree.items (entries_of c.args.queue.now) (entries_of c.take_turns.new.queue) h
+    let t = subst (λ (x : System). HaltsAt x (known_of c.steps.search) c.args.most c.steps.tree.items c.take_turns.new.tree.items (entries_of c.steps.queue) (entries_of c.take_turns.new.queue) OutOfRange) c.steps.invariant.system (rw c.in-OutOfRange.is at c.in-Ok.ensures.ok) in
+    let h = halts_after y (known_of c.steps.search) c.args.most c.args.tree.now.items c.steps.tree.items c.take_turns.new.tree.items (entries_of c.args.queue.now) (entries_of c.steps.queue) (entries_of c.take_turns.new.queue) c.steps.invariant.keeps OutOfRange t in
+    law_out y (known_of c.steps.search) c.args.most c.args.tree.now.items c.take_turns.new.tree.items (entries_of c.args.queue.now) (entries_of c.take_turns.new.queue) h
 
 pub go_on-requires-clause-alone : goal.go_on-requires-clause-alone
 go_on-requires-clause-alone g c =
@@ -91,9 +86,8 @@ go_on-requires-clause-alone g c =
 pub go_on-requires-clause-more : goal.go_on-requires-clause-more
 go_on-requires-clause-more g c =
     let y = (g.S.Space.view c.args.space.now).system in
-    let known = next_of c.costs.search in
-    let t = subst (λ (x : System). HaltsAt x (next_of c.costs.search) c.args.most c.costs.tree.items c.take_turns.new.tree.items (entries_of c.costs.queue) (entries_of c.take_turns.new.queue) Waits) c.costs.invariant.system (rw c.in-Waits.is at c.in-Ok.ensures.ok) in
-    let h = halts_after y (next_of c.costs.search) c.args.most c.args.tree.now.items c.costs.tree.items c.take_turns.new.tree.items (entries_of c.args.queue.now) (entries_of c.costs.queue) (entries_of c.take_turns.new.queue) c.costs.invariant.keeps Waits t in
+    let t = subst (λ (x : System). HaltsAt x (known_of c.steps.search) c.args.most c.steps.tree.items c.take_turns.new.tree.items (entries_of c.steps.queue) (entries_of c.take_turns.new.queue) Waits) c.steps.invariant.system (rw c.in-Waits.is at c.in-Ok.ensures.ok) in
+    let h = halts_after y (known_of c.steps.search) c.args.most c.args.tree.now.items c.steps.tree.items c.take_turns.new.tree.items (entries_of c.args.queue.now) (entries_of c.steps.queue) (entries_of c.take_turns.new.queue) c.steps.invariant.keeps Waits t in
     h.1
 
 pub returns-in-Err-go_on-clause-ready : goal.returns-in-Err-go_on-clause-ready
@@ -103,37 +97,28 @@ returns-in-Err-go_on-clause-ready g c =
 pub returns-in-Err-go_on-clause-right : goal.returns-in-Err-go_on-clause-right
 returns-in-Err-go_on-clause-right g c =
     let y = (g.S.Space.view c.args.space.now).system in
-    let known = next_of c.costs.search in
-    let t = subst (λ (x : System). HaltsAt x (next_of c.costs.search) c.args.most c.costs.tree.items c.take_turns.new.tree.items (entries_of c.costs.queue) (entries_of c.take_turns.new.queue) Waits) c.costs.invariant.system (rw c.in-Waits.is at c.in-Ok.ensures.ok) in
-    let h = halts_after y (next_of c.costs.search) c.args.most c.args.tree.now.items c.costs.tree.items c.take_turns.new.tree.items (entries_of c.args.queue.now) (entries_of c.costs.queue) (entries_of c.take_turns.new.queue) c.costs.invariant.keeps Waits t in
+    let t = subst (λ (x : System). HaltsAt x (known_of c.steps.search) c.args.most c.steps.tree.items c.take_turns.new.tree.items (entries_of c.steps.queue) (entries_of c.take_turns.new.queue) Waits) c.steps.invariant.system (rw c.in-Waits.is at c.in-Ok.ensures.ok) in
+    let h = halts_after y (known_of c.steps.search) c.args.most c.args.tree.now.items c.steps.tree.items c.take_turns.new.tree.items (entries_of c.args.queue.now) (entries_of c.steps.queue) (entries_of c.take_turns.new.queue) c.steps.invariant.keeps Waits t in
     h.0.0
 
 pub returns-in-Err-go_on-clause-law : goal.returns-in-Err-go_on-clause-law
 returns-in-Err-go_on-clause-law g c =
     let y = (g.S.Space.view c.args.space.now).system in
-    let known = next_of c.costs.search in
-    let t = subst (λ (x : System). HaltsAt x (next_of c.costs.search) c.args.most c.costs.tree.items c.take_turns.new.tree.items (entries_of c.costs.queue) (entries_of c.take_turns.new.queue) Waits) c.costs.invariant.system (rw c.in-Waits.is at c.in-Ok.ensures.ok) in
-    let h = halts_after y (next_of c.costs.search) c.args.most c.args.tree.now.items c.costs.tree.items c.take_turns.new.tree.items (entries_of c.args.queue.now) (entries_of c.costs.queue) (entries_of c.take_turns.new.queue) c.costs.invariant.keeps Waits t in
-    law_stops y (next_of c.costs.search) c.args.most c.args.tree.now.items c.take_turns.new.tree.items (entries_of c.args.queue.now) (entries_of c.take_turns.new.queue) h.0
+    let t = subst (λ (x : System). HaltsAt x (known_of c.steps.search) c.args.most c.steps.tree.items c.take_turns.new.tree.items (entries_of c.steps.queue) (entries_of c.take_turns.new.queue) Waits) c.steps.invariant.system (rw c.in-Waits.is at c.in-Ok.ensures.ok) in
+    let h = halts_after y (known_of c.steps.search) c.args.most c.args.tree.now.items c.steps.tree.items c.take_turns.new.tree.items (entries_of c.args.queue.now) (entries_of c.steps.queue) (entries_of c.take_turns.new.queue) c.steps.invariant.keeps Waits t in
+    law_stops y (known_of c.steps.search) c.args.most c.args.tree.now.items c.take_turns.new.tree.items (entries_of c.args.queue.now) (entries_of c.take_turns.new.queue) h.0
 
-pub costs-preserved : goal.costs-preserved
-costs-preserved g c =
+pub steps-preserved : goal.steps-preserved
+steps-preserved g c =
     let y = (g.S.Space.view c.args.space.now).system in
-    let known = next_of c.costs.search in
-    let t = subst (λ (x : System). HaltsAt x (next_of c.costs.search) c.args.most c.costs.tree.items c.take_turns.new.tree.items (entries_of c.costs.queue) (entries_of c.take_turns.new.queue) Waits) c.costs.invariant.system (rw c.in-Waits.is at c.in-Ok.ensures.ok) in
-    let h = halts_after y (next_of c.costs.search) c.args.most c.args.tree.now.items c.costs.tree.items c.take_turns.new.tree.items (entries_of c.args.queue.now) (entries_of c.costs.queue) (entries_of c.take_turns.new.queue) c.costs.invariant.keeps Waits t in
+    let t = subst (λ (x : System). HaltsAt x (known_of c.steps.search) c.args.most c.steps.tree.items c.take_turns.new.tree.items (entries_of c.steps.queue) (entries_of c.take_turns.new.queue) Waits) c.steps.invariant.system (rw c.in-Waits.is at c.in-Ok.ensures.ok) in
+    let h = halts_after y (known_of c.steps.search) c.args.most c.args.tree.now.items c.steps.tree.items c.take_turns.new.tree.items (entries_of c.args.queue.now) (entries_of c.steps.queue) (entries_of c.take_turns.new.queue) c.steps.invariant.keeps Waits t in
     record {
-      system = c.go_on.ensures.system ∙ c.take_turns.ensures.system ∙ c.costs.invariant.system;
+      system = c.go_on.ensures.system ∙ c.take_turns.ensures.system ∙ c.steps.invariant.system;
       ready = c.go_on.ensures.ready c.take_turns.new.graph c.take_turns.new.tree.items (entries_of c.take_turns.new.queue) c.take_turns.ensures.ready;
-      within = c.costs.invariant.within ∙ sym c.go_on.ensures.within;
+      within = c.steps.invariant.within ∙ sym c.go_on.ensures.within;
       keeps = h.0;
     }
 
-pub costs-smaller : goal.costs-smaller
-costs-smaller g c =
-    let y = (g.S.Space.view c.args.space.now).system in
-    let known = next_of c.costs.search in
-    let t = subst (λ (x : System). HaltsAt x (next_of c.costs.search) c.args.most c.costs.tree.items c.take_turns.new.tree.items (entries_of c.costs.queue) (entries_of c.take_turns.new.queue) Waits) c.costs.invariant.system (rw c.in-Waits.is at c.in-Ok.ensures.ok) in
-    let h = halts_after y (next_of c.costs.search) c.args.most c.args.tree.now.items c.costs.tree.items c.take_turns.new.tree.items (entries_of c.args.queue.now) (entries_of c.costs.queue) (entries_of c.take_turns.new.queue) c.costs.invariant.keeps Waits t in
-    let later = c.in-Ok-go_on.ensures.later in
-    omega (arith, h.1, later)
+pub steps-smaller : goal.steps-smaller
+steps-smaller g c = subst (λ (y : System). steps_left y c.go_on.new.search < steps_left y c.steps.search) (c.take_turns.ensures.system ∙ c.steps.invariant.system) c.in-Ok-go_on.ensures.fewer

@@ -10,23 +10,19 @@ use Rattle.symk_task.specs.declared.parts.Mode.TheVariants.{TopK}
 use Rattle.prefix_laws.specs.Owing.{Owes}
 use Rattle.prefix_plans.specs.Sound.{IsSound}
 use Rattle.prefix_plans.proofs.First.{begun, begun_all}
-use Rattle.prefix_plans.proofs.Inside.{alone_fresh}
+use Rattle.prefix_plans.proofs.Moving.{alone_fresh}
 use Rattle.prefix_plans.proofs.engine.PrefixPlans.begin.Goals as goal
 
-pub keep_to_reached-requires-clause-alone : goal.keep_to_reached-requires-clause-alone
-keep_to_reached-requires-clause-alone g c =
-    let view = g.S.Space.view in
-    alone_fresh (view c.args.space) (view c.new.new.space) c.in_ok-search.search c.args.within c.requires.alone c.requires.within c.requires.wide c.in_ok-search.ensures.least c.in_ok-search.ensures.ok c.in_ok-search.ensures.trades
-
 pub number_of_start-requires : goal.number_of_start-requires
-number_of_start-requires g c = c.new-graph.ensures.graph (g.S.Space.view c.keep_to_reached.new.space).system
+number_of_start-requires g c = c.new-graph.ensures.graph (g.S.Space.view c.new.new.space).system
 
 pub returns-clause-lawful : goal.returns-clause-lawful
 returns-clause-lawful g c =
     let view = g.S.Space.view in
-    let v = view c.keep_to_reached.new.space in
-    let b = c.in_ok-kept.kept.search in
-    let inner = c.in_ok-kept.kept.within in
+    let v = view c.new.new.space in
+    let b = c.in_ok-search.search in
+    let inner = c.args.within in
+    let alone = alone_fresh (view c.args.space) v b inner c.requires.alone c.in_ok-search.ensures.within c.in_ok-search.ensures.stands c.in_ok-search.ensures.trades in
     let n : Node = record { parent = 0; op = 0; state = c.in_ok-start.start } in
     let e : Entry = record { bound = record { 0 = 0 }; cost = 0; ring = record { 0 = 0 }; node = 0; settled = false; at_goal = c.in_ok-at_goal.at_goal } in
     let es = entries_of c.push-2.new.self in
@@ -34,14 +30,15 @@ returns-clause-lawful g c =
     let put : IsPermutation (e ∷ []) es = subst (λ (l : List Entry). IsPermutation (e ∷ l) es) c.new-queue.ensures c.in_ok-push-2.ensures.ok in
     let is = c.in_ok-start.ensures.is in
     let goal = subst (λ (s : State). Decides c.in_ok-at_goal.at_goal (IsTrue (v.system.goal s))) (c.state.ensures ∙ is) c.in_ok-at_goal.ensures in
-    subst (λ (l : List Node). IsSound v b inner c.number_of_start.new.graph l c.args.most es None None) (sym tree) (begun v.system v b inner c.number_of_start.new.graph n e es refl c.in_ok-kept.ensures.alone c.in_ok-kept.ensures.within c.number_of_start.ensures.graph c.in_ok-start.ensures.within is put refl refl refl refl refl goal c.args.most)
+    subst (λ (l : List Node). IsSound v b inner c.number_of_start.new.graph l c.args.most es None None) (sym tree) (begun v.system v b inner c.number_of_start.new.graph n e es refl alone (sym c.in_ok-search.ensures.within) c.number_of_start.ensures.graph c.in_ok-start.ensures.within is put refl refl refl refl refl goal c.args.most)
 
 pub returns-clause-all : goal.returns-clause-all
 returns-clause-all g c p i =
     let view = g.S.Space.view in
-    let v = view c.keep_to_reached.new.space in
-    let b = c.in_ok-kept.kept.search in
-    let inner = c.in_ok-kept.kept.within in
+    let v = view c.new.new.space in
+    let b = c.in_ok-search.search in
+    let inner = c.args.within in
+    let alone = alone_fresh (view c.args.space) v b inner c.requires.alone c.in_ok-search.ensures.within c.in_ok-search.ensures.stands c.in_ok-search.ensures.trades in
     let n : Node = record { parent = 0; op = 0; state = c.in_ok-start.start } in
     let e : Entry = record { bound = record { 0 = 0 }; cost = 0; ring = record { 0 = 0 }; node = 0; settled = false; at_goal = c.in_ok-at_goal.at_goal } in
     let es = entries_of c.push-2.new.self in
@@ -49,8 +46,8 @@ returns-clause-all g c p i =
     let put : IsPermutation (e ∷ []) es = subst (λ (l : List Entry). IsPermutation (e ∷ l) es) c.new-queue.ensures c.in_ok-push-2.ensures.ok in
     let is = c.in_ok-start.ensures.is in
     let goal = subst (λ (s : State). Decides c.in_ok-at_goal.at_goal (IsTrue (v.system.goal s))) (c.state.ensures ∙ is) c.in_ok-at_goal.ensures in
-    let same = c.in_ok-kept.ensures.system ∙ (kept_made c.in_ok-search.ensures.trades).system in
-    subst (λ (l : List Node). Owes v.system TopK (prefixes l es) None p) (sym tree) (begun_all (view c.args.space).system v b inner c.number_of_start.new.graph n e es same c.in_ok-kept.ensures.alone c.in_ok-kept.ensures.within c.number_of_start.ensures.graph c.in_ok-start.ensures.within is put refl refl refl refl refl goal p i)
+    let same = (kept_made c.in_ok-search.ensures.trades).system in
+    subst (λ (l : List Node). Owes v.system TopK (prefixes l es) None p) (sym tree) (begun_all (view c.args.space).system v b inner c.number_of_start.new.graph n e es same alone (sym c.in_ok-search.ensures.within) c.number_of_start.ensures.graph c.in_ok-start.ensures.within is put refl refl refl refl refl goal p i)
 
 pub goal_at-requires : goal.goal_at-requires
 goal_at-requires g c = ([], sym (c.state.ensures ∙ c.in_ok-start.ensures.is))

@@ -15,11 +15,13 @@ use Rattle.prefix_laws.specs.Queue.{Good, Right, Pending}
 use Rattle.prefix_laws.proofs.Traces.{good_first, plan_by}
 use Rattle.prefix_laws.proofs.Turns.{first_right, first_pends}
 use Rattle.prefix_tree.specs.StateGraph.{states_of, state_at, IsStateGraph}
-use Rattle.prefix_tree.specs.declared.state_graph.StateGraph.{StateGraph}
 use Rattle.prefix_tree.specs.Tree.{IsTree, IsNode, path_at, number_at}
 use Rattle.prefix_tree.specs.declared.tree.Node.{Node}
 use Rattle.prefix_tree.specs.declared.entry.Entry.{Entry}
 use Rattle.prefix_tree.specs.Entries.{prefixes}
+use Rattle.goal_ranks.specs.declared.lookup.Rank.{Rank}
+use Rattle.prefix_plans.specs.declared.places.Places.{Places}
+use Rattle.prefix_plans.specs.Places.{AreFound}
 use Rattle.prefix_plans.specs.Children.{IsEntry}
 use Rattle.prefix_plans.specs.Standing.{IsAlone}
 use Rattle.prefix_laws.specs.Owing.{Owes}
@@ -33,8 +35,8 @@ only e (x ∷ []) p =
     ap (λ (k : Entry). k ∷ []) one.0
 only e (x ∷ y ∷ es) p = absurd (omega (arith, length_permutation (e ∷ []) (x ∷ y ∷ es) p))
 
-module _ {Set : Type 0} (y : System) (v : View Set) (b : CostToGo Set) (inner : Set) (m : StateGraph) (n : Node) (e : Entry) (es : List Entry)
-    (same : v.system ≡ y) (alone : IsAlone v b) (kept : inner ≡ within_of b) (graph : IsStateGraph v.system m) (within : n.state < length (states_of m)) (starts : state_at (states_of m) n.state ≡ v.system.initial)
+module _ {Set : Type 0} (y : System) (v : View Set) (b : CostToGo Set) (inner : Set) (m : Places) (n : Node) (e : Entry) (es : List Entry)
+    (same : v.system ≡ y) (alone : IsAlone v b) (kept : inner ≡ within_of b) (graph : IsStateGraph v.system m.graph) (empty : m.ranks.items ≡ []) (within : n.state < length (states_of m.graph)) (starts : state_at (states_of m.graph) n.state ≡ v.system.initial)
     (put : IsPermutation (e ∷ []) es) (bound : e.bound.0 ≡ 0) (cost : e.cost ≡ 0) (ring : e.ring.0 ≡ 0) (unranked : e.settled ≡ false) (place : e.node ≡ 0)
     (goal : Decides e.at_goal (IsTrue (v.system.goal v.system.initial))) where
   good : Good v.system TopK []
@@ -43,14 +45,14 @@ module _ {Set : Type 0} (y : System) (v : View Set) (b : CostToGo Set) (inner : 
   first_path : (i : ℕ) → i ≡ 0 → path_at (n ∷ []) i ≡ []
   first_path i z = ap (path_at (n ∷ [])) z
 
-  node : IsNode v.system TopK (states_of m) 0 [] n.state
+  node : IsNode v.system TopK (states_of m.graph) 0 [] n.state
   node = record { good = good; within = within; runs = sym starts; deep = omega arith }
 
-  tree : IsTree v.system TopK (states_of m) (n ∷ [])
+  tree : IsTree v.system TopK (states_of m.graph) (n ∷ [])
   tree = record {
     some = omega arith;
     linked = λ i d lt. inl (omega (arith, lt), first_path i (omega (arith, lt)));
-    each = λ i lt. let z : i ≡ 0 = omega (arith, lt) in subst (λ (j : ℕ). IsNode v.system TopK (states_of m) j (path_at (n ∷ []) j) (number_at (n ∷ []) j)) (sym z) node;
+    each = λ i lt. let z : i ≡ 0 = omega (arith, lt) in subst (λ (j : ℕ). IsNode v.system TopK (states_of m.graph) j (path_at (n ∷ []) j) (number_at (n ∷ []) j)) (sym z) node;
   }
 
   end : v.system.initial ≡ good.end
@@ -78,12 +80,18 @@ module _ {Set : Type 0} (y : System) (v : View Set) (b : CostToGo Set) (inner : 
       clash : {t : Bool} → t ≡ true → t ≡ false → ⊥
       clash p q = cc
 
+  found : AreFound v b (states_of m.graph) m.ranks.items
+  found = subst (λ (l : List (Option Rank)). AreFound v b (states_of m.graph) l) (sym empty) (λ n r h. absurd (no_rank r h))
+    where
+      no_rank : (r : Rank) → ◌≡◌ {A = Option (Option Rank)} None (Some (Some r)) → ⊥
+      no_rank r e = cc
+
   single : es ≡ e ∷ []
   single = only e es put
 
   pub begun : (most : Option ℕ) → IsSound v b inner m (n ∷ []) most es None None
   begun most = subst (λ (l : List Entry). IsSound v b inner m (n ∷ []) most l None None) (sym single) (record {
-    ready = record { alone = alone; graph = graph; tree = tree; each = (entry, tt) };
+    ready = record { alone = alone; graph = graph; found = found; tree = tree; each = (entry, tt) };
     kept = kept;
     right = subst (λ (p : List ℕ). Right v.system TopK most (p ∷ [])) (sym path) (first_right v.system TopK most);
     holds = tt;

@@ -1,5 +1,5 @@
 -- Entries while the tree grows, and the children of one, operator after operator.
-use Rattle.std.proofs.Common.{◌≡◌, ℕ, zero, suc, ◌+◌, ◌-◌, ◌*◌, ◌<◌, ◌≤◌, ◌^◌, ◌⊎◌, inl, inr, cond, Bool, true, false, IsTrue, List, [], ◌∷◌, ◌++◌, length, refl, sym, ◌∙◌, ap, subst, arith, eq-eqb}
+use Rattle.std.proofs.Common.{◌≡◌, ℕ, zero, suc, ◌+◌, ◌-◌, ◌*◌, ◌<◌, ◌≤◌, ◌^◌, ◌⊎◌, inl, inr, cond, Bool, true, false, IsTrue, List, [], ◌∷◌, ◌++◌, length, Option, Some, None, refl, sym, ◌∙◌, ap, subst, arith, eq-eqb}
 use Rattle.std.specs.Prelude.{nat_lt, ◌||◌}
 use Rattle.std.specs.Bool.{Decides}
 use Rattle.std.specs.List.{AllByRecursion}
@@ -23,7 +23,8 @@ use Rattle.prefix_tree.proofs.Paths.{path_last, grows_more}
 use Rattle.prefix_tree.proofs.Entries.{prefixes_last, prefixes_like}
 use Rattle.prefix_plans.specs.Left.{known_of, bound_at, EndsAtLeast, IsRanked, IsKnown}
 use Rattle.prefix_plans.specs.Reach.{IsLonger}
-use Rattle.prefix_plans.specs.Children.{EndsRanked, IsEntry, TellsRank, IsNew, outdated, Added, AreChildren}
+use Rattle.prefix_plans.specs.Children.{EndsRanked, IsEntry, TellsRank, IsNew, outdated, IsChild, AreChildren}
+use Rattle.prefix_plans.specs.Standing.{listed_of}
 use Rattle.prefix_plans.specs.declared.left.Left.{Left}
 use Rattle.prefix_plans.specs.declared.reach.Reached.{Reached}
 
@@ -193,6 +194,10 @@ listed_last : (xs : List State) (s : State) → Listed (xs ++ s ∷ []) s
 listed_last [] s = inl refl
 listed_last (x ∷ xs) s = inr (listed_last xs s)
 
+no_more : (xs : List Entry) → xs ++ [] ≡ xs
+no_more [] = refl
+no_more (x ∷ xs) = ap (λ (ys : List Entry). x ∷ ys) (no_more xs)
+
 below_next : (op n : ℕ) → op < n + 1 → (op < n) ⊎ (n ≡ op)
 below_next op n lt = grind arith
 
@@ -200,13 +205,16 @@ module _ {Set : Type 0} (v : View Set) (f : CostToGo Set) (nodes : List Node) (e
   pub children_none : AreChildren v f nodes e 0 []
   children_none = record { each = tt; counted = laws.children_none v.system TopK e; all = λ op lt. absurd (omega (arith, lt)) }
 
-  pub children_next : (n : ℕ) (kids new : List Entry) → AreChildren v f nodes e n kids → Added v f nodes e n kids new → AreChildren v f nodes e (n + 1) new
-  children_next n kids new g (inl (same, lost)) = rw same (record {
+  children_skip : (n : ℕ) (kids : List Entry) → AreChildren v f nodes e n kids → Hopeless v.system TopK (e ++ n ∷ []) → AreChildren v f nodes e (n + 1) kids
+  children_skip n kids g lost = record {
     each = g.each;
     counted = laws.children_skip v.system TopK e n (prefixes nodes kids) g.counted lost;
     all = λ op lt. elim (below_next op n lt) [ inl less ↦ g.all op less | inr is ↦ inl (subst (λ (k : ℕ). Hopeless v.system TopK (e ++ k ∷ [])) is lost) ];
-  })
-  children_next n kids new g (inr (k, pushed, stands, path)) =
+  }
+
+  pub children_next : (n : ℕ) (kids new : List Entry) (o : Option Entry) → AreChildren v f nodes e n kids → IsChild v f nodes e n o → new ≡ kids ++ listed_of o → AreChildren v f nodes e (n + 1) new
+  children_next n kids new None g lost pushed = subst (λ (l : List Entry). AreChildren v f nodes e (n + 1) l) (sym (pushed ∙ no_more kids)) (children_skip n kids g lost)
+  children_next n kids new (Some k) g (stands, path) pushed =
       let last : prefixes nodes (kids ++ k ∷ []) ≡ prefixes nodes kids ++ (e ++ n ∷ []) ∷ [] = prefixes_last nodes kids k ∙ ap (λ (p : List ℕ). prefixes nodes kids ++ p ∷ []) path in
       rw pushed (record {
         each = each_last (IsNew v f nodes) kids k g.each stands;
@@ -223,4 +231,4 @@ module _ {Set : Type 0} (v : View Set) (f : CostToGo Set) (nodes : List Node) (e
   children_past n (suc k) kids z lost =
       let same : n + k + 1 ≡ n + suc k = omega arith in
       let before = children_past n k kids z (λ op ge lt. lost op ge (omega (arith, lt))) in
-      subst (λ (w : ℕ). AreChildren v f nodes e w kids) same (children_next (n + k) kids kids before (inl (refl, lost (n + k) (omega arith) (omega arith))))
+      subst (λ (w : ℕ). AreChildren v f nodes e w kids) same (children_skip (n + k) kids before (lost (n + k) (omega arith) (omega arith)))

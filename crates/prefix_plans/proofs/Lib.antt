@@ -1,4 +1,5 @@
 pub mod Ranks
+pub mod Finding
 pub mod Moving
 pub mod Far
 pub mod Growing

@@ -1,5 +1,5 @@
 -- The first entry gives way to its children, or to what is known of it.
-use Rattle.std.proofs.Common.{◌≡◌, ℕ, ◌+◌, ◌<◌, ◌≤◌, inl, inr, IsTrue, IsFalse, List, [], ◌∷◌, ◌++◌, length, slice_index_or, Option, Some, None, Result, Ok, Err, OnErr, refl, sym, ◌∙◌, ap, subst, arith}
+use Rattle.std.proofs.Common.{Vec, Global, ◌≡◌, ℕ, ◌+◌, ◌<◌, ◌≤◌, inl, inr, IsTrue, IsFalse, List, [], ◌∷◌, ◌++◌, length, slice_index_or, Option, Some, None, Result, Ok, Err, OnErr, refl, sym, ◌∙◌, ap, subst, arith}
 use Rattle.std.specs.List.{All, AllByRecursion}
 use Rattle.std.specs.List.Sorted.{IsPermutation}
 use Rattle.std.proofs.lemmas.List.Elements.{recursion_from_All}
@@ -13,12 +13,14 @@ use Rattle.prefix_laws.specs.Queue.{Good, Bounds, Replaced, Right, Pending}
 use Rattle.prefix_laws.proofs.Turns as turns
 use Rattle.prefix_tree.specs.Order.{IsNoLater}
 use Rattle.prefix_tree.specs.StateGraph.{states_of, IsStateGraph}
-use Rattle.prefix_tree.specs.declared.state_graph.StateGraph.{StateGraph}
 use Rattle.prefix_tree.specs.Tree.{Grows, path_at}
 use Rattle.prefix_tree.specs.Entries.{prefixes}
 use Rattle.prefix_tree.specs.declared.tree.Node.{Node}
 use Rattle.prefix_tree.specs.declared.entry.Entry.{Entry}
 use Rattle.prefix_tree.proofs.Entries.{prefixes_like, first_is, first_in, entries_replaced, replaced_by, each_new}
+use Rattle.goal_ranks.specs.declared.lookup.Rank.{Rank}
+use Rattle.prefix_plans.specs.declared.places.Places.{Places}
+use Rattle.prefix_plans.specs.Places.{AreFound}
 use Rattle.prefix_plans.specs.Left.{known_of}
 use Rattle.prefix_plans.specs.Children.{IsEntry, IsNew, AreChildren, IsOutdated, outdated}
 use Rattle.prefix_plans.specs.Standing.{IsBetter, IsReady, GoesOn, GivesFirst, KeepsPending, Opens, IsPlanAt, listed_of, all_outdated, work}
@@ -44,12 +46,12 @@ bounds_first v f nodes e [] a b = tt
 bounds_first v f nodes e (k ∷ es) a b = ((λ p plan on. let le = a.0.bounds p plan on in let first = no_less e k b.0 in omega (arith, le, first)), bounds_first v f nodes e es a.1 b.1)
 
 -- a prefix in the tree is good
-pub good_at : {Set : Type 0} (v : View Set) (f : CostToGo Set) (m : StateGraph) (nodes : List Node) (es : List Entry) (e : Entry) → IsReady v f m nodes es → IsEntry v f nodes e → Good v.system TopK (path_at nodes e.node)
+pub good_at : {Set : Type 0} (v : View Set) (f : CostToGo Set) (m : Places) (nodes : List Node) (es : List Entry) (e : Entry) → IsReady v f m nodes es → IsEntry v f nodes e → Good v.system TopK (path_at nodes e.node)
 good_at v f m nodes es e z entry = (z.tree.each e.node entry.inside).good
 
 -- the tree grew, and the queue is as it was
-pub ready_grown : {Set : Type 0} (v : View Set) (f : CostToGo Set) (m n : StateGraph) (a c : List Node) (es : List Entry) → IsStateGraph v.system n → Grows v.system TopK (states_of n) a c → IsReady v f m a es → IsReady v f n c es
-ready_grown v f m n a c es graph g z = record { alone = z.alone; graph = graph; tree = g.tree; each = each_like v f a c g.longer g.paths es z.each }
+pub ready_grown : {Set : Type 0} (v : View Set) (f : CostToGo Set) (m n : Places) (a c : List Node) (es : List Entry) → IsStateGraph v.system n.graph → AreFound v f (states_of n.graph) n.ranks.items → Grows v.system TopK (states_of n.graph) a c → IsReady v f m a es → IsReady v f n c es
+ready_grown v f m n a c es graph found g z = record { alone = z.alone; graph = graph; found = found; tree = g.tree; each = each_like v f a c g.longer g.paths es z.each }
 
 -- the queue and the tree are as if one had grown after the other
 goes_as : {Set : Type 0} (v : View Set) (f : CostToGo Set) (a c : List Node) (es new : List Entry) → prefixes c es ≡ prefixes a es → GoesOn v f c c es new → GoesOn v f a c es new
@@ -63,7 +65,7 @@ gives_as y a c e es new p same g most right cheap =
     (h.0, subst (λ (ps : List (List ℕ)). Gave y TopK most (Pending y TopK ps) (Pending y TopK (prefixes c new)) p) same h.1)
 
 -- the children came to the tree, and the entry gave way to them in the queue
-module _ {Set : Type 0} (v : View Set) (f : CostToGo Set) (m n : StateGraph) (a c : List Node) (es kids new : List Entry) (e : Entry) (graph : IsStateGraph v.system n) (g : Grows v.system TopK (states_of n) a c) (z : IsReady v f m a es) (some : 0 < length es) (first : e ≡ slice_index_or es 0 e) (ranked : IsTrue e.settled) (order : All (IsNoLater e) es)
+module _ {Set : Type 0} (v : View Set) (f : CostToGo Set) (m n : Places) (a c : List Node) (es kids new : List Entry) (e : Entry) (graph : IsStateGraph v.system n.graph) (found : AreFound v f (states_of n.graph) n.ranks.items) (g : Grows v.system TopK (states_of n.graph) a c) (z : IsReady v f m a es) (some : 0 < length es) (first : e ≡ slice_index_or es 0 e) (ranked : IsTrue e.settled) (order : All (IsNoLater e) es)
     (children : AreChildren v f c (path_at a e.node) v.system.operators kids) (perm : IsPermutation (es ++ kids) (e ∷ new)) where
   old_entry : IsEntry v f a e
   old_entry = first_is (IsEntry v f a) es e some first z.each
@@ -72,7 +74,7 @@ module _ {Set : Type 0} (v : View Set) (f : CostToGo Set) (m n : StateGraph) (a 
   each_old = each_like v f a c g.longer g.paths es z.each
 
   pub open_ready : IsReady v f n c new
-  open_ready = record { alone = z.alone; graph = graph; tree = g.tree; each = each_new es kids new e perm (IsEntry v f c) each_old (each_of_new v f c kids children.each) }
+  open_ready = record { alone = z.alone; graph = graph; found = found; tree = g.tree; each = each_new es kids new e perm (IsEntry v f c) each_old (each_of_new v f c kids children.each) }
 
   entry : IsEntry v f c e
   entry = entry_like v f a c g.longer g.paths e old_entry
@@ -138,7 +140,7 @@ pub learned_perm : (es room others new : List Entry) (o : Option Entry) (e : Ent
 learned_perm es room others new o e same is first perm = subst (λ (l : List Entry). IsPermutation (es ++ l) (e ∷ new)) is (replaced_perm es room others new e same first perm)
 
 -- the first entry gave way to what was learned of it
-module _ {Set : Type 0} (v : View Set) (f : CostToGo Set) (m : StateGraph) (nodes : List Node) (es new : List Entry) (e : Entry) (some : 0 < length es) (first : e ≡ slice_index_or es 0 e) (off : IsFalse e.settled) (more : IsOutdated (known_of f) e) (z : IsReady v f m nodes es) where
+module _ {Set : Type 0} (v : View Set) (f : CostToGo Set) (m : Places) (nodes : List Node) (es new : List Entry) (e : Entry) (some : 0 < length es) (first : e ≡ slice_index_or es 0 e) (off : IsFalse e.settled) (more : IsOutdated (known_of f) e) (z : IsReady v f m nodes es) where
   each_of : (o : Option Entry) → IsBetter v f nodes e o → AllByRecursion (IsEntry v f nodes) (listed_of o)
   each_of None h = tt
   each_of (Some k) h = (h.1.0, tt)
@@ -151,8 +153,8 @@ module _ {Set : Type 0} (v : View Set) (f : CostToGo Set) (m : StateGraph) (node
       alone n is = omega (arith, is)
 
   module _ (o : Option Entry) (better : IsBetter v f nodes e o) (perm : IsPermutation (es ++ listed_of o) (e ∷ new)) where
-    pub learned_ready : IsReady v f m nodes new
-    learned_ready = record { alone = z.alone; graph = z.graph; tree = z.tree; each = each_new es (listed_of o) new e perm (IsEntry v f nodes) z.each (each_of o better) }
+    pub learned_ready : (ranks : Vec (Option Rank) Global) → AreFound v f (states_of m.graph) ranks.items → IsReady v f (record m { ranks = ranks }) nodes new
+    learned_ready ranks found = record { alone = z.alone; graph = z.graph; found = found; tree = z.tree; each = each_new es (listed_of o) new e perm (IsEntry v f nodes) z.each (each_of o better) }
 
     less : work (known_of f) new < work (known_of f) es
     less = learn_less (known_of f) es (listed_of o) new e (entries_replaced es (listed_of o) new e perm) (unranked_dated (known_of f) e off more) (fresh_of o better)

@@ -1,5 +1,5 @@
 -- Entries of the queue, and the children of one.
-use Rattle.std.specs.Prelude.{◌≡◌, ℕ, cond, nat_lt, ◌+◌, ◌*◌, ◌-◌, ◌<◌, ◌≤◌, ◌^◌, ◌⊎◌, ◌||◌, IsTrue, List, [], ◌∷◌, ◌++◌, length}
+use Rattle.std.specs.Prelude.{◌≡◌, ℕ, cond, nat_lt, ◌+◌, ◌*◌, ◌-◌, ◌<◌, ◌≤◌, ◌^◌, ◌⊎◌, ◌||◌, IsTrue, List, [], ◌∷◌, ◌++◌, Option, Some, None, length}
 use Rattle.std.specs.Bool.{Decides}
 use Rattle.std.specs.List.{AllByRecursion}
 use Rattle.symk_task.specs.declared.parts.Mode.TheVariants.{TopK}
@@ -49,9 +49,10 @@ outdated known e = cond e.settled 0 (cond (nat_lt e.ring.0 known.many || nat_lt 
 abbrev pub IsNew : {Set : Type 0} → View Set → CostToGo Set → List Node → Entry → Type 0
 IsNew v f nodes e = IsEntry v f nodes e × TellsRank v f nodes e × (outdated (known_of f) e ≡ 0)
 
--- the child by this operator was added, or no plan goes on so
-abbrev pub Added : {Set : Type 0} → View Set → CostToGo Set → List Node → List ℕ → ℕ → List Entry → List Entry → Type 0
-Added v f nodes e op old new = ((new ≡ old) × Hopeless v.system TopK (e ++ op ∷ [])) ⊎ ((k : Entry) × (new ≡ old ++ k ∷ []) × IsNew v f nodes k × (path_at nodes k.node ≡ e ++ op ∷ []))
+-- no plan goes on by this operator, or it is the child
+abbrev pub IsChild : {Set : Type 0} → View Set → CostToGo Set → List Node → List ℕ → ℕ → Option Entry → Type 0
+IsChild v f nodes e op None = Hopeless v.system TopK (e ++ op ∷ [])
+IsChild v f nodes e op (Some k) = IsNew v f nodes k × (path_at nodes k.node ≡ e ++ op ∷ [])
 
 -- the children of e by the operators below n
 pub record AreChildren {Set : Type 0} (v : View Set) (f : CostToGo Set) (nodes : List Node) (e : List ℕ) (n : ℕ) (kids : List Entry) : Type 0 where

@@ -32,7 +32,7 @@ tells view x p = tells_owed (view x.space).system TopK (prefixes x.tree.items (e
 
 -- what it meets between two calls
 abbrev pub IsEngine : {S Set : Type 0} → (S → View Set) → PrefixPlans S Set → Type 0
-IsEngine view x = IsSound (view x.space) x.search x.within x.graph x.tree.items x.most (entries_of x.queue) x.held x.ended
+IsEngine view x = IsSound (view x.space) x.search x.within x.places x.tree.items x.most (entries_of x.queue) x.held x.ended
 
 -- every valid set is one of the search, or the one that it is kept to
 abbrev pub KeepsAll : {S Set : Type 0} → (S → View Set) → PrefixPlans S Set → Type 0

@@ -1,4 +1,5 @@
 pub mod Left
+pub mod Places
 pub mod Reach
 pub mod Children
 pub mod Standing

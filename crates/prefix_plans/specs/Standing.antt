@@ -9,12 +9,13 @@ use Rattle.symk_task.specs.declared.parts.Mode.TheVariants.{TopK}
 use Rattle.lazy_plans.specs.Law.{Gave, Stays, top}
 use Rattle.prefix_laws.specs.Queue.{Hopeless, Right, Pending}
 use Rattle.prefix_tree.specs.StateGraph.{states_of, IsStateGraph}
-use Rattle.prefix_tree.specs.declared.state_graph.StateGraph.{StateGraph}
 use Rattle.prefix_tree.specs.Tree.{IsTree, path_at}
 use Rattle.prefix_tree.specs.Entries.{prefixes}
 use Rattle.prefix_tree.specs.declared.tree.Node.{Node}
 use Rattle.prefix_tree.specs.declared.entry.Entry.{Entry}
 use Rattle.prefix_plans.specs.Left.{Known, known_of}
+use Rattle.prefix_plans.specs.Places.{AreFound}
+use Rattle.prefix_plans.specs.declared.places.Places.{Places}
 use Rattle.prefix_plans.specs.Children.{IsEntry, IsNew, outdated}
 
 -- a is one of the sets of the search, or the one that it is kept to
@@ -53,12 +54,13 @@ all_outdated known (e ∷ es) = outdated known e + all_outdated known es
 abbrev pub work : Known → List Entry → ℕ
 work known es = all_outdated known es * (farthest + 1) + nearest es
 
--- The search, the graph of states, the tree and the entries of the queue stand, and each valid set is one of the search
+-- The search, the graph of states with ranks that were found, the tree and the entries of the queue stand, and each valid set is one of the search
 -- or the one that it is kept to.
-pub record IsReady {Set : Type 0} (v : View Set) (f : CostToGo Set) (m : StateGraph) (nodes : List Node) (es : List Entry) : Type 0 where
+pub record IsReady {Set : Type 0} (v : View Set) (f : CostToGo Set) (m : Places) (nodes : List Node) (es : List Entry) : Type 0 where
   pub alone : IsAlone v f
-  pub graph : IsStateGraph v.system m
-  pub tree : IsTree v.system TopK (states_of m) nodes
+  pub graph : IsStateGraph v.system m.graph
+  pub found : AreFound v f (states_of m.graph) m.ranks.items
+  pub tree : IsTree v.system TopK (states_of m.graph) nodes
   pub each : AllByRecursion (IsEntry v f nodes) es
 
 -- the entry alone, or none

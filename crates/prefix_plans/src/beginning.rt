@@ -5,6 +5,7 @@ ghost use Rattle.space_api.specs.View.{View, Valid};
 ghost use Rattle.prefix_plans.specs.Engine.{system_of, most_of, ended_of, IsEngine, HasNone, HasAlone, HasUseful, OwesAll};
 
 use crate::engine::PrefixPlans;
+use crate::places::Places;
 use cost_to_go::CostToGo;
 use prefix_tree::{Entry, Node, Queue, StateGraph, number_of_start};
 use single_states::goal_at;
@@ -57,7 +58,10 @@ impl<S: Space + Drop> PrefixPlans<S> {
             space,
             search,
             within,
-            graph,
+            places: Places {
+                graph,
+                ranks: Vec::new(alloc),
+            },
             tree,
             queue,
             most,

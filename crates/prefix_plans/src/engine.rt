@@ -1,8 +1,9 @@
 //! The engine: all plans, the cheapest first.
 
+use crate::places::Places;
 use cost_to_go::CostToGo;
 use lazy_plans::Stop;
-use prefix_tree::{Node, Queue, StateGraph};
+use prefix_tree::{Node, Queue};
 use space_api::Space;
 use symk_task::Plan;
 
@@ -15,7 +16,7 @@ pub struct PrefixPlans<S: Space> {
     /// The states that its ranks are kept to.
     pub(crate) within: S::Set,
     /// The states to which prefixes come.
-    pub(crate) graph: StateGraph,
+    pub(crate) places: Places,
     /// The prefixes that were made.
     pub(crate) tree: Vec<Node>,
     /// Those that may go on.
@@ -54,7 +55,7 @@ impl<S: Space> PrefixPlans<S> {
             &mut self.space,
             &mut self.search,
             self.within,
-            &mut self.graph,
+            &mut self.places,
             &mut self.tree,
             self.most,
             &mut self.queue,

@@ -7,7 +7,8 @@
 //! holds there; else more is learned of it, or the search goes on until the state is ranked or the bound is no longer the
 //! least. So the list goes on however wide costs are: each step of the search leaves fewer to do. Each turn that takes a
 //! ranked entry comes nearer to a plan, since a cheapest way leads on to a lower number; so circles of cost 0 come as longer
-//! prefixes, which wait. Where each plan that is left costs more than 64 bits hold, the states that lead to the goal at all
+//! prefixes, which wait. Once the rank of a state was found it is kept by the state's number, since many prefixes come to
+//! one state. Where each plan that is left costs more than 64 bits hold, the states that lead to the goal at all
 //! tell whether one is left. It stands on `prefix_tree` for prefixes, the states where they end and their queue, on
 //! `single_states` for the goal and membership of one state, on `prefix_laws` for what pends, on `cost_to_go` for ranks and
 //! bounds, on `useful_states` for the states that lead to the goal, and on `lazy_plans` for the law that it keeps.
@@ -21,6 +22,7 @@ mod engine;
 mod expand;
 mod improve;
 mod left;
+mod places;
 mod range;
 mod reach;
 mod turn;

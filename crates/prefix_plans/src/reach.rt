@@ -9,11 +9,13 @@ ghost use Rattle.prefix_tree.specs.StateGraph.{states_of, IsStateGraph, IsMove};
 ghost use Rattle.prefix_tree.specs.Tree.{IsTree, path_at, end_at};
 ghost use Rattle.cost_to_go.specs.Standing.{IsCostToGo};
 ghost use Rattle.cost_to_go.specs.Telling.{CostsAtLeast};
+ghost use Rattle.prefix_plans.specs.Places.{AreFound};
 ghost use Rattle.prefix_plans.specs.Children.{IsEntry};
 ghost use Rattle.prefix_plans.specs.Reach.{IsReach};
 
 use crate::left::{Left, left_after, left_from};
 use cost_to_go::CostToGo;
+use goal_ranks::Rank;
 use prefix_tree::{Entry, Move, Node, StateGraph};
 use single_states::goal_at;
 use space_api::{Space, SpaceFault};
@@ -52,25 +54,27 @@ pub(crate) fn reach<S: Space>(
     space: &S,
     search: &CostToGo<S::Set>,
     graph: &StateGraph,
+    ranks: &mut Vec<Option<Rank>>,
     tree: &[Node],
     entry: Entry,
     step: Move,
 ) -> Result<Option<Reached>, SpaceFault>
     requires search { IsCostToGo (S.view space.now) search.now }
     requires graph { IsStateGraph (S.view space.now).system graph.now }
+    requires found { AreFound (S.view space.now) search.now (states_of graph.now) ranks.old.items }
     requires tree { IsTree (S.view space.now).system TopK (states_of graph.now) tree.now }
     requires entry { IsEntry (S.view space.now) search.now tree.now entry }
     requires step { IsMove (S.view space.now).system (states_of graph.now)
         (end_at (states_of graph.now) tree.now entry.node) step }
-    ensures { IfOk result (IsReach (S.view space.now) search.now (path_at tree.now entry.node) step.op) }
+    ensures found { AreFound (S.view space.now) search.now (states_of graph.now) ranks.new.items }
+    ensures reach { IfOk result (IsReach (S.view space.now) search.now (path_at tree.now entry.node) step.op) }
 {
-    let next = graph.state(step.to);
     let cost = entry.cost + space.cost_of(step.op) as u128;
     let low = left_after(entry.bound.0, cost);
-    match left_from(space, search, next, cost, 0, low) {
+    match left_from(space, search, graph, ranks, step.to, cost, 0, low) {
         None => Ok(None),
         Some(left) => {
-            let at_goal = goal_after(alloc, space, next, left)?;
+            let at_goal = goal_after(alloc, space, graph.state(step.to), left)?;
             Ok(Some(Reached {
                 cost,
                 left,

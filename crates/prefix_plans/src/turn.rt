@@ -12,9 +12,10 @@ ghost use Rattle.prefix_plans.specs.Standing.{IsReady, GoesOn, Opens, IsPlanAt, 
 
 use crate::expand::expand;
 use crate::improve::improve;
+use crate::places::Places;
 use cost_to_go::CostToGo;
 use lazy_plans::Steps;
-use prefix_tree::{Entry, Node, Queue, StateGraph, operators_to};
+use prefix_tree::{Entry, Node, Queue, operators_to};
 use space_api::{Space, SpaceFault};
 use std::alloc::{AllocError, Global};
 use std::sync::ledger::Ledger;
@@ -42,25 +43,25 @@ pub(crate) fn learn<S: Space, L: Ledger>(
     alloc: Global,
     space: &S,
     search: &CostToGo<S::Set>,
-    graph: &StateGraph,
+    places: &mut Places,
     tree: &[Node],
     queue: &mut Queue,
     entry: Entry,
     steps: &mut Steps<L>,
 ) -> Result<(), AllocError>
-    requires ready { IsReady (S.view space.now) search.now graph.now tree.now (entries_of queue.old) }
+    requires ready { IsReady (S.view space.now) search.now places.old tree.now (entries_of queue.old) }
     requires some { 0 < length (entries_of queue.old) }
     requires first { entry ≡ slice_index_or (entries_of queue.old) 0 entry }
     requires open { IsFalse entry.settled }
     requires more { IsOutdated (known_of search.now) entry }
-    ensures ready { IsReady (S.view space.now) search.now graph.now tree.now (entries_of queue.new) }
+    ensures ready { IsReady (S.view space.now) search.now places.new tree.now (entries_of queue.new) }
     ensures ok { OnOk result (GoesOn (S.view space.now) search.now tree.now tree.now
         (entries_of queue.old) (entries_of queue.new)) }
     ensures err { OnErr result (entries_of queue.new ≡ entries_of queue.old) }
     ensures one { OnOk result (steps.new ≡ steps.old + 1) }
     ensures none { OnErr result (steps.new ≡ steps.old) }
 {
-    let better = improve(space, search, graph, tree, entry);
+    let better = improve(space, search, &places.graph, &mut places.ranks, tree, entry);
     let others = one_or_none(alloc, better)?;
     queue.make_room(others.len())?;
     queue.replace(others, steps);
@@ -85,18 +86,18 @@ pub(crate) fn open<S: Space, L: Ledger>(
     alloc: Global,
     space: &S,
     search: &CostToGo<S::Set>,
-    graph: &mut StateGraph,
+    places: &mut Places,
     tree: &mut Vec<Node>,
     queue: &mut Queue,
     entry: Entry,
     steps: &mut Steps<L>,
 ) -> Result<Option<Plan>, SpaceFault>
-    requires ready { IsReady (S.view space.now) search.now graph.old tree.old.items (entries_of queue.old) }
+    requires ready { IsReady (S.view space.now) search.now places.old tree.old.items (entries_of queue.old) }
     requires some { 0 < length (entries_of queue.old) }
     requires first { entry ≡ slice_index_or (entries_of queue.old) 0 entry }
     requires ranked { IsTrue entry.settled }
     requires order { All (IsNoLater entry) (entries_of queue.old) }
-    ensures ready { IsReady (S.view space.now) search.now graph.new tree.new.items (entries_of queue.new) }
+    ensures ready { IsReady (S.view space.now) search.now places.new tree.new.items (entries_of queue.new) }
     ensures ok { IfOk result (Opens (S.view space.now) search.now tree.old.items tree.new.items entry
         (entries_of queue.old) (entries_of queue.new)) }
     ensures err { OnErr result (prefixes tree.new.items (entries_of queue.new) ≡ prefixes tree.old.items
@@ -105,7 +106,7 @@ pub(crate) fn open<S: Space, L: Ledger>(
     ensures none { OnErr result (steps.new ≡ steps.old) }
 {
     let plan = plan_of(alloc, tree, entry)?;
-    let children = expand(alloc, space, search, graph, tree, queue, entry)?;
+    let children = expand(alloc, space, search, places, tree, queue, entry)?;
     queue.replace(children, steps);
     Ok(plan)
 }

@@ -12,17 +12,18 @@ ghost use Rattle.prefix_tree.specs.Order.{IsNoLater};
 ghost use Rattle.prefix_tree.specs.Entries.{entries_of, prefixes};
 ghost use Rattle.prefix_tree.specs.declared.entry.Entry.{Entry};
 ghost use Rattle.prefix_tree.specs.declared.tree.Node.{Node};
-ghost use Rattle.prefix_tree.specs.declared.state_graph.StateGraph.{StateGraph};
+ghost use Rattle.prefix_plans.specs.declared.places.Places.{Places};
 ghost use Rattle.prefix_plans.specs.Left.{known_of, bound_at};
 ghost use Rattle.prefix_plans.specs.Children.{IsOutdated};
 ghost use Rattle.prefix_plans.specs.Standing.{IsAlone, IsReady, KeepsPending};
 ghost use Rattle.prefix_plans.specs.Turned.{Acts, TurnOf, HaltsAt, CountsTurn};
 
+use crate::places::Places;
 use crate::range::is_left;
 use crate::turn::{learn, open};
 use cost_to_go::CostToGo;
 use lazy_plans::{Steps, Stop};
-use prefix_tree::{Entry, Node, Queue, StateGraph};
+use prefix_tree::{Entry, Node, Queue};
 use space_api::{Space, SpaceFault};
 use std::alloc::Global;
 use std::sync::ledger::Ledger;
@@ -77,17 +78,17 @@ fn act<S: Space, L: Ledger>(
     alloc: Global,
     space: &S,
     search: &CostToGo<S::Set>,
-    graph: &mut StateGraph,
+    places: &mut Places,
     tree: &mut Vec<Node>,
     queue: &mut Queue,
     entry: Entry,
     steps: &mut Steps<L>,
 ) -> Result<Option<Halt>, SpaceFault>
-    requires ready { IsReady (S.view space.now) search.now graph.old tree.old.items (entries_of queue.old) }
+    requires ready { IsReady (S.view space.now) search.now places.old tree.old.items (entries_of queue.old) }
     requires some { 0 < length (entries_of queue.old) }
     requires first { entry ≡ slice_index_or (entries_of queue.old) 0 entry }
     requires order { All (IsNoLater entry) (entries_of queue.old) }
-    ensures ready { IsReady (S.view space.now) search.now graph.new tree.new.items (entries_of queue.new) }
+    ensures ready { IsReady (S.view space.now) search.now places.new tree.new.items (entries_of queue.new) }
     ensures ok { IfOk result (Acts (S.view space.now) search.now tree.old.items tree.new.items entry
         (entries_of queue.old) (entries_of queue.new)) }
     ensures err { OnErr result (prefixes tree.new.items (entries_of queue.new) ≡ prefixes tree.old.items
@@ -96,7 +97,7 @@ fn act<S: Space, L: Ledger>(
     ensures none { OnErr result (steps.new ≡ steps.old) }
 {
     if entry.settled {
-        return match open(alloc, space, search, graph, tree, queue, entry, steps)? {
+        return match open(alloc, space, search, places, tree, queue, entry, steps)? {
             None => Ok(None),
             Some(plan) => Ok(Some(Halt::Gives(plan))),
         };
@@ -104,7 +105,7 @@ fn act<S: Space, L: Ledger>(
     if !is_outdated(search, entry) {
         return Ok(Some(Halt::Waits));
     }
-    learn(alloc, space, search, graph, tree, queue, entry, steps)?;
+    learn(alloc, space, search, places, tree, queue, entry, steps)?;
     Ok(None)
 }
 
@@ -114,18 +115,18 @@ fn end<S: Space, L: Ledger>(
     space: &mut S,
     search: &CostToGo<S::Set>,
     within: S::Set,
-    graph: &StateGraph,
+    places: &Places,
     tree: &[Node],
     most: Option<u64>,
     queue: &mut Queue,
     steps: &mut Steps<L>,
 ) -> Result<Halt, SpaceFault>
-    requires ready { IsReady (S.view space.old) search.now graph.now tree.now (entries_of queue.old) }
+    requires ready { IsReady (S.view space.old) search.now places.now tree.now (entries_of queue.old) }
     requires within { within ≡ within_of search.now }
     requires right { Right (S.view space.old).system TopK most (prefixes tree.now (entries_of queue.old)) }
     requires dear { AllByRecursion (λ (k : Entry). top most < k.bound.0) (entries_of queue.old) }
     ensures system { (S.view space.new).system ≡ (S.view space.old).system }
-    ensures ready { IsReady (S.view space.new) search.now graph.now tree.now (entries_of queue.new) }
+    ensures ready { IsReady (S.view space.new) search.now places.now tree.now (entries_of queue.new) }
     ensures ok { IfOk result (HaltsAt (S.view space.old).system (known_of search.now) most tree.now tree.now
         (entries_of queue.old) (entries_of queue.new)) }
     ensures last { IfOk result (λ halt. CountsTurn steps.old steps.new (Some halt)) }
@@ -135,7 +136,7 @@ fn end<S: Space, L: Ledger>(
     match most {
         Some(_) => Ok(Halt::Ends),
         None => {
-            if is_left(alloc, space, within, graph, tree, queue, steps)? {
+            if is_left(alloc, space, within, &places.graph, tree, queue, steps)? {
                 return Ok(Halt::OutOfRange);
             }
             Ok(Halt::Ends)
@@ -149,17 +150,17 @@ fn take_turn<S: Space, L: Ledger>(
     space: &mut S,
     search: &CostToGo<S::Set>,
     within: S::Set,
-    graph: &mut StateGraph,
+    places: &mut Places,
     tree: &mut Vec<Node>,
     most: Option<u64>,
     queue: &mut Queue,
     steps: &mut Steps<L>,
 ) -> Result<Option<Halt>, SpaceFault>
-    requires ready { IsReady (S.view space.old) search.now graph.old tree.old.items (entries_of queue.old) }
+    requires ready { IsReady (S.view space.old) search.now places.old tree.old.items (entries_of queue.old) }
     requires within { within ≡ within_of search.now }
     requires right { Right (S.view space.old).system TopK most (prefixes tree.old.items (entries_of queue.old)) }
     ensures system { (S.view space.new).system ≡ (S.view space.old).system }
-    ensures ready { IsReady (S.view space.new) search.now graph.new tree.new.items (entries_of queue.new) }
+    ensures ready { IsReady (S.view space.new) search.now places.new tree.new.items (entries_of queue.new) }
     ensures ok { IfOk result (TurnOf (S.view space.old).system (known_of search.now) most tree.old.items
         tree.new.items (entries_of queue.old) (entries_of queue.new)) }
     ensures one { IfOk result (CountsTurn steps.old steps.new) }
@@ -171,11 +172,11 @@ fn take_turn<S: Space, L: Ledger>(
         Some(entry) => {
             if entry.bound.0 > top_of(most) as u128 {
                 let halt = end(
-                    alloc, space, search, within, graph, tree, most, queue, steps,
+                    alloc, space, search, within, places, tree, most, queue, steps,
                 )?;
                 return Ok(Some(halt));
             }
-            act(alloc, space, search, graph, tree, queue, entry, steps)
+            act(alloc, space, search, places, tree, queue, entry, steps)
         }
     }
 }
@@ -186,17 +187,17 @@ fn take_turns<S: Space, L: Ledger>(
     space: &mut S,
     search: &CostToGo<S::Set>,
     within: S::Set,
-    graph: &mut StateGraph,
+    places: &mut Places,
     tree: &mut Vec<Node>,
     most: Option<u64>,
     queue: &mut Queue,
     steps: &mut Steps<L>,
 ) -> Result<Halt, SpaceFault>
-    requires ready { IsReady (S.view space.old) search.now graph.old tree.old.items (entries_of queue.old) }
+    requires ready { IsReady (S.view space.old) search.now places.old tree.old.items (entries_of queue.old) }
     requires within { within ≡ within_of search.now }
     requires right { Right (S.view space.old).system TopK most (prefixes tree.old.items (entries_of queue.old)) }
     ensures system { (S.view space.new).system ≡ (S.view space.old).system }
-    ensures ready { IsReady (S.view space.new) search.now graph.new tree.new.items (entries_of queue.new) }
+    ensures ready { IsReady (S.view space.new) search.now places.new tree.new.items (entries_of queue.new) }
     ensures ok { IfOk result (HaltsAt (S.view space.old).system (known_of search.now) most tree.old.items
         tree.new.items (entries_of queue.old) (entries_of queue.new)) }
     ensures err { OnErr result (KeepsPending (S.view space.old).system most tree.old.items tree.new.items
@@ -204,7 +205,7 @@ fn take_turns<S: Space, L: Ledger>(
 {
     'turns: loop {
         if let Some(halt) = take_turn(
-            alloc, space, search, within, graph, tree, most, queue, steps,
+            alloc, space, search, within, places, tree, most, queue, steps,
         )? {
             return Ok(halt);
         }
@@ -222,9 +223,9 @@ fn go_on<S: Space>(
     requires more { IsSome (next_key_of search.old) }
     ensures system { (S.view space.new).system ≡ (S.view space.old).system }
     ensures within { within_of search.new ≡ within_of search.old }
-    ensures ready { (graph : StateGraph) (tree : List Node) (entries : List Entry)
-        → IsReady (S.view space.old) search.old graph tree entries
-        → IsReady (S.view space.new) search.new graph tree entries }
+    ensures ready { (places : Places) (tree : List Node) (entries : List Entry)
+        → IsReady (S.view space.old) search.old places tree entries
+        → IsReady (S.view space.new) search.new places tree entries }
     ensures fewer { let y = (S.view space.old).system in OnOk result (steps_left y search.new
         < steps_left y search.old) }
 {
@@ -237,17 +238,17 @@ pub(crate) fn walk<S: Space, L: Ledger>(
     space: &mut S,
     search: &mut CostToGo<S::Set>,
     within: S::Set,
-    graph: &mut StateGraph,
+    places: &mut Places,
     tree: &mut Vec<Node>,
     most: Option<u64>,
     queue: &mut Queue,
     steps: &mut Steps<L>,
 ) -> Result<Option<Plan>, Stop>
-    requires ready { IsReady (S.view space.old) search.old graph.old tree.old.items (entries_of queue.old) }
+    requires ready { IsReady (S.view space.old) search.old places.old tree.old.items (entries_of queue.old) }
     requires within { within ≡ within_of search.old }
     requires right { Right (S.view space.old).system TopK most (prefixes tree.old.items (entries_of queue.old)) }
     ensures system { (S.view space.new).system ≡ (S.view space.old).system }
-    ensures ready { IsReady (S.view space.new) search.new graph.new tree.new.items (entries_of queue.new) }
+    ensures ready { IsReady (S.view space.new) search.new places.new tree.new.items (entries_of queue.new) }
     ensures within { within ≡ within_of search.new }
     ensures right { Right (S.view space.old).system TopK most (prefixes tree.new.items (entries_of queue.new)) }
     ensures law { Turned (S.view space.old).system TopK most (Pending (S.view space.old).system TopK
@@ -256,7 +257,7 @@ pub(crate) fn walk<S: Space, L: Ledger>(
 {
     'steps: loop {
         match take_turns(
-            alloc, space, search, within, graph, tree, most, queue, steps,
+            alloc, space, search, within, places, tree, most, queue, steps,
         ) {
             Err(_) => return Err(Stop::Memory),
             Ok(halt) => match halt {

@@ -8,7 +8,7 @@ returns-clause-ready g c =
     let es = entries_of c.args.queue.now in
     let new = entries_of c.replace.new.self in
     let perm = learned_perm es (entries_of c.make_room.new.self) c.in_ok-others.others.items new c.improve-better.result c.args.entry c.make_room.ensures.same c.in_ok-others.ensures c.requires.first c.replace.ensures.replaces in
-    learned_ready v c.args.search.now c.args.graph.now c.args.tree.now es new c.args.entry c.requires.some c.requires.first c.requires.open c.requires.more c.requires.ready c.improve-better.result c.improve-better.ensures perm
+    learned_ready v c.args.search.now c.args.places.now c.args.tree.now es new c.args.entry c.requires.some c.requires.first c.requires.open c.requires.more c.requires.ready c.improve-better.result c.improve-better.ensures.better perm c.improve-better.new.ranks c.improve-better.ensures.found
 
 pub returns-clause-ok : goal.returns-clause-ok
 returns-clause-ok g c =
@@ -16,4 +16,4 @@ returns-clause-ok g c =
     let es = entries_of c.args.queue.now in
     let new = entries_of c.replace.new.self in
     let perm = learned_perm es (entries_of c.make_room.new.self) c.in_ok-others.others.items new c.improve-better.result c.args.entry c.make_room.ensures.same c.in_ok-others.ensures c.requires.first c.replace.ensures.replaces in
-    learned_goes v c.args.search.now c.args.graph.now c.args.tree.now es new c.args.entry c.requires.some c.requires.first c.requires.open c.requires.more c.requires.ready c.improve-better.result c.improve-better.ensures perm
+    learned_goes v c.args.search.now c.args.places.now c.args.tree.now es new c.args.entry c.requires.some c.requires.first c.requires.open c.requires.more c.requires.ready c.improve-better.result c.improve-better.ensures.better perm

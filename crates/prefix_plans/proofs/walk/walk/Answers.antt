@@ -92,7 +92,7 @@ go_on-requires-clause-more g c =
 
 pub returns-in-Err-go_on-clause-ready : goal.returns-in-Err-go_on-clause-ready
 returns-in-Err-go_on-clause-ready g c =
-    c.go_on.ensures.ready c.take_turns.new.graph c.take_turns.new.tree.items (entries_of c.take_turns.new.queue) c.take_turns.ensures.ready
+    c.go_on.ensures.ready c.take_turns.new.places c.take_turns.new.tree.items (entries_of c.take_turns.new.queue) c.take_turns.ensures.ready
 
 pub returns-in-Err-go_on-clause-right : goal.returns-in-Err-go_on-clause-right
 returns-in-Err-go_on-clause-right g c =
@@ -115,7 +115,7 @@ steps-preserved g c =
     let h = halts_after y (known_of c.steps.search) c.args.most c.args.tree.now.items c.steps.tree.items c.take_turns.new.tree.items (entries_of c.args.queue.now) (entries_of c.steps.queue) (entries_of c.take_turns.new.queue) c.steps.invariant.keeps Waits t in
     record {
       system = c.go_on.ensures.system ∙ c.take_turns.ensures.system ∙ c.steps.invariant.system;
-      ready = c.go_on.ensures.ready c.take_turns.new.graph c.take_turns.new.tree.items (entries_of c.take_turns.new.queue) c.take_turns.ensures.ready;
+      ready = c.go_on.ensures.ready c.take_turns.new.places c.take_turns.new.tree.items (entries_of c.take_turns.new.queue) c.take_turns.ensures.ready;
       within = c.steps.invariant.within ∙ sym c.go_on.ensures.within;
       keeps = h.0;
     }

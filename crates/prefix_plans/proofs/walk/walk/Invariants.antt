@@ -10,7 +10,7 @@ invariant-steps g l =
     let y = (view l.fn.space).system in
     record {
       system : (view l.space).system ≡ y;
-      ready : IsReady (view l.space) l.search l.graph l.tree.items (entries_of l.queue);
+      ready : IsReady (view l.space) l.search l.places l.tree.items (entries_of l.queue);
       within : l.within ≡ within_of l.search;
       keeps : KeepsPending y l.most l.fn.tree.items l.tree.items (entries_of l.fn.queue) (entries_of l.queue);
     }

@@ -43,8 +43,8 @@ fn left_unranked<T: Copy>(search: &CostToGo<T>, cost: u128) -> Option<u128>
     }
 }
 
-/// What is left at least from the state of this number, to which operators lead at this cost, as far as the search knows; None where it
-/// knows that no list leads to the goal.
+/// What is left at least from the state of this number, to which operators lead at this cost, as far as the search knows;
+/// None where it knows that no list leads to the goal.
 ///
 /// The caller knows that no less than `low` is left, and that no rank below `first` has the state; so no other ranks
 /// are looked at.

@@ -9,7 +9,7 @@ ghost use Rattle.space_api.specs.Owned.{Trades};
 ghost use Rattle.cost_to_go.specs.Standing.{IsCostToGo, IsOwn, HasUseful, within_of, ranks_of};
 
 use crate::search::CostToGo;
-use goal_ranks::GoalRanks;
+use goal_ranks::{GoalRanks, Rings};
 use least_costs::{LeastCosts, Side};
 use space_api::{Space, SpaceFault};
 use std::alloc::Global;
@@ -35,10 +35,12 @@ fn begin<S: Space>(
     let ahead = LeastCosts::new(alloc, space, Side::Ahead, everywhere)?;
     match GoalRanks::new(alloc, space, within) {
         Ok(ranks) => {
+            let rings = Rings::new(alloc);
             let next = ranks.next();
             Ok(CostToGo {
                 ranks,
                 ahead,
+                rings,
                 everywhere,
                 next,
                 both: true,

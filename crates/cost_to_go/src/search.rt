@@ -1,6 +1,6 @@
 //! A search from both ends, and how it is given back.
 
-use goal_ranks::GoalRanks;
+use goal_ranks::{GoalRanks, Rings};
 use least_costs::LeastCosts;
 
 /// What is left from states to the goal, as far as ranks back from there and a search ahead tell it.
@@ -8,6 +8,8 @@ use least_costs::LeastCosts;
 pub struct CostToGo<T: Copy> {
     pub(crate) ranks: GoalRanks<T>,
     pub(crate) ahead: LeastCosts<T>,
+    /// The rings of the search ahead, as far as the ranks looked at them.
+    pub(crate) rings: Rings<T>,
     /// Every state: the search ahead goes inside it.
     pub(crate) everywhere: T,
     /// The least key of what waits for a rank.
@@ -33,6 +35,7 @@ impl<T: Copy> CostToGo<T> {
     {
         self.ranks.give_back(space);
         self.ahead.give_back(space);
+        self.rings.give_back(space);
         space.forget(self.everywhere);
     }
 }

@@ -7,11 +7,12 @@ pub mod Adding
 pub mod Keeping
 pub mod Nearing
 pub mod Beside
-pub mod Rings
+pub mod Keys
 pub mod Dividing
 pub mod Locating
 pub mod Knowing
 pub mod Starting
 pub mod Giving
+pub mod Uniting
 pub mod Firsts
 pub mod Settling

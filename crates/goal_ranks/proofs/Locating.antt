@@ -14,7 +14,7 @@ use Rattle.cost_search.proofs.Meeting.{no_stand}
 use Rattle.least_costs.specs.Least.{search_of}
 use Rattle.least_costs.specs.declared.search.LeastCosts.{LeastCosts}
 use Rattle.goal_ranks.specs.Ahead.{IsAhead, bound_of}
-use Rattle.goal_ranks.proofs.Rings.{stands_below}
+use Rattle.goal_ranks.proofs.Keys.{stands_below}
 
 module _ {Set : Type 0} (v : View Set) (l : Layers Set) (held : Held v l) (s : State) where
   pub none_in : (c : ℕ) → whole_at l c ≡ None → InLayer (Stands v l) c s → ⊥

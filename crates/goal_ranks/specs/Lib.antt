@@ -9,3 +9,4 @@ pub mod Turns
 pub mod Nearing
 pub mod Known
 pub mod Giving
+pub mod Unions

@@ -15,15 +15,18 @@ mod lookup;
 mod nearness;
 mod parts;
 mod release;
+mod rings;
 mod search;
 mod slots;
 mod steps;
 mod telling;
 mod turning;
+mod unions;
 
 pub use lookup::Rank;
 pub use nearness::ahead_of;
 pub use parts::Waiting;
+pub use rings::Rings;
 pub use search::GoalRanks;
 pub use telling::{Part, bound_ahead, divide};
 pub use turning::Turn;

@@ -30,10 +30,11 @@ ghost use Rattle.cost_layers.specs.Layers.{Held, Stands};
 ghost use Rattle.cost_search.specs.Meeting.{IsLayerMeeting};
 ghost use Rattle.run_graph.specs.Layering.{InLayer};
 ghost use Rattle.goal_ranks.specs.Ahead.{IsAhead, bound_of, IsKeyOf, Tells, Divides};
+ghost use Rattle.goal_ranks.specs.Unions.{AreAllRings};
 
 use crate::parts::Waiting;
+use crate::rings::Rings;
 use cost_layers::Layers;
-use cost_search::first_meeting;
 use least_costs::LeastCosts;
 use space_api::{Space, SpaceFault};
 
@@ -51,11 +52,13 @@ pub fn bound_ahead<T: Copy>(ahead: &LeastCosts<T>) -> u128
 fn tell<S: Space>(
     space: &mut S,
     ahead: &LeastCosts<S::Set>,
+    rings: &Rings<S::Set>,
     cost: u64,
     key: u128,
     set: S::Set,
 ) -> Result<Told, SpaceFault>
     requires ahead { IsAhead (S.view space.old) ahead.now }
+    requires rings { AreAllRings (S.view space.old) ahead.now rings.now }
     requires set { Valid (S.view space.old) set }
     requires key { IsKeyOf (S.view space.old).system (Has (S.view space.old) set) cost key }
     ensures stays { Stays (S.view space.old) (S.view space.new) }
@@ -66,8 +69,7 @@ fn tell<S: Space>(
     if cost + bound <= key {
         return Ok(Told::Whole);
     }
-    let low = key.saturating_sub(cost) as u64;
-    match first_meeting(space, ahead.layers(), low, set)? {
+    match rings.first(space, set)? {
         Some(ring) if cost + ring as u128 <= key => Ok(Told::Ring(ring)),
         Some(ring) => Ok(Told::Later(cost + ring as u128)),
         None => Ok(Told::Later(cost + bound)),
@@ -101,10 +103,12 @@ fn in_layer<S: Space>(
 pub fn divide<S: Space>(
     space: &mut S,
     ahead: &LeastCosts<S::Set>,
+    rings: &Rings<S::Set>,
     waiting: Waiting<S::Set>,
     left: S::Set,
 ) -> Result<Part<S::Set>, SpaceFault>
     requires ahead { IsAhead (S.view space.old) ahead.now }
+    requires rings { AreAllRings (S.view space.old) ahead.now rings.now }
     requires set { Valid (S.view space.old) waiting.set }
     requires left { Valid (S.view space.old) left }
     requires key { IsKeyOf (S.view space.old).system (Meets (S.view space.old) waiting.set left) waiting.cost
@@ -117,7 +121,7 @@ pub fn divide<S: Space>(
         space.forget(fresh);
         return Ok(Part::Spent);
     }
-    match tell(space, ahead, waiting.cost, waiting.key, fresh) {
+    match tell(space, ahead, rings, waiting.cost, waiting.key, fresh) {
         Ok(Told::Whole) => Ok(Part::Next(fresh)),
         Ok(Told::Ring(cost)) => {
             let near = in_layer(space, ahead.layers(), cost, fresh);

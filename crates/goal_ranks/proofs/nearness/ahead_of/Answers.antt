@@ -6,7 +6,7 @@ use Rattle.cost_search.specs.Search.{layers_of}
 use Rattle.cost_search.proofs.Coming.{bound_of as next_bound, ComesAfter, is_next}
 use Rattle.least_costs.specs.Least.{search_of}
 use Rattle.goal_ranks.specs.Ahead.{bound_of}
-use Rattle.goal_ranks.proofs.Rings.{ring_reached, layer_few}
+use Rattle.goal_ranks.proofs.Keys.{ring_reached, layer_few}
 use Rattle.goal_ranks.proofs.Locating.{none_first, none_past, none_less, not_true}
 use Rattle.goal_ranks.proofs.nearness.ahead_of.Goals as goal
 

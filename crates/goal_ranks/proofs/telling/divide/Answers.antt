@@ -11,7 +11,8 @@ use Rattle.cost_search.proofs.Meeting.{meeting_kept}
 use Rattle.least_costs.specs.Least.{search_of}
 use Rattle.goal_ranks.specs.Ahead.{Tells}
 use Rattle.goal_ranks.specs.declared.telling.Told.{Told}
-use Rattle.goal_ranks.proofs.Rings.{ahead_kept, key_kept}
+use Rattle.goal_ranks.proofs.Keys.{ahead_kept, key_kept}
+use Rattle.goal_ranks.proofs.Uniting.{all_kept}
 use Rattle.goal_ranks.proofs.Dividing.{spent, later, ring, on_err}
 use Rattle.goal_ranks.proofs.telling.divide.Goals as goal
 
@@ -23,6 +24,9 @@ returns-then-is_empty-clause-ok g c =
 
 pub tell-requires-clause-ahead : goal.tell-requires-clause-ahead
 tell-requires-clause-ahead g c = ahead_kept (g.S.Space.view c.args.space.now) (g.S.Space.view c.meet.new.self) c.args.ahead.now c.meet.ensures.kept c.requires.ahead
+
+pub tell-requires-clause-rings : goal.tell-requires-clause-rings
+tell-requires-clause-rings g c = all_kept (g.S.Space.view c.args.space.now) (g.S.Space.view c.meet.new.self) c.args.ahead.now c.args.rings.now c.meet.ensures.kept c.requires.ahead c.requires.rings
 
 pub tell-requires-clause-key : goal.tell-requires-clause-key
 tell-requires-clause-key g c =

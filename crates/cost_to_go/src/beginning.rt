@@ -44,8 +44,8 @@ fn begin<S: Space>(
                 everywhere,
                 next,
                 both: true,
-                ahead_nodes: 0,
-                rank_nodes: 0,
+                ahead_work: 0,
+                rank_work: 0,
             })
         }
         Err(fault) => {

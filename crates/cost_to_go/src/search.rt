@@ -16,10 +16,10 @@ pub struct CostToGo<T: Copy> {
     pub(crate) next: Option<u128>,
     /// Both sides go on, by turns.
     pub(crate) both: bool,
-    /// How many nodes the search ahead made.
-    pub(crate) ahead_nodes: usize,
-    /// How many nodes the ranks made.
-    pub(crate) rank_nodes: usize,
+    /// How much work the search ahead was.
+    pub(crate) ahead_work: u64,
+    /// How much work the ranks were.
+    pub(crate) rank_work: u64,
 }
 
 ghost use Rattle.space_api.specs.Owned.{Trades};

@@ -1,4 +1,4 @@
-//! Which side goes on. It is steered by what each made, and told in no clause: it steers speed alone.
+//! Which side goes on. It is steered by how much work each was, and told in no clause: it steers speed alone.
 
 ghost use Rattle.std.specs.Prelude.{◌<◌, ◌^◌, IsTrue};
 ghost use Rattle.space_api.specs.View.{View};
@@ -11,9 +11,10 @@ use goal_ranks::{Turn, bound_ahead};
 use least_costs::Step;
 use space_api::{Space, SpaceFault};
 
-/// How many nodes were made in all, where so many more are held than before. A step counts as one at least.
-pub(crate) fn made(so_far: usize, before: usize, now: usize) -> usize {
-    so_far.saturating_add(now.saturating_sub(before).max(1))
+/// How much work a side was in all, with a step more, by what the space counts before and after it. Where nothing is counted a
+/// step is one.
+pub(crate) fn with_step(so_far: u64, before: u64, now: u64) -> u64 {
+    so_far.saturating_add(now.wrapping_sub(before).max(1))
 }
 
 impl<T: Copy> CostToGo<T> {
@@ -24,7 +25,7 @@ impl<T: Copy> CostToGo<T> {
         if self.ahead.next_cost().is_none() {
             return false;
         }
-        self.both && self.ahead_nodes < self.rank_nodes
+        self.both && self.ahead_work < self.rank_work
     }
 
     /// Whether no state of the layer that the search ahead settled last has a rank.

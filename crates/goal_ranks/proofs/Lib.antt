@@ -1,5 +1,6 @@
 pub mod Retold
 pub mod Slotting
+pub mod Tidying
 pub mod Costs
 pub mod Seats
 pub mod Opening

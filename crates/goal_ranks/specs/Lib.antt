@@ -1,6 +1,8 @@
 pub mod Ahead
 pub mod Sets
 pub mod Lists
+pub mod Entries
+pub mod Agenda
 pub mod Arcs
 pub mod Slots
 pub mod Ranks

@@ -4,11 +4,13 @@
 //! waits to be ranked has a key: no more than its cost to the goal and the least cost from the initial state to it, as
 //! far as a search by least costs ahead tells it (the key of A*; Hart, Nilsson and Raphael, 1968; over sets of states
 //! Edelkamp and Reffel, 1998). The least key comes first; so no plan through a state without a rank costs less than it.
-//! What operators of a cost lead to is made when a key comes to it, and not before. The search ahead may go on at any
-//! time, or stop, as where both have met. It stands on `rank_laws` for what right ranks are, on `least_costs` for the
-//! search ahead, on `cost_search` and `layer_steps` for steps over sets, and on `space_api` for sets.
+//! It stands in front of a heap beside each list, in which a key that has grown since stays until it comes up. What
+//! operators of a cost lead to is made when a key comes to it, and not before. The search ahead may go on at any time,
+//! or stop, as where both have met. It stands on `rank_laws` for what right ranks are, on `least_costs` for the search
+//! ahead, on `cost_search` and `layer_steps` for steps over sets, on `space_api` for sets, and on std's binary heap.
 #![tactic(auto)]
 
+mod agenda;
 mod arcs;
 mod lists;
 mod lookup;

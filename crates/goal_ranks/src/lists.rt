@@ -1,4 +1,4 @@
-//! The least key of a list.
+//! Keys of a list's items.
 
 /// Where the least key stands, and which it is.
 #[derive(Clone, Copy, Debug)]
@@ -7,8 +7,8 @@ pub(crate) struct Least {
     pub(crate) key: u128,
 }
 
-ghost use Rattle.std.specs.Prelude.{◌≡◌, ◌<◌, ◌≤◌, ℕ, None, Some, Option, length};
-ghost use Rattle.goal_ranks.specs.Lists.{IsLeastBelow, BestOf, FirstOf, slot_key, arcs_key};
+ghost use Rattle.std.specs.Prelude.{◌≡◌, ◌↔◌, ℕ, IsTrue, Option, Some};
+ghost use Rattle.goal_ranks.specs.Lists.{FirstOf, present_key, slot_key, arcs_key};
 
 use crate::parts::{Ranked, Waiting};
 
@@ -42,32 +42,24 @@ impl<T: Copy> Keyed for Ranked<T> {
     }
 }
 
-/// The better of the best so far and this key, if there is one.
-fn better(best: Option<Least>, index: usize, key: Option<u128>) -> Option<Least>
-    ensures { BestOf best index key result }
+/// The key of the item of this index. None where it has none, or there is no such item.
+pub(crate) fn key_at<K: Keyed>(items: &[K], index: usize) -> Option<u128>
+    ensures { result ≡ present_key K.key_of items.now index }
 {
-    match (best, key) {
-        (_, None) => best,
-        (None, Some(key)) => Some(Least { index, key }),
-        (Some(least), Some(key)) => {
-            if key < least.key {
-                Some(Least { index, key })
-            } else {
-                Some(least)
-            }
-        }
+    if index >= items.len() {
+        return None;
     }
+    items[index].key()
 }
 
-/// The least key of the list. None where nothing has one.
-pub(crate) fn least_of<K: Keyed>(items: &[K]) -> Option<Least>
-    ensures { IsLeastBelow K.key_of items.now (length items.now) result }
+/// Whether this is the key.
+pub(crate) fn is_key(present: Option<u128>, key: u128) -> bool
+    ensures { IsTrue result ↔ (present ≡ Some key) }
 {
-    let mut best = None;
-    'items: for i in 0..items.len() {
-        best = better(best, i, items[i].key());
+    match present {
+        Some(other) => other == key,
+        None => false,
     }
-    best
 }
 
 /// What is next by key.

@@ -1,19 +1,20 @@
 //! Slots for sets that wait.
 
-ghost use Rattle.std.specs.Prelude.{◌≡◌, ◌+◌, Some, OnOk, OnErr};
+ghost use Rattle.std.specs.Prelude.{◌≡◌, ◌+◌, Some, IfOk, OnOk, OnErr};
 ghost use Rattle.std.specs.List.{sum_by};
-ghost use Rattle.goal_ranks.specs.Slots.{PutsIn};
+ghost use Rattle.goal_ranks.specs.Agenda.{entries_of};
+ghost use Rattle.goal_ranks.specs.Entries.{AreEntries};
+ghost use Rattle.goal_ranks.specs.Lists.{slot_key};
+ghost use Rattle.goal_ranks.specs.Slots.{Fills, PutsIn};
 ghost use Rattle.goal_ranks.specs.Nearing.{slot_work};
 
+use crate::agenda::Agenda;
 use crate::parts::Waiting;
 use symk_task::Memory;
 
-/// Puts it into the first free slot, or a new one.
-pub(crate) fn put<T: Copy>(
-    slots: &mut Vec<Option<Waiting<T>>>,
-    waiting: Waiting<T>,
-) -> Result<(), Memory>
-    ensures ok { OnOk result (PutsIn slots.old.items slots.new.items waiting) }
+/// Puts it into the first free slot, or a new one, and tells which.
+fn fill<T: Copy>(slots: &mut Vec<Option<Waiting<T>>>, waiting: Waiting<T>) -> Result<usize, Memory>
+    ensures ok { IfOk result (Fills slots.old.items slots.new.items waiting) }
     ensures work { OnOk result (sum_by slot_work slots.new.items ≡ sum_by slot_work slots.old.items
         + slot_work (Some waiting)) }
     ensures err { OnErr result (slots.new.items ≡ slots.old.items) }
@@ -21,9 +22,29 @@ pub(crate) fn put<T: Copy>(
     'slots: for i in 0..slots.len() {
         if slots[i].is_none() {
             slots[i] = Some(waiting);
-            return Ok(());
+            return Ok(i);
         }
     }
+    let last = slots.len();
     slots.push(Some(waiting))?;
+    Ok(last)
+}
+
+/// Puts it into the first free slot, or a new one, and its key beside the others.
+pub(crate) fn put<T: Copy>(
+    slots: &mut Vec<Option<Waiting<T>>>,
+    keys: &mut Agenda,
+    waiting: Waiting<T>,
+) -> Result<(), Memory>
+    requires { AreEntries slot_key slots.old.items (entries_of keys.old) }
+    ensures ok { OnOk result (PutsIn slots.old.items slots.new.items waiting) }
+    ensures work { OnOk result (sum_by slot_work slots.new.items ≡ sum_by slot_work slots.old.items
+        + slot_work (Some waiting)) }
+    ensures err { OnErr result (slots.new.items ≡ slots.old.items) }
+    ensures keys { AreEntries slot_key slots.new.items (entries_of keys.new) }
+{
+    keys.make_room()?;
+    let index = fill(slots, waiting)?;
+    keys.add(slots, index);
     Ok(())
 }

@@ -1,19 +1,16 @@
-use Rattle.std.proofs.Common.{◌<◌, List, length, not, refl, sym, ◌∙◌, ap, subst, arith}
-use Rattle.std.proofs.lemmas.Option.{slice_get_read}
-use Rattle.goal_ranks.proofs.Slotting.{slot_free}
-use Rattle.goal_ranks.proofs.Nearing.{put_work}
+use Rattle.std.proofs.Common.{◌≢◌, ℕ, List, sym, subst}
+use Rattle.goal_ranks.specs.Agenda.{entries_of}
+use Rattle.goal_ranks.specs.Entries.{AreEntries, Covers, HasEntry}
+use Rattle.goal_ranks.specs.Lists.{KeyAt, slot_key}
+use Rattle.goal_ranks.proofs.Tidying.{fill_covers}
 use Rattle.goal_ranks.proofs.slots.put.Goals as goal
 
-pub returns-then-is_none-clause-ok : goal.returns-then-is_none-clause-ok
-returns-then-is_none-clause-ok g c =
-    let in_old : c.slots.i < length c.args.slots.now.items = grind (arith, c.slots-test.true, c.len-i-end.ensures) in
-    let lt : c.slots.i < length c.slots.slots.items = subst (λ (xs : List _). c.slots.i < length xs) (sym c.slots.invariant) in_old in
-    let get = slice_get_read c.slots.slots.items (length c.slots.slots.items) c.slots.i c.index.result.now refl lt c.index.ensures in
-    slot_free c.args.slots.now.items c.slots.slots.items _ c.slots.i c.index.result.now c.args.waiting c.slots.invariant get (c.is_none.ensures ∙ ap not c.if-is_none.true) refl
+pub add-requires-clause-covers : goal.add-requires-clause-covers
+add-requires-clause-covers g c =
+    let covers = subst (λ (es : List _). Covers slot_key c.args.slots.now.items es) (sym c.make_room.ensures.same) c.requires.covers in
+    subst (λ (xs : List _). (i k : ℕ) → i ≢ c.in_ok-index.index → KeyAt slot_key xs i k → HasEntry (entries_of c.make_room.new.self) i k) (sym c.deref.ensures.value)
+    (fill_covers c.args.slots.now.items c.fill.new.slots.items c.args.waiting c.in_ok-index.index (entries_of c.make_room.new.self) c.in_ok-index.ensures.ok covers)
 
-pub returns-then-is_none-clause-work : goal.returns-then-is_none-clause-work
-returns-then-is_none-clause-work g c =
-    let in_old : c.slots.i < length c.args.slots.now.items = grind (arith, c.slots-test.true, c.len-i-end.ensures) in
-    let lt : c.slots.i < length c.slots.slots.items = subst (λ (xs : List _). c.slots.i < length xs) (sym c.slots.invariant) in_old in
-    let get = slice_get_read c.slots.slots.items (length c.slots.slots.items) c.slots.i c.index.result.now refl lt c.index.ensures in
-    put_work c.args.slots.now.items c.slots.slots.items c.slots.i c.index.result.now c.args.waiting c.slots.invariant get (c.is_none.ensures ∙ ap not c.if-is_none.true)
+pub returns-clause-keys : goal.returns-clause-keys
+returns-clause-keys g c =
+    subst (λ (xs : List _). AreEntries slot_key xs (entries_of c.add.new.self)) c.deref.ensures.value c.add.ensures

@@ -39,7 +39,7 @@ class Runs:
         child.returncode = os.waitstatus_to_exitcode(status)
         if child.returncode in (-signal.SIGKILL, -signal.SIGXCPU, 40):
             return None
-        if child.returncode not in (0, 10, 31):
+        if child.returncode not in (0, 10, 13, 31):
             sys.exit(f"{words}: status {child.returncode}")
         with open(self.list, "rb") as it:
             printed = it.read()

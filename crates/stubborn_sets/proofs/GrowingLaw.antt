@@ -1,5 +1,5 @@
 -- Sets of operators that grow.
-use Rattle.std.proofs.Common.{◌≡◌, ◌≢◌, ℕ, ◌+◌, ◌<◌, ◌≤◌, ◌⊎◌, inl, inr, Bool, true, false, IsTrue, List, [], ◌∷◌, ◌++◌, length, get_or, Option, Some, IsSomeAnd, Result, Ok, Err, OnOk, slice_get, replicate, refl, sym, ap, subst, ◌∙◌, arith}
+use Rattle.std.proofs.Common.{◌≡◌, ◌≢◌, ℕ, ◌+◌, ◌<◌, ◌≤◌, ◌⊎◌, inl, inr, Bool, true, false, IsTrue, List, [], ◌∷◌, ◌++◌, length, get_or, Option, Some, IsSomeAnd, Result, Ok, Err, OnOk, IfOk, slice_get, replicate, refl, sym, ap, subst, ◌∙◌, arith}
 use Rattle.std.specs.List.{All, Contains}
 use Rattle.std.proofs.Math.ListN.{set, length-set, length-append, length-replicate}
 use Rattle.std.proofs.lemmas.List.{get_or-set_other}
@@ -11,7 +11,7 @@ use Rattle.symk_task.specs.declared.parts.TaskParts.{TaskParts}
 use Rattle.task_run.specs.Values.{AppliesBy}
 use Rattle.stubborn_sets.specs.declared.growing.Growing.{Growing}
 use Rattle.stubborn_sets.specs.Making.{IsMissing}
-use Rattle.stubborn_sets.specs.Closing.{is_in, HasMakers, HasConflicts, HasNeeds}
+use Rattle.stubborn_sets.specs.Closing.{is_in, HasMakers, StaysFalse, HasConflicts, HasNeeds}
 use Rattle.stubborn_sets.specs.Kept.{LeavesOut, AreMakers, AreConflicts}
 use Rattle.stubborn_sets.specs.Growing.{left, Adds, IsGrowing, IsPopped, IsClosed}
 use Rattle.stubborn_sets.proofs.ListsLaw.{none_in}
@@ -132,13 +132,13 @@ growing_served task values one at old new le p d has = record {
   count = omega (arith, p.count, d.room, d.applying, le);
 }
 
--- by the makers of a missing precondition
-pub served_makers : (task : TaskParts) (values : List ℕ) (one : ℕ) (operator : Operator) (fact : Fact) (ops : List ℕ) (old new : Growing)
-    → slice_get task.operators one ≡ Some operator → IsMissing values operator fact → AreMakers task fact ops → IsPopped task values one old
-    → Adds old new → All (λ op. IsTrue (is_in new.marks.items op)) ops → IsGrowing task values new
-served_makers task values one operator fact ops old new is lacks makers p d all =
+-- by what a missing precondition waits for
+pub served_false : (task : TaskParts) (values : List ℕ) (one : ℕ) (operator : Operator) (fact : Fact) (old new : Growing)
+    → slice_get task.operators one ≡ Some operator → IsMissing values operator fact → IsPopped task values one old
+    → Adds old new → StaysFalse task values new.marks.items fact → IsGrowing task values new
+served_false task values one operator fact old new is lacks p d stays =
     growing_served task values one old.applying old new (omega arith) p d
-    (subst (λ (o : Option Operator). IsSomeAnd o (Needs task values one new.marks.items)) (sym is) (inr (fact, lacks, has_makers task fact ops new.marks.items makers all)))
+    (subst (λ (o : Option Operator). IsSomeAnd o (Needs task values one new.marks.items)) (sym is) (inr (fact, lacks, stays)))
 
 -- by those that don't commute with it
 pub served_conflicts : (task : TaskParts) (values : List ℕ) (one : ℕ) (operator : Operator) (ops : List ℕ) (old new : Growing)
@@ -152,6 +152,11 @@ served_conflicts task values one operator ops old new is applies conflicts p d a
 pub on_both : {T E : Type 0} (r : Result T E) (A B C : Type 0) → (A → B → C) → OnOk r A → OnOk r B → OnOk r C
 on_both (Ok x) A B C f a b = f a b
 on_both (Err e) A B C f a b = tt
+
+-- so where that speaks of the value
+pub if_both : {T E : Type 0} (r : Result T E) (A B C : T → Type 0) → ((x : T) → A x → B x → C x) → IfOk r A → IfOk r B → IfOk r C
+if_both (Ok x) A B C f a b = f x a b
+if_both (Err e) A B C f a b = tt
 
 -- operators that were listed are there
 pub all_within : {Fine : ℕ → Type 0} (n m : ℕ) (ops : List ℕ) → LeavesOut Fine n ops → m ≡ n → All (λ op. op < m) ops

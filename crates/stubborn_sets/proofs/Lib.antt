@@ -1,3 +1,4 @@
+pub mod BarringLaw
 pub mod DependingLaw
 pub mod GrowingLaw
 pub mod KeptLaw

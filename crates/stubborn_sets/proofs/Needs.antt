@@ -1,6 +1,7 @@
 -- What members need stays marked as marks grow.
-use Rattle.std.proofs.Common.{◌≡◌, ℕ, ◌<◌, ◌⊎◌, inl, inr, Bool, List, length, get_or, Option, Some, None, IsSomeAnd, slice_get, sym, ap, subst, ◌∙◌, arith}
+use Rattle.std.proofs.Common.{◌≡◌, ℕ, ◌+◌, ◌<◌, ◌⊎◌, inl, inr, Bool, IsTrue, List, length, get_or, below_more, Option, Some, None, IsSomeAnd, slice_get, sym, ap, subst, ◌∙◌, arith}
 use Rattle.std.specs.List.{All}
+use Rattle.std.proofs.lemmas.List.Elements.{at_read}
 use Rattle.symk_task.specs.declared.parts.Fact.{Fact}
 use Rattle.symk_task.specs.declared.parts.Operator.{Operator}
 use Rattle.symk_task.specs.declared.parts.TaskParts.{TaskParts}
@@ -10,22 +11,50 @@ use Rattle.task_run.specs.Values.{AppliesBy, AreBelow, IsOn}
 use Rattle.task_run.proofs.Applying.{below}
 use Rattle.task_run.proofs.Stepping.{operator_at}
 use Rattle.stubborn_sets.specs.Making.{IsMissing}
-use Rattle.stubborn_sets.specs.Closing.{Grows, HasMakers, HasConflicts, HasNeeds}
+use Rattle.symk_task.specs.declared.parts.Rule.{Rule}
+use Rattle.stubborn_sets.specs.Barring.{Waits, HasBar, IsBarredRule, AreBarredRules, IsBarred}
+use Rattle.stubborn_sets.specs.Closing.{is_in, Grows, HasMakers, StaysFalse, HasConflicts, HasNeeds}
 
 pub makers_grow : (task : TaskParts) (fact : Fact) (old new : List Bool) → Grows old new → HasMakers task fact old → HasMakers task fact new
 makers_grow task fact old new grows h a lt = elim (h a lt) [ inl it_is ↦ inl (grows a it_is) | inr off ↦ inr off ]
+
+-- a fact waits on, as more variables are barred and more operators marked
+pub waits_grow : (task : TaskParts) (fact : Fact) (bars more old new : List Bool) → Grows bars more → Grows old new → Waits task bars old fact → Waits task more new fact
+waits_grow task fact bars more old new to on (inl (raising, it_is)) = inl (raising, to fact.var it_is)
+waits_grow task fact bars more old new to on (inr makers) = inr (makers_grow task fact old new on makers)
+
+pub bar_grows : (task : TaskParts) (values : List ℕ) (bars more old new : List Bool) (conds : List Fact) → Grows bars more → Grows old new → HasBar task values bars old conds → HasBar task values more new conds
+bar_grows task values bars more old new conds to on b = record { fact = b.fact; among = b.among; unmet = b.unmet; waits = waits_grow task b.fact bars more old new to on b.waits }
+
+-- rules so far, and one more
+pub rules_next : (task : TaskParts) (values : List ℕ) (rules : List Rule) (n : ℕ) (rule : Rule) (bars next old new : List Bool) → n < length rules → rule ≡ get_or rules n rule → next ≡ bars → Grows old new
+    → ((k : ℕ) (d : Rule) → k < n → IsBarredRule task values bars old (get_or rules k d)) → IsBarredRule task values next new rule
+    → (k : ℕ) (d : Rule) → k < n + 1 → IsBarredRule task values next new (get_or rules k d)
+rules_next task values rules n rule bars next old new within is same grows before here k d =
+    below_more (λ k. IsBarredRule task values next new (get_or rules k d)) n
+    (λ k lt on raises. bar_grows task values bars next old new (get_or rules k d).conds (λ a h. subst (λ (z : List Bool). IsTrue (is_in z a)) (sym same) h) grows
+    (before k d lt (subst (λ (z : List Bool). IsTrue (is_in z (get_or rules k d).var)) same on) raises))
+    (at_read rules (IsBarredRule task values next new) n rule within is here d) k
+
+pub false_grows : (task : TaskParts) (values : List ℕ) (fact : Fact) (old new : List Bool) → Grows old new → StaysFalse task values old fact → StaysFalse task values new fact
+false_grows task values fact old new grows (inl makers) = inl (makers_grow task fact old new grows makers)
+false_grows task values fact old new grows (inr b) = inr (record {
+  barred = b.barred;
+  raises = b.raises;
+  rules = λ k d lt on raises. bar_grows task values b.barred b.barred old new (get_or task.rules k d).conds (λ a h. h) grows (b.rules k d lt on raises);
+})
 
 conflicts_grow : (task : TaskParts) (one : ℕ) (old new : List Bool) → Grows old new → HasConflicts task one old → HasConflicts task one new
 conflicts_grow task one old new grows h a lt = elim (h a lt) [ inl it_is ↦ inl (grows a it_is) | inr off ↦ inr off ]
 
 -- what one operator needs, by the operator
 abbrev pub Needs : TaskParts → List ℕ → ℕ → List Bool → Operator → Type 0
-Needs task values one marks operator = (AppliesBy values operator × HasConflicts task one marks) ⊎ ((fact : Fact) × IsMissing values operator fact × HasMakers task fact marks)
+Needs task values one marks operator = (AppliesBy values operator × HasConflicts task one marks) ⊎ ((fact : Fact) × IsMissing values operator fact × StaysFalse task values marks fact)
 
 pub needs_grow : (task : TaskParts) (values : List ℕ) (one : ℕ) (old new : List Bool) (o : Option Operator) → Grows old new → IsSomeAnd o (Needs task values one old) → IsSomeAnd o (Needs task values one new)
 needs_grow task values one old new None grows h = h
 needs_grow task values one old new (Some operator) grows (inl (applies, conflicts)) = inl (applies, conflicts_grow task one old new grows conflicts)
-needs_grow task values one old new (Some operator) grows (inr (fact, lacks, makers)) = inr (fact, lacks, makers_grow task fact old new grows makers)
+needs_grow task values one old new (Some operator) grows (inr (fact, lacks, makers)) = inr (fact, lacks, false_grows task values fact old new grows makers)
 
 -- by what the code looked at
 module _ (task parts : TaskParts) (operators : List Operator) (one : ℕ) (operator : Operator) (values : List ℕ) (fits : Fits task) (same : parts ≡ task) (list : operators ≡ parts.operators) (lt : one < length task.operators) (is : operator ≡ get_or operators one operator) where

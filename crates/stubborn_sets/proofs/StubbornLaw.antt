@@ -22,8 +22,9 @@ use Rattle.commuting.proofs.Pair.{Allowed}
 use Rattle.commuting.proofs.CommuteLaw.{allowed_by}
 use Rattle.stubborn_laws.specs.Stubborn.{AppliesIn, FirstOf, Stubborn}
 use Rattle.stubborn_sets.specs.Making.{IsNoMaker, IsUnmet, IsMissing}
-use Rattle.stubborn_sets.specs.Closing.{is_in, HasMakers, HasConflicts, HasNeeds, HaveNeeds}
+use Rattle.stubborn_sets.specs.Closing.{is_in, HasMakers, StaysFalse, HasConflicts, HasNeeds, HaveNeeds}
 use Rattle.stubborn_sets.proofs.Remaining.{run_stays}
+use Rattle.stubborn_sets.proofs.BarringLaw.{stays_false}
 
 -- The first of a set in a list.
 
@@ -84,8 +85,18 @@ module _ (task : TaskParts) (s values : List ℕ) (marks : List Bool) (fits : Fi
       (λ a lt off. elim (makers a lt) [ inl it_is ↦ absurd (off it_is) | inr cannot ↦ cannot ])
       (numbers (system_of task) p s t runs) none
 
+  -- so what doesn't hold by the values, and stays false before a marked operator is applied, doesn't hold after them
+  false_after : (fact : Fact) (p : List ℕ) (t : List ℕ) → InRange task.variables fact → ¬ HasValue values fact → StaysFalse task values marks fact → Runs (system_of task) s p t → NoneIn (is_in marks) p → Holds task t fact → ⊥
+  false_after fact p t within unmet stays runs none holds = elim stays [
+    | inl makers ↦ kept fact within unmet makers holds
+    | inr barred ↦ stays_false task t values marks fact fits barred kept holds
+  ]
+    where
+      kept : (other : Fact) → InRange task.variables other → ¬ HasValue values other → HasMakers task other marks → Holds task t other → ⊥
+      kept other there off makers h = off ((valued.holds other there).0 (run_stays task p s t other fits there state runs (none_make other p t makers runs none) h))
+
   first_needs : (a : ℕ) (operator : Operator) (before later : List ℕ) (m t : List ℕ) → slice_get task.operators a ≡ Some operator
-      → ((AppliesBy values operator × HasConflicts task a marks) ⊎ ((fact : Fact) × IsMissing values operator fact × HasMakers task fact marks))
+      → ((AppliesBy values operator × HasConflicts task a marks) ⊎ ((fact : Fact) × IsMissing values operator fact × StaysFalse task values marks fact))
       → NoneIn (is_in marks) before → Runs (system_of task) s before m → Runs (system_of task) m (a ∷ later) t
       → AppliesIn (system_of task) a s × AllByRecursion (Commute (system_of task) a) before
   first_needs a operator before later m t is (inl (applies, conflicts)) none runs rest =
@@ -96,12 +107,12 @@ module _ (task : TaskParts) (s values : List ℕ) (marks : List Bool) (fits : Fi
             (λ b lt off. elim (conflicts b lt) [ inl it_is ↦ absurd (off it_is) | inr commute ↦ commute ])
             (numbers (system_of task) before s m runs) none,
       )
-  first_needs a operator before later m t is (inr (fact, lacks, makers)) none runs rest =
+  first_needs a operator before later m t is (inr (fact, lacks, stays)) none runs rest =
       let within = missing_within task values operator fact (fits_operator task a operator fits is) lacks in
       let state_m = run_state_of before s m state runs in
       let step = (leads_law task m a rest.0 fits state_m).0 rest.1 in
       let holds = missing_holds task values m operator fact lacks (allowed_by task m a operator is step.0) in
-      absurd (within.1 ((valued.holds fact within.0).0 (run_stays task before s m fact fits within.0 state runs (none_make fact before m makers runs none) holds)))
+      absurd (false_after fact before m within.0 within.1 stays runs none holds)
     where
       run_state_of : (p : List ℕ) (s m : List ℕ) → IsState task s → Runs (system_of task) s p m → IsState task m
       run_state_of [] s m on h = subst (IsState task) h on
@@ -112,14 +123,14 @@ module _ (task : TaskParts) (s values : List ℕ) (marks : List Bool) (fits : Fi
   at_needs a before later m t needs none runs rest = go (slice_get task.operators a) refl needs
     where
       go : (o : Option Operator) → slice_get task.operators a ≡ o
-          → IsSomeAnd o (λ operator. (AppliesBy values operator × HasConflicts task a marks) ⊎ ((fact : Fact) × IsMissing values operator fact × HasMakers task fact marks))
+          → IsSomeAnd o (λ operator. (AppliesBy values operator × HasConflicts task a marks) ⊎ ((fact : Fact) × IsMissing values operator fact × StaysFalse task values marks fact))
           → AppliesIn (system_of task) a s × AllByRecursion (Commute (system_of task) a) before
       go None is h = absurd h
       go (Some operator) is h = first_needs a operator before later m t is h none runs rest
 
-  -- begun with the makers of a goal fact that doesn't hold
-  pub stubborn_law : (fact : Fact) → IsUnmet values task.goal fact → HasMakers task fact marks → HaveNeeds task values marks marks → Stubborn (system_of task) (is_in marks) s
-  stubborn_law fact unmet makers needs = record { first = λ a p t runs goal. by a p t runs goal (split (is_in marks) (a ∷ p)) }
+  -- begun with what a goal fact that doesn't hold waits for
+  pub stubborn_law : (fact : Fact) → IsUnmet values task.goal fact → StaysFalse task values marks fact → HaveNeeds task values marks marks → Stubborn (system_of task) (is_in marks) s
+  stubborn_law fact unmet stays needs = record { first = λ a p t runs goal. by a p t runs goal (split (is_in marks) (a ∷ p)) }
     where
       within : InRange task.variables fact
       within = All-contains (InRange task.variables) task.goal fact fits.goal.1 unmet.0
@@ -127,7 +138,7 @@ module _ (task : TaskParts) (s values : List ℕ) (marks : List Bool) (fits : Fi
       by : (a : ℕ) (p : List ℕ) (t : List ℕ) → Runs (system_of task) s (a ∷ p) t → IsTrue ((system_of task).goal t) → NoneIn (is_in marks) (a ∷ p) ⊎ Split (is_in marks) (a ∷ p) → FirstOf (system_of task) (is_in marks) s (a ∷ p)
       by a p t runs goal (inl none) =
           let holds = All-contains (Holds task t) task.goal fact ((goal_law task t fits).0 goal) unmet.0 in
-          absurd (unmet.1 ((valued.holds fact within).0 (run_stays task (a ∷ p) s t fact fits within state runs (none_make fact (a ∷ p) t makers runs none) holds)))
+          absurd (false_after fact (a ∷ p) t within unmet.1 stays runs none holds)
       by a p t runs goal (inr f) =
           let parts = run_split (system_of task) s f.before (f.first ∷ f.later) t (subst (λ (z : List ℕ). Runs (system_of task) s z t) f.here runs) in
           let two = at_needs f.first f.before f.later parts.0 t (needs f.first f.inside) f.none parts.1 parts.2 in

@@ -5,22 +5,19 @@ use Rattle.symk_task.specs.declared.parts.TaskParts.{TaskParts}
 use Rattle.task_run.specs.Values.{AppliesBy}
 use Rattle.task_system.specs.Computed.{system_of}
 use Rattle.commuting.specs.Commuting.{Commute}
-use Rattle.stubborn_sets.specs.Making.{IsNoMaker, IsMissing}
+use Rattle.stubborn_sets.specs.Making.{IsMissing}
 pub use Rattle.stubborn_sets.specs.Depending.{is_in, Grows}
-
--- each operator is marked, or can't make the fact true
-abbrev pub HasMakers : TaskParts → Fact → List Bool → Type 0
-HasMakers task fact marks = (a : ℕ) → a < length task.operators → IsTrue (is_in marks a) ⊎ IsNoMaker task fact a
+pub use Rattle.stubborn_sets.specs.Barring.{HasMakers, StaysFalse}
 
 -- each operator is marked, or commutes with this one
 abbrev pub HasConflicts : TaskParts → ℕ → List Bool → Type 0
 HasConflicts task one marks = (a : ℕ) → a < length task.operators → IsTrue (is_in marks a) ⊎ Commute (system_of task) one a
 
--- where the operator applies by the values, those that don't commute with it are marked, else those that can make one of its missing preconditions true
+-- where the operator applies by the values, those that don't commute with it are marked, else one of its missing preconditions stays false before a marked one is applied
 abbrev pub HasNeeds : TaskParts → List ℕ → ℕ → List Bool → Type 0
 HasNeeds task values one marks =
     IsSomeAnd (slice_get task.operators one) (λ operator.
-    (AppliesBy values operator × HasConflicts task one marks) ⊎ ((fact : Fact) × IsMissing values operator fact × HasMakers task fact marks))
+    (AppliesBy values operator × HasConflicts task one marks) ⊎ ((fact : Fact) × IsMissing values operator fact × StaysFalse task values marks fact))
 
 -- each member has what it needs marked
 abbrev pub HaveNeeds : TaskParts → List ℕ → List Bool → List Bool → Type 0

@@ -5,13 +5,15 @@ ghost use Rattle.task_run.specs.Values.{HasValue, AllowsBy, AppliesBy, AreBelow,
 ghost use Rattle.stubborn_sets.specs.Making.{IsUnmet, IsRefused, IsRefusedOf, IsMissing};
 ghost use Rattle.stubborn_sets.specs.Kept.{KnowsMakers};
 
+use crate::barring::is_raising;
+use crate::depending::is_marked;
 use crate::makers::Makers;
 use symk_task::{Effect, Fact, Operator, TaskParts};
 
 /// A fact that doesn't hold, and how many operators outside the set can make it true.
 #[derive(Clone, Copy)]
-struct Lack {
-    fact: Fact,
+pub(crate) struct Lack {
+    pub(crate) fact: Fact,
     makers: usize,
 }
 
@@ -35,12 +37,26 @@ fn unmarked(ops: &[u32], marks: &[bool]) -> usize
     ops.iter().filter(|op| !marks[**op as usize]).count()
 }
 
+/// How many operators outside the set it would bring in to bar the fact, at most: none where it says that a barred
+/// variable is raised.
+fn weight(makers: &Makers, parts: &TaskParts, marks: &[bool], barred: &[bool], fact: Fact) -> usize
+    requires known { KnowsMakers parts.now makers.now }
+    requires each { length marks.now ≡ length parts.now.operators }
+    requires within { fact.var < length parts.now.variables }
+{
+    if is_marked(barred, fact.var) && is_raising(parts, fact) {
+        return 0;
+    }
+    unmarked(makers.of(parts, fact), marks)
+}
+
 /// The fact, where it doesn't have its value.
 fn lacking(
     makers: &Makers,
     parts: &TaskParts,
     values: &[u32],
     marks: &[bool],
+    barred: &[bool],
     fact: Fact,
 ) -> Option<Lack>
     requires known { KnowsMakers parts.now makers.now }
@@ -55,7 +71,7 @@ fn lacking(
     }
     Some(Lack {
         fact,
-        makers: unmarked(makers.of(parts, fact), marks),
+        makers: weight(makers, parts, marks, barred, fact),
     })
 }
 
@@ -79,15 +95,17 @@ fn refused(
         var: effect.var,
         val,
     };
-    lacking(makers, parts, values, marks, fact)
+    lacking(makers, parts, values, marks, &[], fact)
 }
 
-/// Of the facts that don't have their values one with the fewest makers outside the set.
-fn scarcest(
+/// Of the facts that don't have their values one with the fewest makers outside the set, or that says that a barred
+/// variable is raised.
+pub(crate) fn scarcest(
     makers: &Makers,
     parts: &TaskParts,
     values: &[u32],
     marks: &[bool],
+    barred: &[bool],
     facts: &[Fact],
 ) -> Option<Lack>
     requires known { KnowsMakers parts.now makers.now }
@@ -99,7 +117,7 @@ fn scarcest(
 {
     let mut best = None;
     for fact in facts {
-        best = fewer(best, lacking(makers, parts, values, marks, *fact));
+        best = fewer(best, lacking(makers, parts, values, marks, barred, *fact));
     }
     best
 }
@@ -141,7 +159,14 @@ pub(crate) fn missing(
     requires effects { All (IsOn (length values.now)) operator.now.effects }
     ensures { MatchOption result (AppliesBy values.now operator.now) (IsMissing values.now operator.now) }
 {
-    let unmet = scarcest(makers, parts, values, marks, operator.prevail.as_slice());
+    let unmet = scarcest(
+        makers,
+        parts,
+        values,
+        marks,
+        &[],
+        operator.prevail.as_slice(),
+    );
     let refused = scarcest_asked(makers, parts, values, marks, operator.effects.as_slice());
     let lack = fewer(unmet, refused)?;
     Some(lack.fact)

@@ -9,7 +9,7 @@ use std::alloc::Global;
 use symk_task::{Effect, Fact, Memory, Rule, TaskParts};
 
 /// Marks the thing of this number, and tells whether it is new.
-fn mark(marks: &mut [bool], at: usize) -> bool
+pub(crate) fn mark(marks: &mut [bool], at: usize) -> bool
     requires { at < length marks.old }
     ensures spreads { Spreads marks.old marks.new result }
     ensures has { IsTrue (is_in marks.new at) }
@@ -91,7 +91,7 @@ pub(crate) fn dependencies(alloc: Global, parts: &TaskParts, var: u32) -> Result
 }
 
 /// Whether the variable is marked.
-fn is_marked(marks: &[bool], var: u32) -> bool
+pub(crate) fn is_marked(marks: &[bool], var: u32) -> bool
     ensures { result ≡ is_in marks.now var }
 {
     match marks.get(var as usize) {

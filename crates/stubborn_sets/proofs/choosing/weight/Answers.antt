@@ -1,6 +1,6 @@
 use Rattle.std.proofs.Common.{get_or, arith}
 use Rattle.std.proofs.lemmas.List.Elements.{Contains-get_or}
-use Rattle.stubborn_sets.proofs.choosing.lacking.Goals as goal
+use Rattle.stubborn_sets.proofs.choosing.weight.Goals as goal
 
 pub unmarked-requires : goal.unmarked-requires
 unmarked-requires c = λ k d lt.

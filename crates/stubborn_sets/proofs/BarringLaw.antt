@@ -1,17 +1,16 @@
 -- What is barred stays false.
-use Rattle.std.proofs.Common.{◌≡◌, ℕ, zero, suc, ◌+◌, inl, inr, Bool, IsTrue, List, [], ◌∷◌, refl, sym, subst, ◌∙◌, arith}
-use Rattle.std.specs.List.{All, AllByRecursion, Contains}
+use Rattle.std.proofs.Common.{ℕ, zero, suc, ◌+◌, inl, inr, Bool, IsTrue, List, [], ◌∷◌, sym, subst, arith}
+use Rattle.std.specs.List.{AllByRecursion, Contains}
 use Rattle.std.proofs.lemmas.List.Elements.{All-contains, All-from_recursion}
 use Rattle.symk_task.specs.declared.parts.Fact.{Fact}
 use Rattle.symk_task.specs.declared.parts.Rule.{Rule}
 use Rattle.symk_task.specs.declared.parts.TaskParts.{TaskParts}
-use Rattle.symk_task.specs.Variables.{IsBase}
-use Rattle.symk_task.specs.Derived.{Met, HasRule, Derives, Raised, RaisedBelow}
+use Rattle.symk_task.specs.Derived.{Met, HasRule, Derives, RaisedBelow}
 use Rattle.symk_task.specs.Derived.Met.{base, same, raised, default}
 use Rattle.symk_task.specs.Steps.{Holds}
 use Rattle.symk_task.specs.Fits.{Fits, FitsRule, InRange}
 use Rattle.symk_task.proofs.Closing.{sound}
-use Rattle.symk_task.proofs.Layers.{base_derived, raised_by}
+use Rattle.symk_task.proofs.Layers.{raised_by}
 use Rattle.task_run.specs.Values.{HasValue}
 use Rattle.stubborn_sets.specs.Depending.{is_in}
 use Rattle.stubborn_sets.specs.Barring.{HasMakers, RaisesBarred, Waits, IsBarredRule, AreBarredRules, IsBarred}

@@ -12,7 +12,7 @@ use Rattle.task_run.proofs.Applying.{below}
 use Rattle.task_run.proofs.Stepping.{operator_at}
 use Rattle.stubborn_sets.specs.Making.{IsMissing}
 use Rattle.symk_task.specs.declared.parts.Rule.{Rule}
-use Rattle.stubborn_sets.specs.Barring.{Waits, HasBar, IsBarredRule, AreBarredRules, IsBarred}
+use Rattle.stubborn_sets.specs.Barring.{Waits, HasBar, IsBarredRule}
 use Rattle.stubborn_sets.specs.Closing.{is_in, Grows, HasMakers, StaysFalse, HasConflicts, HasNeeds}
 
 pub makers_grow : (task : TaskParts) (fact : Fact) (old new : List Bool) → Grows old new → HasMakers task fact old → HasMakers task fact new

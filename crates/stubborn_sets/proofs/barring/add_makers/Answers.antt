@@ -1,4 +1,4 @@
-use Rattle.std.proofs.Common.{◌≡◌, ℕ, Bool, IsTrue, List, length, OnOk, Result}
+use Rattle.std.proofs.Common.{IsTrue, length}
 use Rattle.std.specs.List.{All}
 use Rattle.stubborn_sets.specs.Closing.{is_in, HasMakers}
 use Rattle.stubborn_sets.proofs.GrowingLaw.{all_within, has_makers, on_both}

@@ -1,4 +1,4 @@
-use Rattle.std.proofs.Common.{◌≡◌, ◌<◌, Bool, true, false, IsTrue, List, length, replicate, ap, sym, subst, ◌∙◌, arith}
+use Rattle.std.proofs.Common.{◌≡◌, ◌<◌, Bool, false, IsTrue, List, length, replicate, ap, sym, subst, ◌∙◌, arith}
 use Rattle.std.proofs.Math.ListN.{length-replicate}
 use Rattle.stubborn_sets.specs.Depending.{is_in, Grows}
 use Rattle.stubborn_sets.specs.Barring.{AreBarredRules, IsBarred}

@@ -1,4 +1,4 @@
-use Rattle.std.proofs.Common.{◌≡◌, ◌<◌, Bool, true, false, Option, IfSome, IsFalse, List, length, get_or, refl, sym, subst, ◌∙◌}
+use Rattle.std.proofs.Common.{◌≡◌, ◌<◌, Bool, Option, IfSome, List, length, get_or, refl, sym, subst, ◌∙◌}
 use Rattle.std.proofs.lemmas.Bool.{false≢true}
 use Rattle.symk_task.specs.declared.parts.Rule.{Rule}
 use Rattle.stubborn_sets.specs.Depending.{Spreads}
@@ -30,10 +30,10 @@ loop-rule-preserved c =
     let adds = adds_trans c.args.set.now old new inv.adds added in
     elim c.if-new.branch [
       | then-new w ↦ record {
-          spreads = subst (Spreads first next) (sym w.more-is) (spreads_more first bars next c.loop-rule.more inv.spreads (subst (Spreads bars next) w.if-new.true spreads));
-          adds = adds;
-          bars = λ off. absurd (false≢true (sym off ∙ w.more-is));
-        }
+        spreads = subst (Spreads first next) (sym w.more-is) (spreads_more first bars next c.loop-rule.more inv.spreads (subst (Spreads bars next) w.if-new.true spreads));
+        adds = adds;
+        bars = λ off. absurd (false≢true (sym off ∙ w.more-is));
+      }
       | else-new w ↦ (
           let same = subst (Spreads bars next) w.if-new.false spreads in
           record {

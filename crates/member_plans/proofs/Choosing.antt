@@ -1,0 +1,124 @@
+-- The children of a prefix by some of the moves, operator after operator.
+use Rattle.std.proofs.Common.{◌≡◌, ℕ, ◌+◌, ◌<◌, ◌≤◌, ◌⊎◌, inl, inr, Bool, true, false, not, IsTrue, IsFalse, List, [], ◌∷◌, ◌++◌, length, get_or, refl, sym, subst, arith}
+use Rattle.std.specs.List.{AllByRecursion}
+use Rattle.space_api.proofs.Rising.{IsPast, past_gap}
+use Rattle.symk_task.specs.declared.parts.Mode.TheVariants.{TopK}
+use Rattle.task_system.specs.System.{State, Listed}
+use Rattle.space_api.specs.View.{View}
+use Rattle.cost_to_go.specs.declared.search.CostToGo.{CostToGo}
+use Rattle.prefix_laws.specs.Queue.{Hopeless}
+use Rattle.prefix_tree.specs.StateGraph.{ops_of, AreMoves}
+use Rattle.prefix_tree.specs.Tree.{IsTree, path_at, end_at}
+use Rattle.prefix_tree.specs.Entries.{prefixes}
+use Rattle.prefix_tree.specs.declared.state_graph.Move.{Move}
+use Rattle.prefix_tree.specs.declared.tree.Node.{Node}
+use Rattle.prefix_tree.specs.declared.entry.Entry.{Entry}
+use Rattle.prefix_tree.proofs.Entries.{prefixes_like}
+use Rattle.stubborn_laws.specs.Stubborn.{Stubborn}
+use Rattle.stubborn_sets.specs.Closing.{is_in}
+use Rattle.member_laws.proofs.Reaching.{all_stubborn}
+use Rattle.prefix_ends.specs.Children.{IsNew, Added}
+use Rattle.prefix_ends.proofs.Growing.{each_new_like}
+use Rattle.prefix_ends.proofs.Reaching.{lost}
+use Rattle.member_plans.specs.Moves.{is_taken}
+use Rattle.member_plans.specs.Children.{AreChosen, AreEnough}
+
+below_next : (op n : ℕ) → op < n + 1 → (op < n) ⊎ (n ≡ op)
+below_next op n lt = grind arith
+
+before_or : (a b : ℕ) → (a < b) ⊎ (b ≤ a)
+before_or a b = grind arith
+
+join_each : {X : Type 0} (P : X → Type 0) (xs ys : List X) → AllByRecursion P xs → AllByRecursion P ys → AllByRecursion P (xs ++ ys)
+join_each P [] ys a b = b
+join_each P (x ∷ xs) ys a b = (a.0, join_each P xs ys a.1 b)
+
+listed_left : (nodes : List Node) (xs ys : List Entry) (p : List ℕ) → Listed (prefixes nodes xs) p → Listed (prefixes nodes (xs ++ ys)) p
+listed_left nodes [] ys p l = absurd l
+listed_left nodes (x ∷ xs) ys p (inl e) = inl e
+listed_left nodes (x ∷ xs) ys p (inr l) = inr (listed_left nodes xs ys p l)
+
+listed_right : (nodes : List Node) (xs ys : List Entry) (p : List ℕ) → Listed (prefixes nodes ys) p → Listed (prefixes nodes (xs ++ ys)) p
+listed_right nodes [] ys p l = l
+listed_right nodes (x ∷ xs) ys p l = inr (listed_right nodes xs ys p l)
+
+true_false : (b : Bool) → IsTrue b → IsFalse b → ⊥
+true_false b on off = cc
+
+module _ {Set : Type 0} (v : View Set) (f : CostToGo Set) (nodes : List Node) (e : List ℕ) (set : ℕ → Bool) where
+  pub chosen_none : AreChosen v f nodes e set 0 []
+  chosen_none = record { each = tt; all = λ op lt on. absurd (omega (arith, lt)) }
+
+  -- the child by the next operator came, or no plan goes on so
+  pub chosen_added : (n : ℕ) (kids new : List Entry) → AreChosen v f nodes e set n kids → Added v f nodes e n kids new → AreChosen v f nodes e set (n + 1) new
+  chosen_added n kids new g (inl (same, none)) = rw same (record {
+    each = g.each;
+    all = λ op lt on. elim (below_next op n lt) [
+      | inl less ↦ g.all op less on
+      | inr is ↦ inl (subst (λ (k : ℕ). Hopeless v.system TopK (e ++ k ∷ [])) is none)
+    ];
+  })
+  chosen_added n kids new g (inr (k, pushed, stands, path)) = rw pushed (record {
+    each = join_each (IsNew v f nodes) kids (k ∷ []) g.each (stands, tt);
+    all = λ op lt on. elim (below_next op n lt) [
+      | inl less ↦ elim (g.all op less on) [ inl none ↦ inl none | inr l ↦ inr (listed_left nodes kids (k ∷ []) (e ++ op ∷ []) l) ]
+      | inr is ↦ inr (subst (λ (j : ℕ). Listed (prefixes nodes (kids ++ k ∷ [])) (e ++ j ∷ [])) is (listed_right nodes kids (k ∷ []) (e ++ n ∷ []) (inl path)))
+    ];
+  })
+
+  -- the next operator isn't taken
+  pub chosen_left : (n : ℕ) (kids : List Entry) → AreChosen v f nodes e set n kids → IsFalse (set n) → AreChosen v f nodes e set (n + 1) kids
+  chosen_left n kids g off = record {
+    each = g.each;
+    all = λ op lt on. elim (below_next op n lt) [
+      | inl less ↦ g.all op less on
+      | inr is ↦ absurd (true_false (set n) (subst (λ (k : ℕ). IsTrue (set k)) (sym is) on) off)
+    ];
+  }
+
+  -- no plan goes on by the operators from n to x
+  pub chosen_past : (n x : ℕ) (kids : List Entry) → AreChosen v f nodes e set n kids → ((op : ℕ) → n ≤ op → op < x → Hopeless v.system TopK (e ++ op ∷ [])) → AreChosen v f nodes e set x kids
+  chosen_past n x kids g none = record {
+    each = g.each;
+    all = λ op lt on. elim (before_or op n) [ inl less ↦ g.all op less on | inr ge ↦ inl (none op ge lt) ];
+  }
+
+-- the children stand where their places have the same prefixes
+pub chosen_like : {Set : Type 0} (v : View Set) (f : CostToGo Set) (a c : List Node) → length a ≤ length c → ((i : ℕ) → i < length a → path_at c i ≡ path_at a i)
+    → (e : List ℕ) (set : ℕ → Bool) (n : ℕ) (kids : List Entry) → AreChosen v f a e set n kids → AreChosen v f c e set n kids
+chosen_like v f a c longer same e set n kids g =
+    let back = sym (prefixes_like (IsNew v f a) a c kids (λ k z. z.0.inside) same g.each) in
+    record {
+      each = each_new_like v f a c longer same kids g.each;
+      all = λ op lt on. subst (λ (ks : List (List ℕ)). Hopeless v.system TopK (e ++ op ∷ []) ⊎ Listed ks (e ++ op ∷ [])) back (g.all op lt on);
+    }
+
+-- those by the operators below n are those by the operators below x, where no move between is listed
+pub skip_to : {Set : Type 0} (v : View Set) (f : CostToGo Set) (ss : List State) (nodes : List Node) (i : ℕ) → IsTree v.system TopK ss nodes → i < length nodes → (moves : List Move) → AreMoves v.system ss (end_at ss nodes i) moves
+    → (c : List Node) (set : ℕ → Bool) (kids : List Entry) (k n x : ℕ) → IsPast (ops_of moves) k n → ((j : ℕ) → k ≤ j → j < length (ops_of moves) → x ≤ get_or (ops_of moves) j 0)
+    → AreChosen v f c (path_at nodes i) set n kids → AreChosen v f c (path_at nodes i) set x kids
+skip_to v f ss nodes i z lt moves all c set kids k n x past before g =
+    chosen_past v f c (path_at nodes i) set n x kids g (λ op ge less. lost v f ss nodes i z lt moves all op (past_gap (ops_of moves) k n op past ge (λ j at in_list. let b = before j at in_list in omega (arith, less, b))))
+
+marked_or : (b : Bool) → (b ≡ true) ⊎ (not b ≡ true)
+marked_or true = inl refl
+marked_or false = inr refl
+
+module _ {Set : Type 0} (v : View Set) (f : CostToGo Set) (nodes : List Node) (e : List ℕ) (s : State) (marks : List Bool) where
+  -- those by marked operators are enough
+  pub enough_marked : (kids : List Entry) → Stubborn v.system (is_in marks) s → AreChosen v f nodes e (is_taken marks true) v.system.operators kids → AreEnough v f nodes e s kids
+  enough_marked kids stubborn g = record { set = is_in marks; stubborn = stubborn; chosen = g }
+
+  -- and all are
+  pub enough_all : (kids more : List Entry) → AreChosen v f nodes e (is_taken marks true) v.system.operators kids → AreChosen v f nodes e (is_taken marks false) v.system.operators more → AreEnough v f nodes e s (kids ++ more)
+  enough_all kids more g h = record {
+    set = λ op. true;
+    stubborn = all_stubborn v.system (λ op. true) s (λ op lt. refl);
+    chosen = record {
+      each = join_each (IsNew v f nodes) kids more g.each h.each;
+      all = λ op lt on. elim (marked_or (is_in marks op)) [
+        | inl has ↦ elim (g.all op lt has) [ inl none ↦ inl none | inr l ↦ inr (listed_left nodes kids more (e ++ op ∷ []) l) ]
+        | inr lacks ↦ elim (h.all op lt lacks) [ inl none ↦ inl none | inr l ↦ inr (listed_right nodes kids more (e ++ op ∷ []) l) ]
+      ];
+    };
+  }

@@ -1,0 +1,10 @@
+pub mod Choosing
+pub mod Meeting
+pub mod Table
+pub mod Turning
+pub mod Walking
+pub mod Ranging
+pub mod Opening
+pub mod Asking
+pub mod Keeping
+pub mod Halting

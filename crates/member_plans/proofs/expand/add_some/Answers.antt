@@ -1,0 +1,106 @@
+use Rattle.std.proofs.Common.{◌≡◌, false, ◌+◌, ℕ, List, get_or, sym, ap, subst, arith}
+use Rattle.space_api.proofs.Rising.{past_none, past_next, never_falls}
+use Rattle.task_system.specs.System.{State}
+use Rattle.symk_task.specs.declared.parts.Mode.TheVariants.{TopK}
+use Rattle.prefix_tree.specs.StateGraph.{states_of, state_at, ops_of, IsMove}
+use Rattle.prefix_tree.specs.Tree.{path_at}
+use Rattle.prefix_tree.specs.declared.state_graph.Move.{Move}
+use Rattle.prefix_tree.proofs.Paths.{grows_refl, grows_trans}
+use Rattle.prefix_tree.proofs.Going.{op_at, ops_few, ops_many}
+use Rattle.prefix_ends.specs.Children.{Added}
+use Rattle.prefix_ends.proofs.Growing.{entry_like}
+use Rattle.member_plans.specs.Moves.{is_taken}
+use Rattle.member_plans.specs.Children.{AreChosen}
+use Rattle.member_plans.proofs.Choosing.{chosen_none, chosen_like, chosen_added, chosen_left, skip_to}
+use Rattle.member_plans.proofs.expand.add_some.Goals as goal
+
+pub moves-init : goal.moves-init
+moves-init g c =
+    let v = g.S.Space.view c.args.space.now in
+    let f = c.args.search.now in
+    let a = c.args.tree.now.items in
+    let e = path_at a c.args.entry.node in
+    let set = is_taken c.args.marks.now c.args.marked in
+    record {
+      grows = grows_refl v.system TopK (states_of c.args.graph.now) a c.requires.tree;
+      children = (0, past_none (ops_of c.args.moves.now), subst (AreChosen v f a e set 0) (sym c.new-children.ensures.items) (chosen_none v f a e set));
+    }
+
+pub add_child-requires-clause-tree : goal.add_child-requires-clause-tree
+add_child-requires-clause-tree g c = c.moves.invariant.grows.tree
+
+pub add_child-requires-clause-entry : goal.add_child-requires-clause-entry
+add_child-requires-clause-entry g c =
+    let v = g.S.Space.view c.args.space.now in
+    let i = c.moves.invariant.grows in
+    entry_like v c.args.search.now c.args.tree.now.items c.moves.tree.items i.longer i.paths c.args.entry c.requires.entry
+
+pub add_child-requires-clause-step : goal.add_child-requires-clause-step
+add_child-requires-clause-step g c =
+    let y = (g.S.Space.view c.args.space.now).system in
+    let ss = states_of c.args.graph.now in
+    let d : Move = record { op = 0; to = 0 } in
+    subst (λ (s : State). IsMove y ss s (get_or c.args.moves.now c.moves.step-index d)) (sym (ap (state_at ss) (c.moves.invariant.grows.ends c.args.entry.node c.requires.entry.inside))) (c.requires.moves.each c.moves.step-index d c.moves-test.true)
+
+pub moves-preserved : goal.moves-preserved
+moves-preserved g c =
+    let v = g.S.Space.view c.args.space.now in
+    let f = c.args.search.now in
+    let ss = states_of c.args.graph.now in
+    let a = c.args.tree.now.items in
+    let b = c.moves.tree.items in
+    let t = c.add_child.new.tree.items in
+    let e = path_at a c.args.entry.node in
+    let d : Move = record { op = 0; to = 0 } in
+    let moves = c.args.moves.now in
+    let set = is_taken c.args.marks.now c.args.marked in
+    let at = c.moves.step-index in
+    let ops = ops_of moves in
+    let op = get_or (ops_of moves) at 0 in
+    let i = c.moves.invariant in
+    let m = c.add_child.ensures.grows in
+    let old = c.moves.children.items in
+    let new = c.add_child.new.children.items in
+    let is = op_at c.args.moves.now d c.moves.step-index c.moves-test.true in
+    let inside = ops_few c.args.moves.now c.moves.step-index c.moves-test.true in
+    let path = i.grows.paths c.args.entry.node c.requires.entry.inside in
+    let added = subst (λ (k : ℕ). Added v f t e k old new) is (subst (λ (p : List ℕ). Added v f t p (get_or c.args.moves.now c.moves.step-index d).op old new) path c.in_ok-add_child.ensures.added) in
+    let sofar = skip_to v f ss a c.args.entry.node c.requires.tree c.requires.entry.inside moves c.requires.moves b set old at i.children.0 op i.children.1 (never_falls ops c.requires.moves.rising at) i.children.2 in
+    record {
+      grows = grows_trans v.system TopK ss a b t i.grows m;
+      children = (op + 1, past_next ops c.requires.moves.rising at inside, chosen_added v f t e set op old new (chosen_like v f b t m.longer m.paths e set op old sofar) added);
+    }
+
+pub returns-clause-children : goal.returns-clause-children
+returns-clause-children g c =
+    let v = g.S.Space.view c.args.space.now in
+    let ss = states_of c.args.graph.now in
+    let i = c.moves.invariant in
+    let few = ops_many c.args.moves.now c.moves.step-index c.moves-test.false in
+    skip_to v c.args.search.now ss c.args.tree.now.items c.args.entry.node c.requires.tree c.requires.entry.inside c.args.moves.now c.requires.moves c.moves.tree.items (is_taken c.args.marks.now c.args.marked) c.moves.children.items c.moves.step-index i.children.0 v.system.operators i.children.1
+    (λ j ge lt. absurd (omega (arith, ge, lt, few))) i.children.2
+
+pub moves-preserved-then-not-takes : goal.moves-preserved-then-not-takes
+moves-preserved-then-not-takes g c =
+    let v = g.S.Space.view c.args.space.now in
+    let f = c.args.search.now in
+    let ss = states_of c.args.graph.now in
+    let a = c.args.tree.now.items in
+    let b = c.moves.tree.items in
+    let e = path_at a c.args.entry.node in
+    let d : Move = record { op = 0; to = 0 } in
+    let moves = c.args.moves.now in
+    let set = is_taken c.args.marks.now c.args.marked in
+    let at = c.moves.step-index in
+    let ops = ops_of moves in
+    let op = get_or (ops_of moves) at 0 in
+    let i = c.moves.invariant in
+    let old = c.moves.children.items in
+    let is = op_at c.args.moves.now d c.moves.step-index c.moves-test.true in
+    let inside = ops_few c.args.moves.now c.moves.step-index c.moves-test.true in
+    let off : is_taken c.args.marks.now c.args.marked (get_or c.args.moves.now c.moves.step-index d).op ≡ false = grind (arith, c.takes.ensures, c.if-not-takes.true) in
+    let sofar = skip_to v f ss a c.args.entry.node c.requires.tree c.requires.entry.inside moves c.requires.moves b set old at i.children.0 op i.children.1 (never_falls ops c.requires.moves.rising at) i.children.2 in
+    record {
+      grows = i.grows;
+      children = (op + 1, past_next ops c.requires.moves.rising at inside, chosen_left v f b e set op old sofar (subst (λ (k : ℕ). is_taken c.args.marks.now c.args.marked k ≡ false) is off));
+    }

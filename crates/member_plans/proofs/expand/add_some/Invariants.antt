@@ -1,0 +1,16 @@
+use Rattle.std.proofs.Common.{ℕ}
+use Rattle.space_api.proofs.Rising.{IsPast}
+use Rattle.symk_task.specs.declared.parts.Mode.TheVariants.{TopK}
+use Rattle.prefix_tree.specs.StateGraph.{states_of, ops_of}
+use Rattle.prefix_tree.specs.Tree.{Grows, path_at}
+use Rattle.member_plans.specs.Moves.{is_taken}
+use Rattle.member_plans.specs.Children.{AreChosen}
+use Rattle.member_plans.proofs.expand.add_some.Given as goal
+
+abbrev pub invariant-moves : goal.invariant-moves
+invariant-moves g l =
+    let v = g.S.Space.view l.space in
+    record {
+      grows : Grows v.system TopK (states_of l.graph) l.fn.tree.items l.tree.items;
+      children : (m : ℕ) × IsPast (ops_of l.moves) l.step-index m × AreChosen v l.search l.tree.items (path_at l.fn.tree.items l.entry.node) (is_taken l.marks l.marked) m l.children.items;
+    }

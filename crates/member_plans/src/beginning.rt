@@ -1,0 +1,197 @@
+//! Engines at their first step.
+
+ghost use Rattle.std.specs.Prelude.{◌≡◌, [], ◌∷◌, IfOk, None, Some};
+ghost use Rattle.task_system.specs.Computed.{system_of as system_by};
+ghost use Rattle.space_api.specs.View.{View, Valid};
+ghost use Rattle.prefix_ends.specs.Owned.{HasNone, HasAlone, HasUseful};
+ghost use Rattle.prefix_ends.specs.Standing.{IsReady, IsAlone};
+ghost use Rattle.prefix_tree.specs.Entries.{prefixes};
+ghost use Rattle.member_plans.specs.Moves.{Serves};
+ghost use Rattle.member_plans.specs.Front.{places, waiting};
+ghost use Rattle.member_plans.specs.Opened.{keys_of};
+ghost use Rattle.member_plans.specs.Engine.{system_of, most_of, ended_of, IsEngine, HasAll};
+
+use crate::engine::MemberPlans;
+use crate::front::Front;
+use crate::moves::Moves;
+use crate::opened::Opened;
+use cost_to_go::CostToGo;
+use prefix_tree::{Entry, Node, Queue, StateGraph, number_of_start};
+use single_states::goal_at;
+use space_api::Space;
+use std::alloc::Global;
+use std::cmp::Reverse;
+use symk_task::{Memory, Task};
+
+/// The empty prefix alone, which waits.
+fn first_front<'a, S: Space>(
+    alloc: Global,
+    space: &S,
+    search: &CostToGo<S::Set>,
+    task: &'a Task,
+) -> Result<Front<'a>, Memory>
+    requires alone { IsAlone (S.view space.now) search.now }
+    ensures ready { IfOk result (λ x. IsReady (S.view space.now) search.now x.graph x.tree.items (waiting x)) }
+    ensures first { IfOk result (λ x. prefixes x.tree.items (waiting x) ≡ [] ∷ []) }
+    ensures serves { IfOk result (λ x. Serves x.moves (system_by task.now)) }
+    ensures none { IfOk result (λ x. places x ≡ []) }
+    ensures keys { IfOk result (λ x. keys_of x.opened ≡ []) }
+{
+    let mut graph = StateGraph::new(alloc);
+    let start = number_of_start(alloc, space, &mut graph)?;
+    let at_goal = goal_at(alloc, space, graph.state(start))?;
+    let mut tree = Vec::new(alloc);
+    tree.push(Node {
+        parent: 0,
+        op: 0,
+        state: start,
+    })?;
+    let mut queue = Queue::new(alloc);
+    queue.push(Entry {
+        bound: Reverse(0),
+        cost: 0,
+        ring: Reverse(0),
+        node: 0,
+        settled: false,
+        at_goal,
+    })?;
+    Ok(Front {
+        graph,
+        moves: Moves::new(alloc, task)?,
+        tree,
+        queue,
+        opened: Opened::new(alloc),
+    })
+}
+
+impl<'a, S: Space + Drop> MemberPlans<'a, S> {
+    /// Plans of the space's system, which is that of the task, that cost at most `most`, where it is given. Each one pends.
+    /// The search is kept to `within`.
+    ///
+    /// The caller knows that `within` has each useful state and alone is valid.
+    fn begin(
+        alloc: Global,
+        task: &'a Task,
+        space: S,
+        most: Option<u64>,
+        within: S::Set,
+    ) -> Result<MemberPlans<'a, S>, Memory>
+        requires task { (S.view space).system ≡ system_by task.now }
+        requires within { Valid (S.view space) within }
+        requires alone { HasAlone (S.view space) within }
+        requires wide { HasUseful (S.view space) within }
+        ensures lawful { IfOk result (λ x. IsEngine S.view x) }
+        ensures system { IfOk result (λ x. system_of S.view x ≡ (S.view space).system) }
+        ensures all { IfOk result (λ x. HasAll S.view (S.view space).system x) }
+        ensures most { IfOk result (λ x. most_of x ≡ most) }
+        ensures last { IfOk result (λ x. ended_of x ≡ None) }
+    {
+        let mut space = space;
+        let search = CostToGo::new(alloc, &mut space, within)?;
+        let front = first_front(alloc, &space, &search, task)?;
+        Ok(MemberPlans {
+            space,
+            search,
+            within,
+            front,
+            most,
+            ended: None,
+        })
+    }
+
+    /// Plans of the space's system, which is that of the task, of each class one at least. Each plan pends.
+    ///
+    /// The search is kept to `within`, which the caller knows to have each useful state and to be the one valid set.
+    pub fn new_within(
+        alloc: Global,
+        task: &'a Task,
+        space: S,
+        within: S::Set,
+    ) -> Result<MemberPlans<'a, S>, Memory>
+        requires task { (S.view space).system ≡ system_by task.now }
+        requires within { Valid (S.view space) within }
+        requires alone { HasAlone (S.view space) within }
+        requires wide { HasUseful (S.view space) within }
+        ensures lawful { IfOk result (λ x. IsEngine S.view x) }
+        ensures system { IfOk result (λ x. system_of S.view x ≡ (S.view space).system) }
+        ensures all { IfOk result (λ x. HasAll S.view (S.view space).system x) }
+        ensures most { IfOk result (λ x. most_of x ≡ None) }
+        ensures last { IfOk result (λ x. ended_of x ≡ None) }
+    {
+        MemberPlans::begin(alloc, task, space, None, within)
+    }
+
+    /// The same, with the greatest cost that is wanted.
+    pub fn within_most(
+        alloc: Global,
+        task: &'a Task,
+        space: S,
+        most: u64,
+        within: S::Set,
+    ) -> Result<MemberPlans<'a, S>, Memory>
+        requires task { (S.view space).system ≡ system_by task.now }
+        requires within { Valid (S.view space) within }
+        requires alone { HasAlone (S.view space) within }
+        requires wide { HasUseful (S.view space) within }
+        ensures lawful { IfOk result (λ x. IsEngine S.view x) }
+        ensures system { IfOk result (λ x. system_of S.view x ≡ (S.view space).system) }
+        ensures all { IfOk result (λ x. HasAll S.view (S.view space).system x) }
+        ensures most { IfOk result (λ x. most_of x ≡ Some most) }
+        ensures last { IfOk result (λ x. ended_of x ≡ None) }
+    {
+        MemberPlans::begin(alloc, task, space, Some(most), within)
+    }
+
+    /// The same inside all states, with the greatest cost that is wanted, if there is one.
+    fn begin_anywhere(
+        alloc: Global,
+        task: &'a Task,
+        space: S,
+        most: Option<u64>,
+    ) -> Result<MemberPlans<'a, S>, Memory>
+        requires task { (S.view space).system ≡ system_by task.now }
+        requires none { HasNone (S.view space) }
+        ensures lawful { IfOk result (λ x. IsEngine S.view x) }
+        ensures system { IfOk result (λ x. system_of S.view x ≡ (S.view space).system) }
+        ensures all { IfOk result (λ x. HasAll S.view (S.view space).system x) }
+        ensures most { IfOk result (λ x. most_of x ≡ most) }
+        ensures last { IfOk result (λ x. ended_of x ≡ None) }
+    {
+        let mut space = space;
+        let within = space.all()?;
+        MemberPlans::begin(alloc, task, space, most, within)
+    }
+
+    /// Plans of the space's system, which is that of the task, of each class one at least. Each plan pends.
+    ///
+    /// The caller knows that no set of the space is valid yet.
+    pub fn new(alloc: Global, task: &'a Task, space: S) -> Result<MemberPlans<'a, S>, Memory>
+        requires task { (S.view space).system ≡ system_by task.now }
+        requires none { HasNone (S.view space) }
+        ensures lawful { IfOk result (λ x. IsEngine S.view x) }
+        ensures system { IfOk result (λ x. system_of S.view x ≡ (S.view space).system) }
+        ensures all { IfOk result (λ x. HasAll S.view (S.view space).system x) }
+        ensures most { IfOk result (λ x. most_of x ≡ None) }
+        ensures last { IfOk result (λ x. ended_of x ≡ None) }
+    {
+        MemberPlans::begin_anywhere(alloc, task, space, None)
+    }
+
+    /// The same, with the greatest cost that is wanted.
+    pub fn within(
+        alloc: Global,
+        task: &'a Task,
+        space: S,
+        most: u64,
+    ) -> Result<MemberPlans<'a, S>, Memory>
+        requires task { (S.view space).system ≡ system_by task.now }
+        requires none { HasNone (S.view space) }
+        ensures lawful { IfOk result (λ x. IsEngine S.view x) }
+        ensures system { IfOk result (λ x. system_of S.view x ≡ (S.view space).system) }
+        ensures all { IfOk result (λ x. HasAll S.view (S.view space).system x) }
+        ensures most { IfOk result (λ x. most_of x ≡ Some most) }
+        ensures last { IfOk result (λ x. ended_of x ≡ None) }
+    {
+        MemberPlans::begin_anywhere(alloc, task, space, Some(most))
+    }
+}

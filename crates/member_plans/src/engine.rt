@@ -1,0 +1,133 @@
+//! The engine: one plan of each class of rearrangements at least, the cheapest first.
+
+use crate::front::Front;
+use cost_to_go::CostToGo;
+use lazy_plans::Stop;
+use space_api::Space;
+
+/// Of each class of rearrangements one plan at least, the cheapest first. It owns its space, of the task that it borrows.
+#[derive(Drop)]
+pub struct MemberPlans<'a, S: Space> {
+    pub(crate) space: S,
+    /// The search from both ends.
+    pub(crate) search: CostToGo<S::Set>,
+    /// The states that its ranks are kept to.
+    pub(crate) within: S::Set,
+    /// Prefixes, those that wait, and those that were opened.
+    pub(crate) front: Front<'a>,
+    /// The greatest cost that is wanted, if there is one.
+    pub(crate) most: Option<u64>,
+    /// The answer that ended it: no plan is left, or why it stopped.
+    pub(crate) ended: Option<Option<Stop>>,
+}
+
+ghost use Rattle.std.specs.Prelude.{◌≡◌, ◌≢◌, None, IfOk};
+ghost use Rattle.lazy_plans.specs.Law.{last_of};
+ghost use Rattle.class_plans.specs.Members.{TurnedMembers};
+ghost use Rattle.member_laws.proofs.Telling.{pends_told};
+ghost use Rattle.member_plans.specs.Front.{opened};
+ghost use Rattle.member_plans.specs.Engine.{system_of, most_of, ended_of, Pends, tells, IsEngine, KeepsAll, HasRoom, Answers};
+
+use crate::turn::give;
+use crate::walk::walk;
+use class_plans::LazyMembers;
+use lazy_plans::Steps;
+use std::alloc::Global;
+use std::sync::ledger::Ledger;
+use symk_task::Plan;
+
+impl<'a, S: Space> MemberPlans<'a, S> {
+    /// Asks for the next plan. The space is tidied before it is opened, so that it pends still where that is refused; then
+    /// the engine stops.
+    fn ask<L: Ledger>(&mut self, alloc: Global, steps: &mut Steps<L>) -> Result<Option<Plan>, Stop>
+        requires engine { IsEngine S.view self.old }
+        requires goes_on { ended_of self.old ≡ None }
+        ensures answers { Answers S.view self.old self.new result }
+        ensures most { most_of self.new ≡ most_of self.old }
+    {
+        match walk(
+            alloc,
+            &mut self.space,
+            &mut self.search,
+            self.within,
+            self.most,
+            &mut self.front,
+            steps,
+        ) {
+            Err(stop) => {
+                self.ended = Some(Some(stop));
+                Err(stop)
+            }
+            Ok(found) => match self.space.tidy() {
+                Err(_) => {
+                    self.ended = Some(Some(Stop::Memory));
+                    Err(Stop::Memory)
+                }
+                Ok(()) => match found {
+                    None => {
+                        self.ended = Some(None);
+                        Ok(None)
+                    }
+                    Some(entry) => match give(
+                        alloc,
+                        &self.space,
+                        &self.search,
+                        self.most,
+                        &mut self.front,
+                        entry,
+                        steps,
+                    ) {
+                        Err(_) => {
+                            self.ended = Some(Some(Stop::Memory));
+                            Err(Stop::Memory)
+                        }
+                        Ok(plan) => Ok(Some(plan)),
+                    },
+                },
+            },
+        }
+    }
+}
+
+impl<'a, S: Space> LazyMembers for MemberPlans<'a, S> {
+    ghost system = { λ x. system_of S.view x };
+
+    ghost most = { λ x. most_of x };
+
+    ghost pends = { λ x. Pends S.view x };
+
+    ghost tells = { λ x. tells S.view x };
+
+    ghost lawful = { λ x. IsEngine S.view x };
+
+    ghost last = { λ x. ended_of x };
+
+    /// The next plan that pends. One turn is one step. After each call, also one that is refused, every valid set is one
+    /// of the search, or the one that it is kept to. After a plan or None the space is tidy.
+    fn next_member<L: Ledger>(
+        &mut self,
+        alloc: Global,
+        steps: &mut Steps<L>,
+    ) -> Result<Option<Plan>, Stop>
+        requires { IsEngine S.view self.old }
+        ensures lawful { IsEngine S.view self.new }
+        ensures system { system_of S.view self.new ≡ system_of S.view self.old }
+        ensures most { most_of self.new ≡ most_of self.old }
+        ensures law { TurnedMembers (system_of S.view self.old) (most_of self.old) (Pends S.view self.old)
+            (Pends S.view self.new) result }
+        ensures last { ended_of self.new ≡ last_of result }
+        ensures again { ended_of self.old ≢ None → ended_of self.new ≡ ended_of self.old }
+        ensures keeps { KeepsAll S.view self.new }
+        ensures tidy { IfOk result (λ o. HasRoom S.view self.new) }
+    {
+        match self.ended {
+            None => self.ask(alloc, steps),
+            Some(None) => Ok(None),
+            Some(Some(stop)) => Err(stop),
+        }
+    }
+
+    ghost fair = { λ x ok p h. h.0 };
+
+    ghost told = { λ x ok p. pends_told (S.view x.space).system (opened x.front) p };
+}

@@ -1,0 +1,147 @@
+//! The children of a prefix.
+
+ghost use Rattle.std.specs.Prelude.{◌≡◌, ◌<◌, IfOk, length};
+ghost use Rattle.symk_task.specs.declared.parts.Mode.TheVariants.{TopK};
+ghost use Rattle.space_api.specs.View.{View};
+ghost use Rattle.stubborn_laws.specs.Stubborn.{Stubborn};
+ghost use Rattle.stubborn_sets.specs.Closing.{is_in};
+ghost use Rattle.cost_to_go.specs.Standing.{IsCostToGo};
+ghost use Rattle.prefix_tree.specs.Tree.{IsTree, Grows, path_at, end_at};
+ghost use Rattle.prefix_tree.specs.StateGraph.{states_of, IsStateGraph, AreMoves};
+ghost use Rattle.prefix_tree.specs.Entries.{HasRoom, entries_of};
+ghost use Rattle.prefix_ends.specs.Children.{IsEntry};
+ghost use Rattle.member_plans.specs.Moves.{Serves, is_taken};
+ghost use Rattle.member_plans.specs.Children.{AreChosen, AreEnough};
+
+use crate::front::Front;
+use crate::taking::{is_one_nearer, takes};
+use cost_to_go::CostToGo;
+use prefix_ends::add_child;
+use prefix_tree::{Entry, Move, Node, StateGraph, find_moves, node_at};
+use space_api::{Space, SpaceFault};
+use std::alloc::Global;
+
+/// Adds the children by the moves from the end of the entry's prefix whose operators are marked, or by those whose operators
+/// aren't, to the tree and tells them. Want of memory leaves what came so far.
+fn add_some<S: Space>(
+    alloc: Global,
+    space: &S,
+    search: &CostToGo<S::Set>,
+    graph: &StateGraph,
+    tree: &mut Vec<Node>,
+    entry: Entry,
+    moves: &[Move],
+    marks: &[bool],
+    marked: bool,
+) -> Result<Vec<Entry>, SpaceFault>
+    requires search { IsCostToGo (S.view space.now) search.now }
+    requires graph { IsStateGraph (S.view space.now).system graph.now }
+    requires tree { IsTree (S.view space.now).system TopK (states_of graph.now) tree.old.items }
+    requires entry { IsEntry (S.view space.now) search.now tree.old.items entry }
+    requires moves { AreMoves (S.view space.now).system (states_of graph.now)
+        (end_at (states_of graph.now) tree.old.items entry.node) moves.now }
+    ensures grows { Grows (S.view space.now).system TopK (states_of graph.now) tree.old.items tree.new.items }
+    ensures children { IfOk result (λ kids. AreChosen (S.view space.now) search.now tree.new.items
+        (path_at tree.old.items entry.node) (is_taken marks.now marked) (S.view space.now).system.operators kids.items) }
+{
+    let mut children = Vec::new(alloc);
+    'moves: for step in moves {
+        if !takes(marks, marked, step.op) {
+            continue;
+        }
+        add_child(
+            alloc,
+            space,
+            search,
+            graph,
+            tree,
+            entry,
+            *step,
+            &mut children,
+        )?;
+    }
+    Ok(children)
+}
+
+/// The children by the moves whose operators are marked; and by the others too where none of these is nearer to a plan, so
+/// that circles that cost nothing don't put off what is nearer for ever.
+fn add_enough<S: Space>(
+    alloc: Global,
+    space: &S,
+    search: &CostToGo<S::Set>,
+    graph: &StateGraph,
+    tree: &mut Vec<Node>,
+    entry: Entry,
+    moves: &[Move],
+    marks: &[bool],
+) -> Result<Vec<Entry>, SpaceFault>
+    requires search { IsCostToGo (S.view space.now) search.now }
+    requires graph { IsStateGraph (S.view space.now).system graph.now }
+    requires tree { IsTree (S.view space.now).system TopK (states_of graph.now) tree.old.items }
+    requires entry { IsEntry (S.view space.now) search.now tree.old.items entry }
+    requires moves { AreMoves (S.view space.now).system (states_of graph.now)
+        (end_at (states_of graph.now) tree.old.items entry.node) moves.now }
+    requires marks { Stubborn (S.view space.now).system (is_in marks.now)
+        (end_at (states_of graph.now) tree.old.items entry.node) }
+    ensures grows { Grows (S.view space.now).system TopK (states_of graph.now) tree.old.items tree.new.items }
+    ensures children { IfOk result (λ kids. AreEnough (S.view space.now) search.now tree.new.items
+        (path_at tree.old.items entry.node) (end_at (states_of graph.now) tree.old.items entry.node) kids.items) }
+{
+    let mut children = add_some(alloc, space, search, graph, tree, entry, moves, marks, true)?;
+    if is_one_nearer(&children, entry) {
+        return Ok(children);
+    }
+    let others = add_some(
+        alloc, space, search, graph, tree, entry, moves, marks, false,
+    )?;
+    children.extend_from_slice(&others)?;
+    Ok(children)
+}
+
+/// The children of an entry that are enough, which stand in the tree then, and for which the queue has room.
+pub(crate) fn expand<S: Space>(
+    alloc: Global,
+    space: &S,
+    search: &CostToGo<S::Set>,
+    front: &mut Front,
+    entry: Entry,
+) -> Result<Vec<Entry>, SpaceFault>
+    requires search { IsCostToGo (S.view space.now) search.now }
+    requires graph { IsStateGraph (S.view space.now).system front.old.graph }
+    requires serves { Serves front.old.moves (S.view space.now).system }
+    requires tree { IsTree (S.view space.now).system TopK (states_of front.old.graph) front.old.tree.items }
+    requires entry { IsEntry (S.view space.now) search.now front.old.tree.items entry }
+    ensures graph { IsStateGraph (S.view space.now).system front.new.graph }
+    ensures serves { Serves front.new.moves (S.view space.now).system }
+    ensures queue { entries_of front.new.queue ≡ entries_of front.old.queue }
+    ensures opened { front.new.opened ≡ front.old.opened }
+    ensures grows { Grows (S.view space.now).system TopK (states_of front.new.graph) front.old.tree.items
+        front.new.tree.items }
+    ensures room { IfOk result (λ kids. HasRoom front.new.queue (length kids.items)) }
+    ensures children { IfOk result (λ kids. AreEnough (S.view space.now) search.now front.new.tree.items
+        (path_at front.old.tree.items entry.node)
+        (end_at (states_of front.new.graph) front.old.tree.items entry.node) kids.items) }
+{
+    let here = node_at(&front.tree, entry.node);
+    find_moves(alloc, space, &mut front.graph, here.state)?;
+    let state = front.graph.state(here.state);
+    front.moves.find_marks(alloc, here.state, state)?;
+    let marks = front.moves.marks_of(here.state);
+    match front.graph.moves_of(here.state) {
+        None => unreachable!(),
+        Some(moves) => {
+            let children = add_enough(
+                alloc,
+                space,
+                search,
+                &front.graph,
+                &mut front.tree,
+                entry,
+                moves,
+                marks,
+            )?;
+            front.queue.make_room(children.len())?;
+            Ok(children)
+        }
+    }
+}

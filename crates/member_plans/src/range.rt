@@ -1,0 +1,101 @@
+//! Whether a plan is left, where each that is left costs more than 64 bits hold.
+
+ghost use Rattle.std.specs.Prelude.{◌≤◌, ℕ, List, IfOk, None};
+ghost use Rattle.std.specs.List.{AllByRecursion};
+ghost use Rattle.symk_task.specs.declared.parts.Mode.TheVariants.{TopK};
+ghost use Rattle.task_system.specs.System.{cost_of};
+ghost use Rattle.space_api.specs.View.{View, Valid};
+ghost use Rattle.space_api.specs.Frames.{Stays};
+ghost use Rattle.space_api.specs.Listing.{ListsReached};
+ghost use Rattle.lazy_plans.specs.Law.{top};
+ghost use Rattle.cost_to_go.specs.declared.search.CostToGo.{CostToGo};
+ghost use Rattle.prefix_tree.specs.Entries.{entries_of, prefixes};
+ghost use Rattle.prefix_tree.specs.StateGraph.{states_of, IsStateGraph};
+ghost use Rattle.prefix_tree.specs.Tree.{IsTree};
+ghost use Rattle.prefix_ends.specs.Children.{IsEntry};
+ghost use Rattle.prefix_ends.specs.Owned.{HasUseful};
+ghost use Rattle.prefix_ends.specs.Leading.{TellsLeading, IsDear};
+ghost use Rattle.member_laws.specs.Nodes.{Covers};
+ghost use Rattle.member_plans.specs.Left.{TellsLeft};
+
+use lazy_plans::Steps;
+use prefix_ends::goes_on;
+use prefix_tree::{Node, Queue, StateGraph};
+use run_graph::Side;
+use space_api::{Space, SpaceFault};
+use std::alloc::{AllocError, Global};
+use std::sync::ledger::Ledger;
+use useful_states::reach;
+
+/// Whether a plan goes on from some entry, each of which is too dear. The first ones from which none does are taken out,
+/// each by a turn.
+fn some_goes_on<S: Space, L: Ledger>(
+    alloc: Global,
+    space: &S,
+    leading: S::Set,
+    graph: &StateGraph,
+    tree: &[Node],
+    queue: &mut Queue,
+    steps: &mut Steps<L>,
+) -> Result<bool, AllocError>
+    requires leading { Valid (S.view space.now) leading }
+    requires tells { TellsLeading (S.view space.now) leading }
+    requires graph { IsStateGraph (S.view space.now).system graph.now }
+    requires tree { IsTree (S.view space.now).system TopK (states_of graph.now) tree.now }
+    requires dear { AllByRecursion (IsDear (S.view space.now).system tree.now) (entries_of queue.old) }
+    ensures each { (w : View S.Set) (f : CostToGo S.Set) → AllByRecursion (IsEntry w f tree.now)
+        (entries_of queue.old) → AllByRecursion (IsEntry w f tree.now) (entries_of queue.new) }
+    ensures covers { (opened : List (List ℕ)) → Covers (S.view space.now).system opened (prefixes tree.now
+        (entries_of queue.old)) → Covers (S.view space.now).system opened (prefixes tree.now (entries_of queue.new)) }
+    ensures told { (opened : List (List ℕ)) → ListsReached (S.view space.now).system
+        → Covers (S.view space.now).system opened (prefixes tree.now (entries_of queue.old))
+        → AllByRecursion (λ p. cost_of (S.view space.now).system p ≤ top None) opened
+        → IfOk result (TellsLeft (S.view space.now).system opened) }
+    ensures steps { steps.old ≤ steps.new }
+{
+    'entries: loop {
+        match queue.first() {
+            None => return Ok(false),
+            Some(entry) => {
+                if goes_on(space, leading, graph, tree, entry) {
+                    return Ok(true);
+                }
+                queue.make_room(0)?;
+                queue.replace(Vec::new(alloc), steps);
+            }
+        }
+    }
+}
+
+/// Whether a plan is left, where each entry is too dear. The states that lead to the goal at all are found, whatever that
+/// costs, and given back. First entries from which no plan goes on are taken out, also where memory is wanting.
+pub(crate) fn is_left<S: Space, L: Ledger>(
+    alloc: Global,
+    space: &mut S,
+    within: S::Set,
+    graph: &StateGraph,
+    tree: &[Node],
+    queue: &mut Queue,
+    steps: &mut Steps<L>,
+) -> Result<bool, SpaceFault>
+    requires within { Valid (S.view space.old) within }
+    requires wide { HasUseful (S.view space.old) within }
+    requires graph { IsStateGraph (S.view space.old).system graph.now }
+    requires tree { IsTree (S.view space.old).system TopK (states_of graph.now) tree.now }
+    requires dear { AllByRecursion (IsDear (S.view space.old).system tree.now) (entries_of queue.old) }
+    ensures stays { Stays (S.view space.old) (S.view space.new) }
+    ensures each { (w : View S.Set) (f : CostToGo S.Set) → AllByRecursion (IsEntry w f tree.now)
+        (entries_of queue.old) → AllByRecursion (IsEntry w f tree.now) (entries_of queue.new) }
+    ensures covers { (opened : List (List ℕ)) → Covers (S.view space.old).system opened (prefixes tree.now
+        (entries_of queue.old)) → Covers (S.view space.old).system opened (prefixes tree.now (entries_of queue.new)) }
+    ensures told { (opened : List (List ℕ)) → ListsReached (S.view space.old).system
+        → Covers (S.view space.old).system opened (prefixes tree.now (entries_of queue.old))
+        → AllByRecursion (λ p. cost_of (S.view space.old).system p ≤ top None) opened
+        → IfOk result (TellsLeft (S.view space.old).system opened) }
+    ensures steps { steps.old ≤ steps.new }
+{
+    let leading = reach(space, Side::Back, within)?;
+    let left = some_goes_on(alloc, space, leading, graph, tree, queue, steps);
+    space.forget(leading);
+    left
+}

@@ -1,0 +1,161 @@
+//! What is done with the first entry of the queue.
+
+ghost use Rattle.std.specs.Prelude.{◌≡◌, ◌+◌, ◌<◌, ◌≤◌, ◌^◌, ◌∷◌, ◌++◌, [], IsFalse, IfOk, OnOk, OnErr, length, slice_index_or};
+ghost use Rattle.space_api.specs.View.{View};
+ghost use Rattle.lazy_plans.specs.Law.{top};
+ghost use Rattle.prefix_tree.specs.Tree.{path_at};
+ghost use Rattle.prefix_ends.specs.Left.{known_of};
+ghost use Rattle.prefix_ends.specs.Children.{IsOutdated};
+ghost use Rattle.member_laws.specs.Nodes.{IsJoined, PendsNode};
+ghost use Rattle.class_plans.specs.Members.{GaveMember};
+ghost use Rattle.member_plans.specs.Front.{waiting, places, opened, IsSteady, Follows, IsDue, work};
+
+use crate::expand::expand;
+use crate::front::Front;
+use cost_to_go::CostToGo;
+use lazy_plans::Steps;
+use prefix_ends::learn as learn_more;
+use prefix_tree::{Entry, operators_to};
+use space_api::{Space, SpaceFault};
+use std::alloc::{AllocError, Global};
+use std::sync::ledger::Ledger;
+use symk_task::Plan;
+
+/// A turn that learns more of the first entry's bound, which puts it where it then belongs, or takes it out where no
+/// plan goes on from it. Want of memory leaves the entries.
+///
+/// The search has gone on since the bound was told.
+pub(crate) fn learn<S: Space, L: Ledger>(
+    alloc: Global,
+    space: &S,
+    search: &CostToGo<S::Set>,
+    most: Option<u64>,
+    front: &mut Front,
+    entry: Entry,
+    steps: &mut Steps<L>,
+) -> Result<(), AllocError>
+    requires steady { IsSteady (S.view space.now) search.now most front.old }
+    requires some { 0 < length (waiting front.old) }
+    requires first { entry ≡ slice_index_or (waiting front.old) 0 entry }
+    requires open { IsFalse entry.settled }
+    requires more { IsOutdated (known_of search.now) entry }
+    ensures follows { Follows (S.view space.now) search.now most front.old front.new }
+    ensures less { OnOk result (work (known_of search.now) front.new < work (known_of search.now) front.old) }
+    ensures one { OnOk result (steps.new ≡ steps.old + 1) }
+    ensures none { OnErr result (steps.new ≡ steps.old) }
+{
+    learn_more(
+        alloc,
+        space,
+        search,
+        &front.graph,
+        &front.tree,
+        &mut front.queue,
+        entry,
+        steps,
+    )
+}
+
+/// A turn that takes the first entry out, whose prefix joins one that was opened. Want of memory leaves the entries.
+pub(crate) fn drop_joined<S: Space, L: Ledger>(
+    alloc: Global,
+    space: &S,
+    search: &CostToGo<S::Set>,
+    most: Option<u64>,
+    front: &mut Front,
+    entry: Entry,
+    steps: &mut Steps<L>,
+) -> Result<(), AllocError>
+    requires steady { IsSteady (S.view space.now) search.now most front.old }
+    requires some { 0 < length (waiting front.old) }
+    requires first { entry ≡ slice_index_or (waiting front.old) 0 entry }
+    requires joined { IsJoined (S.view space.now).system (opened front.old) (path_at front.old.tree.items entry.node) }
+    ensures follows { Follows (S.view space.now) search.now most front.old front.new }
+    ensures less { OnOk result (work (known_of search.now) front.new < work (known_of search.now) front.old) }
+    ensures one { OnOk result (steps.new ≡ steps.old + 1) }
+    ensures none { OnErr result (steps.new ≡ steps.old) }
+{
+    front.queue.make_room(0)?;
+    front.queue.replace(Vec::new(alloc), steps);
+    Ok(())
+}
+
+/// A turn that opens the first entry: takes it out, and puts its children in. Want of memory leaves what was opened, and
+/// the entries.
+fn open<S: Space, L: Ledger>(
+    alloc: Global,
+    space: &S,
+    search: &CostToGo<S::Set>,
+    most: Option<u64>,
+    front: &mut Front,
+    entry: Entry,
+    steps: &mut Steps<L>,
+) -> Result<(), SpaceFault>
+    requires steady { IsSteady (S.view space.now) search.now most front.old }
+    requires some { 0 < length (waiting front.old) }
+    requires first { entry ≡ slice_index_or (waiting front.old) 0 entry }
+    requires cheap { entry.bound.0 ≤ top most }
+    ensures steady { IsSteady (S.view space.now) search.now most front.new }
+    ensures ok { OnOk result (opened front.new ≡ opened front.old ++ path_at front.old.tree.items entry.node ∷ []) }
+    ensures err { OnErr result (opened front.new ≡ opened front.old) }
+    ensures more { OnOk result (length (places front.old) < length (places front.new)) }
+    ensures same { OnErr result (places front.new ≡ places front.old) }
+    ensures fits { OnOk result (length (places front.new) < 2 ^ 64) }
+    ensures one { OnOk result (steps.new ≡ steps.old + 1) }
+    ensures none { OnErr result (steps.new ≡ steps.old) }
+{
+    let children = expand(alloc, space, search, front, entry)?;
+    front
+        .opened
+        .put(alloc, &front.tree, entry.node, entry.at_goal)?;
+    front.queue.replace(children, steps);
+    Ok(())
+}
+
+/// A turn that opens the first entry, whose prefix is no plan.
+pub(crate) fn pass<S: Space, L: Ledger>(
+    alloc: Global,
+    space: &S,
+    search: &CostToGo<S::Set>,
+    most: Option<u64>,
+    front: &mut Front,
+    entry: Entry,
+    steps: &mut Steps<L>,
+) -> Result<(), SpaceFault>
+    requires steady { IsSteady (S.view space.now) search.now most front.old }
+    requires some { 0 < length (waiting front.old) }
+    requires first { entry ≡ slice_index_or (waiting front.old) 0 entry }
+    requires cheap { entry.bound.0 ≤ top most }
+    requires off { IsFalse entry.at_goal }
+    ensures follows { Follows (S.view space.now) search.now most front.old front.new }
+    ensures more { OnOk result (length (places front.old) < length (places front.new)) }
+    ensures fits { OnOk result (length (places front.new) < 2 ^ 64) }
+    ensures one { OnOk result (steps.new ≡ steps.old + 1) }
+    ensures none { OnErr result (steps.new ≡ steps.old) }
+{
+    open(alloc, space, search, most, front, entry, steps)
+}
+
+/// A turn that opens the first entry, whose prefix is a plan that pends, and gives it. Want of memory leaves what pends.
+pub(crate) fn give<S: Space, L: Ledger>(
+    alloc: Global,
+    space: &S,
+    search: &CostToGo<S::Set>,
+    most: Option<u64>,
+    front: &mut Front,
+    entry: Entry,
+    steps: &mut Steps<L>,
+) -> Result<Plan, SpaceFault>
+    requires steady { IsSteady (S.view space.now) search.now most front.old }
+    requires due { IsDue (S.view space.now).system most front.old entry }
+    ensures steady { IsSteady (S.view space.now) search.now most front.new }
+    ensures ok { IfOk result (GaveMember (S.view space.now).system most
+        (PendsNode (S.view space.now).system (opened front.old)) (PendsNode (S.view space.now).system (opened front.new))) }
+    ensures err { OnErr result (opened front.new ≡ opened front.old) }
+    ensures one { OnOk result (steps.new ≡ steps.old + 1) }
+    ensures none { OnErr result (steps.new ≡ steps.old) }
+{
+    let plan = Plan::of(operators_to(alloc, &front.tree, entry.node)?);
+    open(alloc, space, search, most, front, entry, steps)?;
+    Ok(plan)
+}

@@ -1,0 +1,223 @@
+//! Turns of the queue, until a plan is due.
+
+ghost use Rattle.std.specs.Prelude.{◌≡◌, ◌<◌, ◌≤◌, All, IfOk, length, slice_index_or};
+ghost use Rattle.std.specs.List.{AllByRecursion};
+ghost use Rattle.space_api.specs.View.{View};
+ghost use Rattle.lazy_plans.specs.Law.{top};
+ghost use Rattle.cost_to_go.specs.Standing.{within_of};
+ghost use Rattle.prefix_tree.specs.Order.{IsNoLater};
+ghost use Rattle.prefix_tree.specs.declared.entry.Entry.{Entry};
+ghost use Rattle.prefix_ends.specs.Left.{known_of};
+ghost use Rattle.member_plans.specs.Front.{waiting, IsSteady, Follows, TurnOf, HaltsAt, Stopped};
+
+use crate::front::Front;
+use crate::range::is_left;
+use crate::turn::{drop_joined, learn, pass};
+use cost_to_go::CostToGo;
+use lazy_plans::{Steps, Stop};
+use prefix_ends::{go_on, is_outdated, top_of};
+use prefix_tree::Entry;
+use space_api::{Space, SpaceFault};
+use std::alloc::Global;
+use std::sync::ledger::Ledger;
+
+/// Why turns stop.
+#[derive(Clone, Copy)]
+pub(crate) enum Halt {
+    /// The first entry is a plan that pends.
+    Due(Entry),
+    /// A prefix was opened.
+    Opens,
+    /// The last state of the first entry has no rank yet: the search has to go on.
+    Waits,
+    /// No plan is left that is wanted.
+    Ends,
+    /// Each plan that is left costs more than 64 bits hold.
+    OutOfRange,
+}
+
+/// What is done with the first entry, whose last state is ranked: it is dropped where its prefix joins one that was opened;
+/// else it is opened, unless it is a plan, which is due then.
+fn act_ranked<S: Space, L: Ledger>(
+    alloc: Global,
+    space: &S,
+    search: &CostToGo<S::Set>,
+    most: Option<u64>,
+    front: &mut Front,
+    entry: Entry,
+    steps: &mut Steps<L>,
+) -> Result<Option<Halt>, SpaceFault>
+    requires steady { IsSteady (S.view space.now) search.now most front.old }
+    requires some { 0 < length (waiting front.old) }
+    requires first { entry ≡ slice_index_or (waiting front.old) 0 entry }
+    requires order { All (IsNoLater entry) (waiting front.old) }
+    requires cheap { entry.bound.0 ≤ top most }
+    ensures follows { Follows (S.view space.now) search.now most front.old front.new }
+    ensures ok { IfOk result (TurnOf (S.view space.now).system (known_of search.now) most front.old front.new) }
+    ensures steps { steps.old ≤ steps.new }
+{
+    if front.opened.meets(alloc, &front.tree, entry)? {
+        drop_joined(alloc, space, search, most, front, entry, steps)?;
+        return Ok(None);
+    }
+    if entry.at_goal {
+        return Ok(Some(Halt::Due(entry)));
+    }
+    pass(alloc, space, search, most, front, entry, steps)?;
+    Ok(Some(Halt::Opens))
+}
+
+/// What is done with the first entry: where its last state isn't ranked more is learned of it, if more is known.
+fn act<S: Space, L: Ledger>(
+    alloc: Global,
+    space: &S,
+    search: &CostToGo<S::Set>,
+    most: Option<u64>,
+    front: &mut Front,
+    entry: Entry,
+    steps: &mut Steps<L>,
+) -> Result<Option<Halt>, SpaceFault>
+    requires steady { IsSteady (S.view space.now) search.now most front.old }
+    requires some { 0 < length (waiting front.old) }
+    requires first { entry ≡ slice_index_or (waiting front.old) 0 entry }
+    requires order { All (IsNoLater entry) (waiting front.old) }
+    requires cheap { entry.bound.0 ≤ top most }
+    ensures follows { Follows (S.view space.now) search.now most front.old front.new }
+    ensures ok { IfOk result (TurnOf (S.view space.now).system (known_of search.now) most front.old front.new) }
+    ensures steps { steps.old ≤ steps.new }
+{
+    if entry.settled {
+        return act_ranked(alloc, space, search, most, front, entry, steps);
+    }
+    if !is_outdated(search, entry) {
+        return Ok(Some(Halt::Waits));
+    }
+    learn(alloc, space, search, most, front, entry, steps)?;
+    Ok(None)
+}
+
+/// What ends the list where the first entry is dearer than any plan that is given.
+fn end<S: Space, L: Ledger>(
+    alloc: Global,
+    space: &mut S,
+    search: &CostToGo<S::Set>,
+    within: S::Set,
+    most: Option<u64>,
+    front: &mut Front,
+    steps: &mut Steps<L>,
+) -> Result<Halt, SpaceFault>
+    requires steady { IsSteady (S.view space.old) search.now most front.old }
+    requires within { within ≡ within_of search.now }
+    requires dear { AllByRecursion (λ (k : Entry). top most < k.bound.0) (waiting front.old) }
+    ensures system { (S.view space.new).system ≡ (S.view space.old).system }
+    ensures follows { Follows (S.view space.new) search.now most front.old front.new }
+    ensures ok { IfOk result (HaltsAt (S.view space.old).system (known_of search.now) most front.old front.new) }
+    ensures steps { steps.old ≤ steps.new }
+{
+    match most {
+        Some(_) => Ok(Halt::Ends),
+        None => {
+            if is_left(
+                alloc,
+                space,
+                within,
+                &front.graph,
+                &front.tree,
+                &mut front.queue,
+                steps,
+            )? {
+                return Ok(Halt::OutOfRange);
+            }
+            Ok(Halt::Ends)
+        }
+    }
+}
+
+/// One turn: what is done with the first entry. None where turns go on.
+fn take_turn<S: Space, L: Ledger>(
+    alloc: Global,
+    space: &mut S,
+    search: &CostToGo<S::Set>,
+    within: S::Set,
+    most: Option<u64>,
+    front: &mut Front,
+    steps: &mut Steps<L>,
+) -> Result<Option<Halt>, SpaceFault>
+    requires steady { IsSteady (S.view space.old) search.now most front.old }
+    requires within { within ≡ within_of search.now }
+    ensures system { (S.view space.new).system ≡ (S.view space.old).system }
+    ensures follows { Follows (S.view space.new) search.now most front.old front.new }
+    ensures ok { IfOk result (TurnOf (S.view space.old).system (known_of search.now) most front.old front.new) }
+    ensures steps { steps.old ≤ steps.new }
+{
+    match front.queue.first() {
+        None => Ok(Some(Halt::Ends)),
+        Some(entry) => {
+            if entry.bound.0 > top_of(most) as u128 {
+                let halt = end(alloc, space, search, within, most, front, steps)?;
+                return Ok(Some(halt));
+            }
+            act(alloc, space, search, most, front, entry, steps)
+        }
+    }
+}
+
+/// Turns, one after the other, until they stop.
+fn take_turns<S: Space, L: Ledger>(
+    alloc: Global,
+    space: &mut S,
+    search: &CostToGo<S::Set>,
+    within: S::Set,
+    most: Option<u64>,
+    front: &mut Front,
+    steps: &mut Steps<L>,
+) -> Result<Halt, SpaceFault>
+    requires steady { IsSteady (S.view space.old) search.now most front.old }
+    requires within { within ≡ within_of search.now }
+    ensures system { (S.view space.new).system ≡ (S.view space.old).system }
+    ensures follows { Follows (S.view space.new) search.now most front.old front.new }
+    ensures ok { IfOk result (HaltsAt (S.view space.old).system (known_of search.now) most front.old front.new) }
+    ensures steps { steps.old ≤ steps.new }
+{
+    'turns: loop {
+        if let Some(halt) = take_turn(alloc, space, search, within, most, front, steps)? {
+            return Ok(halt);
+        }
+    }
+}
+
+/// Turns and steps of the search, until a plan is due, which stays the first entry, or the list ends. Each entry that is
+/// taken is one step. What pends is the same after it.
+pub(crate) fn walk<S: Space, L: Ledger>(
+    alloc: Global,
+    space: &mut S,
+    search: &mut CostToGo<S::Set>,
+    within: S::Set,
+    most: Option<u64>,
+    front: &mut Front,
+    steps: &mut Steps<L>,
+) -> Result<Option<Entry>, Stop>
+    requires steady { IsSteady (S.view space.old) search.old most front.old }
+    requires within { within ≡ within_of search.old }
+    ensures system { (S.view space.new).system ≡ (S.view space.old).system }
+    ensures within { within ≡ within_of search.new }
+    ensures follows { Follows (S.view space.new) search.new most front.old front.new }
+    ensures ok { Stopped (S.view space.old).system most front.new result }
+    ensures steps { steps.old ≤ steps.new }
+{
+    'steps: loop {
+        match take_turns(alloc, space, search, within, most, front, steps) {
+            Err(_) => return Err(Stop::Memory),
+            Ok(halt) => match halt {
+                Halt::Due(entry) => return Ok(Some(entry)),
+                Halt::Ends => return Ok(None),
+                Halt::OutOfRange => return Err(Stop::CostRange),
+                Halt::Opens => {}
+                Halt::Waits => match go_on(alloc, space, search) {
+                    Err(_) => return Err(Stop::Memory),
+                    Ok(()) => {}
+                },
+            },
+        }
+    }
+}

@@ -1,0 +1,37 @@
+-- How many entries are out of date.
+use Rattle.std.proofs.Common.{◌≡◌, ℕ, ◌+◌, ◌<◌, ◌⊎◌, inl, inr, cond, Bool, true, false, List, [], ◌∷◌, refl, arith}
+use Rattle.std.specs.Prelude.{nat_lt, ◌||◌}
+use Rattle.std.specs.List.{sum_by}
+use Rattle.std.proofs.lemmas.Bool.Decides.{nat_tests}
+use Rattle.std.proofs.lemmas.List.Sums.{sum_by-cons}
+use Rattle.prefix_tree.specs.declared.entry.Entry.{Entry}
+use Rattle.prefix_ends.specs.Left.{Known, bound_at}
+use Rattle.prefix_ends.specs.Children.{IsOutdated, outdated}
+use Rattle.prefix_ends.specs.Standing.{all_outdated}
+
+pub outdated_sum : (n : Known) (es : List Entry) → all_outdated n es ≡ sum_by (outdated n) es
+outdated_sum n [] = refl
+outdated_sum n (e ∷ es) = plus (outdated n e) (all_outdated n es) (sum_by (outdated n) es) (sum_by (outdated n) (e ∷ es)) (outdated_sum n es) (sum_by-cons (outdated n) e es)
+  where
+    plus : (a b c d : ℕ) → b ≡ c → d ≡ a + c → a + b ≡ d
+    plus a b c d p q = omega (arith, p, q)
+
+settled_dated : (b t : Bool) → b ≡ true → ◌≡◌ {A = ℕ} (cond b 0 (cond t 1 0)) 0
+settled_dated b t e = rw e refl
+
+pub ranked_dated : (known : Known) (e : Entry) → e.settled ≡ true → outdated known e ≡ 0
+ranked_dated known e on = settled_dated e.settled (nat_lt e.ring.0 known.many || nat_lt e.bound.0 (bound_at known.next e.cost)) on
+
+less_true : (a b : ℕ) → a < b → nat_lt a b ≡ true
+less_true a b lt = grind (arith, nat_tests)
+
+open_dated : (b t u : Bool) → b ≡ false → (t ≡ true) ⊎ (u ≡ true) → ◌≡◌ {A = ℕ} (cond b 0 (cond (t || u) 1 0)) 1
+open_dated b t u off (inl e) = rw (off, e) refl
+open_dated b true u off (inr e) = rw off refl
+open_dated b false u off (inr e) = rw (off, e) refl
+
+pub unranked_dated : (known : Known) (e : Entry) → e.settled ≡ false → IsOutdated known e → outdated known e ≡ 1
+unranked_dated known e off old = open_dated e.settled (nat_lt e.ring.0 known.many) (nat_lt e.bound.0 (bound_at known.next e.cost)) off (elim old [
+  | inl lt ↦ inl (less_true e.ring.0 known.many lt)
+  | inr lt ↦ inr (less_true e.bound.0 (bound_at known.next e.cost) lt)
+])

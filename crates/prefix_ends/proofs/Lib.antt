@@ -1,0 +1,9 @@
+pub mod Ranks
+pub mod Moving
+pub mod Growing
+pub mod Reaching
+pub mod Bettering
+pub mod Dating
+pub mod Replacing
+pub mod Dearest
+pub mod First

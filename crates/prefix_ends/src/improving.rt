@@ -1,0 +1,38 @@
+//! Entries whose last state had no rank.
+
+ghost use Rattle.symk_task.specs.declared.parts.Mode.TheVariants.{TopK};
+ghost use Rattle.space_api.specs.View.{View};
+ghost use Rattle.prefix_tree.specs.StateGraph.{states_of, IsStateGraph};
+ghost use Rattle.prefix_tree.specs.Tree.{IsTree};
+ghost use Rattle.cost_to_go.specs.Standing.{IsCostToGo};
+ghost use Rattle.prefix_ends.specs.Children.{IsEntry};
+ghost use Rattle.prefix_ends.specs.Standing.{IsBetter};
+
+use crate::children::entry_of;
+use crate::left::{left_after, left_from};
+use cost_to_go::CostToGo;
+use prefix_tree::{Entry, Node, StateGraph, node_at};
+use space_api::Space;
+
+/// The entry with what the search knows now; None where no plan goes on from it.
+pub(crate) fn improve<S: Space>(
+    space: &S,
+    search: &CostToGo<S::Set>,
+    graph: &StateGraph,
+    tree: &[Node],
+    entry: Entry,
+) -> Option<Entry>
+    requires search { IsCostToGo (S.view space.now) search.now }
+    requires graph { IsStateGraph (S.view space.now).system graph.now }
+    requires tree { IsTree (S.view space.now).system TopK (states_of graph.now) tree.now }
+    requires entry { IsEntry (S.view space.now) search.now tree.now entry }
+    ensures { IsBetter (S.view space.now) search.now tree.now entry result }
+{
+    let low = left_after(entry.bound.0, entry.cost);
+    let here = node_at(tree, entry.node);
+    let state = graph.state(here.state);
+    match left_from(space, search, state, entry.cost, entry.ring.0, low) {
+        None => None,
+        Some(left) => Some(entry_of(entry.cost, left, entry.node, entry.at_goal)),
+    }
+}

@@ -1,0 +1,71 @@
+//! What is done with the first entry of a queue, whatever pends.
+
+ghost use Rattle.std.specs.Prelude.{◌≡◌, ◌+◌, ◌<◌, IfOk, OnOk, OnErr, length, slice_index_or};
+ghost use Rattle.space_api.specs.View.{View};
+ghost use Rattle.prefix_tree.specs.Tree.{AreLinked};
+ghost use Rattle.prefix_tree.specs.Entries.{entries_of};
+ghost use Rattle.prefix_ends.specs.Standing.{IsReady, Learned, IsPlanAt, listed_of};
+
+use crate::improving::improve;
+use cost_to_go::CostToGo;
+use lazy_plans::Steps;
+use prefix_tree::{Entry, Node, Queue, StateGraph, operators_to};
+use space_api::Space;
+use std::alloc::{AllocError, Global};
+use std::sync::ledger::Ledger;
+use symk_task::Plan;
+
+/// The entry alone, or none.
+fn one_or_none(alloc: Global, entry: Option<Entry>) -> Result<Vec<Entry>, AllocError>
+    ensures { IfOk result (λ entries. entries.items ≡ listed_of entry) }
+{
+    let mut entries = Vec::new(alloc);
+    match entry {
+        None => Ok(entries),
+        Some(entry) => {
+            entries.push(entry)?;
+            Ok(entries)
+        }
+    }
+}
+
+/// A turn that learns more of the first entry's bound, which puts it where it then belongs, or takes it out where no
+/// plan goes on from it. Want of memory leaves the entries.
+pub fn learn<S: Space, L: Ledger>(
+    alloc: Global,
+    space: &S,
+    search: &CostToGo<S::Set>,
+    graph: &StateGraph,
+    tree: &[Node],
+    queue: &mut Queue,
+    entry: Entry,
+    steps: &mut Steps<L>,
+) -> Result<(), AllocError>
+    requires ready { IsReady (S.view space.now) search.now graph.now tree.now (entries_of queue.old) }
+    requires some { 0 < length (entries_of queue.old) }
+    requires first { entry ≡ slice_index_or (entries_of queue.old) 0 entry }
+    ensures ready { IsReady (S.view space.now) search.now graph.now tree.now (entries_of queue.new) }
+    ensures ok { OnOk result (Learned (S.view space.now) search.now tree.now entry (entries_of queue.old)
+        (entries_of queue.new)) }
+    ensures err { OnErr result (entries_of queue.new ≡ entries_of queue.old) }
+    ensures one { OnOk result (steps.new ≡ steps.old + 1) }
+    ensures none { OnErr result (steps.new ≡ steps.old) }
+{
+    let better = improve(space, search, graph, tree, entry);
+    let others = one_or_none(alloc, better)?;
+    queue.make_room(others.len())?;
+    queue.replace(others, steps);
+    Ok(())
+}
+
+/// The plan that the entry is, if it is one.
+pub fn plan_of(alloc: Global, tree: &[Node], entry: Entry) -> Result<Option<Plan>, AllocError>
+    requires linked { AreLinked tree.now }
+    requires inside { entry.node < length tree.now }
+    ensures { IfOk result (λ plan. IsPlanAt tree.now entry plan) }
+{
+    if entry.at_goal {
+        return Ok(Some(Plan::of(operators_to(alloc, tree, entry.node)?)));
+    }
+    Ok(None)
+}

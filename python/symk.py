@@ -19,6 +19,7 @@ this file stands in the repository, `.symk/symk`, once it is built, or the scrip
 from __future__ import annotations
 
 import argparse
+import fcntl
 import itertools
 import json
 import os
@@ -36,8 +37,9 @@ import weakref
 from contextlib import contextmanager
 from fractions import Fraction
 from functools import lru_cache
+from operator import itemgetter
 from pathlib import Path
-from typing import Any, Callable, Dict, Generator, Iterable, Iterator, List, NamedTuple, Optional, Sequence, Tuple, Union
+from typing import Any, Callable, ContextManager, Dict, Generator, Iterable, Iterator, List, NamedTuple, Optional, Sequence, Tuple, Union
 
 PathLike = Union[str, "os.PathLike[str]"]
 Program = Union[PathLike, Sequence[str], None]
@@ -46,6 +48,10 @@ MODES = ("topk", "loopless", "unordered")
 ENDS = {"reached": 0, "more": 0, "exhausted": 10, "bounded": 13, "cost range": 31, "out of memory": 40, "timed out": 124}
 MOST_PLANS = 1_000_000_000
 PIECE, SHORT, LONGEST, LONGEST_FOOT = 1 << 16, 1 << 12, 1 << 28, 60
+# Where blocks have more characters than this, it is worth a look what they begin alike with.
+LONG = 300
+# What Linux calls the size of a pipe (Python names it since 3.10), and the greatest that everybody may ask for.
+PIPE_SIZE, PIPE = 1031, 1 << 20
 REFUSALS = {11: r"bad plan \d+: .+", 14: r"plans miss a plan of cost \d+", 20: r"line \d+: wanted .+|plans line \d+|cert line \d+",
             21: r"usage: (?s:.*)", 22: r"(file|plans|cert) too long", 23: r"(file|plans|cert) unreadable"}
 
@@ -155,25 +161,25 @@ class Plan:
     ; cost = 2 (unit cost)
     """
 
-    __slots__ = ("number", "cost", "unit", "_length", "_operators", "_names")
+    __slots__ = ("number", "cost", "unit", "_length", "_operators", "_names", "_shared")
 
     def __init__(self, operators: Iterable[int], names: Iterable[str], cost: int, number: int = 1, unit: bool = True):
         self.number, self.cost, self.unit = number, cost, unit
         self._operators: Union[str, Tuple[int, ...]] = tuple(operators)
         self._names: Union[str, Tuple[str, ...]] = tuple(names)
-        self._length = len(self._operators)
 
     @property
     def operators(self) -> Tuple[int, ...]:
-        if type(self._operators) is str:
-            self._operators = _operators_of(self._operators)
-        return self._operators
+        operators = self._operators
+        if type(operators) is str:
+            self._operators = operators = self._shared.operators_of(operators) if self._shared else _operators_of(operators)
+        return operators
 
     @property
     def names(self) -> Tuple[str, ...]:
         names = self._names
         if type(names) is str:
-            self._names = names = _names_of(names, self._length)
+            self._names = names = self._shared.names_of(names, self._length) if self._shared else _names_of(names, self._length)
         return names
 
     def block(self, number: Optional[int] = None) -> bytes:
@@ -192,6 +198,17 @@ class Plan:
         return "Plan(%r, %r, %d, number=%d%s)" % (self.operators, self.names, self.cost, self.number, "" if self.unit else ", unit=False")
 
 
+class _Listed(Plan):
+    """A plan of a list, not split up yet: `_operators` and `_names` are texts, of so many steps as `_length` says, and `_shared` is what
+    they begin with as those of other plans do, if it is known.
+
+    A class of its own, since to call it without words takes a third of the time that `Plan.__new__(Plan)` takes.
+    """
+
+    __slots__ = ()
+    __init__ = object.__init__
+
+
 class Plans(Iterator[Plan]):
     """Plans one by one, as a generator gives them, and then `end`; before, and where the loop was left, `end` is None.
 
@@ -200,33 +217,35 @@ class Plans(Iterator[Plan]):
     ([('a-on', 'b-on'), ('b-on', 'a-on')], End(why='exhausted', plans=2))
     """
 
-    def __init__(self, run: Generator[Plan, None, Optional[End]]):
+    def __init__(self, opened: Opened, number: Optional[int]):
         self._ended: List[Optional[End]] = []
-        self._run = _ending(run, self._ended)
+        self._kept: Optional[Generator[Plan, None, None]] = _blocks(opened, number, self._ended)
+        self._run = weakref.ref(self._kept)
 
     @property
     def end(self) -> Optional[End]:
         return self._ended[0] if self._ended else None
 
     def __iter__(self) -> Iterator[Plan]:
-        yield from self._run
+        # From here on nobody but the loop holds what runs, so it is closed where the loop is left; and no step passes through a second
+        # generator that would close it.
+        run, self._kept = self._run(), None
+        return iter(()) if run is None else run
 
     def __next__(self) -> Plan:
-        return next(self._run)
+        return next(self._run() or iter(()))
 
     def close(self) -> None:
         """Ends the program, where it runs."""
-        self._run.close()
+        run = self._run()
+        if run is not None:
+            run.close()
 
     def __enter__(self) -> Plans:
         return self
 
     def __exit__(self, *_: object) -> None:
         self.close()
-
-
-def _ending(run: Generator[Plan, None, Optional[End]], ended: List[Optional[End]]) -> Generator[Plan, None, None]:
-    ended.append((yield from run))
 
 
 # Reading a list.
@@ -237,6 +256,9 @@ END_SHAPES = {0: r"; (reached|more) \d+", 10: r"; exhausted \d+", 13: r"; bounde
 FRONT = re.compile(rb"; plan \d{1,20}\r?\n; ops([ \d]*)(?:\r?\n|\r?\Z)")
 # What stands before the cost of a block.
 FOOT = b"\n; cost = "
+# How a list is read: a call for the bytes that come next, at most so many, b"" at the end, and one for the end of the list, by what is left
+# behind the last block and by the number that a next one would have, where it is known.
+Opened = ContextManager[Tuple[Callable[[int], bytes], Callable[[bytes, Optional[int]], Optional[End]]]]
 
 
 def _plan(lines: List[str], foot: str, number: Optional[int]) -> Plan:
@@ -250,42 +272,92 @@ def _plan(lines: List[str], foot: str, number: Optional[int]) -> Plan:
     length = lines[3].count("\n") + 1 if len(lines) == 4 else 0
     if not cost or len(lines) < 3 or lines[2][:5] != "; ops" or lines[2].count(" ") != length + 1:
         raise Broken("this is no block of a plan: %s" % _shown("\n".join([*lines[1:], "; cost = " + foot]).encode("utf-8", "surrogateescape")))
-    plan = Plan.__new__(Plan)
+    plan, operators = _Listed(), lines[2]
     plan.cost, plan.unit = cost
     plan.number = number if number and lines[1] == "; plan %d" % number else _number(lines[1], number)
-    plan._length, plan._operators, plan._names = length, lines[2], lines[3] if length else ()
+    plan._operators = operators[6:] if operators[:6] == "; ops " else () if operators == "; ops" else operators
+    plan._names, plan._length, plan._shared = lines[3] if length else (), length, None
     return plan
 
 
-class _Numbers(Dict[str, int]):
-    """Numbers by their digits, each read once, since the operators of a task are few; at most 65,536 are kept."""
+# Numbers by their digits, each read once, since the operators of a task are few; at most 65,536 are kept.
+NUMBERS: Dict[str, int] = {}
 
-    def __missing__(self, digits: str) -> int:
+
+def _number_of(digits: str) -> int:
+    number = NUMBERS.get(digits)
+    if number is None:
         if not (digits.isdigit() and digits.isascii()):
             raise Broken("these are no operators of a plan: %s" % _shown(digits.encode("utf-8", "surrogateescape")))
-        if len(self) == 1 << 16:
-            self.clear()
-        number = self[digits] = int(digits)
-        return number
+        if len(NUMBERS) == 1 << 16:
+            NUMBERS.clear()
+        number = NUMBERS[digits] = int(digits)
+    return number
 
 
-NUMBERS = _Numbers()
-
-
-def _operators_of(line: str) -> Tuple[int, ...]:
-    """The numbers of a line, each after one space."""
-    words = line.split(" ")
-    if words[1] != "ops":
-        raise Broken("these are no operators of a plan: %s" % _shown(line.encode("utf-8", "surrogateescape")))
-    return tuple(map(NUMBERS.__getitem__, words[2:]))
+def _operators_of(text: str) -> Tuple[int, ...]:
+    """The numbers of a text, with one space between two."""
+    words = text.split(" ")
+    try:
+        # (which is quicker than a loop over the words; of one word it would make no tuple)
+        return itemgetter(*words)(NUMBERS) if len(words) > 1 else (NUMBERS[text],)
+    except KeyError:
+        # (a line of something else is shown whole)
+        return tuple(map(_number_of, [text] if text[:1] == ";" else words))
 
 
 def _names_of(steps: str, length: int) -> Tuple[str, ...]:
     """The names of so many lines, each in brackets."""
-    names = tuple(steps[1:-1].split(")\n("))
-    if len(names) != length or steps[:1] != "(" or steps[-1:] != ")" or len(steps) < 2:
+    bare = steps.removeprefix("(").removesuffix(")")
+    names = bare.split(")\n(")
+    if len(names) != length or len(bare) != len(steps) - 2:
         raise Broken("these are no steps of a plan: %s" % _shown(steps.encode("utf-8", "surrogateescape")))
-    return names
+    return tuple(names)
+
+
+class _Shared:
+    """What plans that came at once begin alike with: plans that follow one another mostly have the same first steps. It is split up once
+    for all of them, when it is first asked for.
+
+    `operators` is the text up to a space, and `steps` that up to a line's end, so neither is all that a plan has.
+    """
+
+    __slots__ = ("operators", "steps", "spaces", "lines", "_numbers", "_names")
+
+    def __init__(self, operators: str, steps: str):
+        self.operators, self.steps, self.spaces, self.lines = operators, steps, operators.count(" "), steps.count("\n")
+        self._numbers: Tuple[int, ...] = ()
+        self._names: Tuple[str, ...] = ()
+
+    def operators_of(self, text: str) -> Tuple[int, ...]:
+        self._numbers = self._numbers or _operators_of(self.operators[:-1])
+        return self._numbers + _operators_of(text[len(self.operators):])
+
+    def names_of(self, steps: str, length: int) -> Tuple[str, ...]:
+        try:
+            self._names = self._names or _names_of(self.steps[:-1], self.lines)
+            return self._names + _names_of(steps[len(self.steps):], length - self.lines)
+        except Broken:
+            return _names_of(steps, length)  # (which shows the plan's first steps)
+
+
+def _shared(first: str, last: str) -> Optional[_Shared]:
+    """What two blocks begin alike with, where that is a quarter of the operators or more."""
+    (operators, _, steps), (others, _, other_steps) = (block.partition("\n; ops ")[2].partition("\n") for block in (first, last))
+    shared = _Shared(_alike(operators, others, " "), _alike(steps, other_steps, "\n"))
+    return shared if shared.lines and 4 * len(shared.operators) > len(operators) else None
+
+
+def _alike(one: str, other: str, mark: str) -> str:
+    """What two texts begin alike with, up to the last mark there, by halves: to compare parts is quicker than to go by characters."""
+    least, most = 0, min(len(one), len(other))
+    while least < most:
+        middle = (least + most + 1) // 2
+        if one[least:middle] == other[least:middle]:
+            least = middle
+        else:
+            most = middle - 1
+    return one[:one.rfind(mark, 0, least) + 1]
 
 
 @lru_cache(maxsize=256)
@@ -317,27 +389,75 @@ def _look(held: bytes) -> None:
         raise Broken("this block of a plan has too many lines: %s" % _shown(held))
 
 
-def _blocks(read: Callable[[int], bytes], number: Optional[int]) -> Generator[Plan, None, Tuple[bytes, Optional[int]]]:
-    """The plans of a text; at last what is left of it, and the number that a next one would have. `read` gives b"" at the end."""
+def _blocks(opened: Opened, number: Optional[int], ended: List[Optional[End]]) -> Generator[Plan, None, None]:
+    """The plans of a list, the first of this number, where it is known; at last what ends the list is put into `ended`.
+
+    Nearly every block has the next number and the cost of the one before, so what stands around its operators and steps is known before it
+    is looked at: such a block is split up here, since for a short one each call of a function of ours takes as long as a search in its text.
+    `_plan` has all others, and says what is wrong with a block.
+    """
+    number, foot, cost = number or 0, "", None
+    with opened as (read, end):
+        left = b""
+        for text, left in _texts(read):
+            # Each part tells the cost of the block before, and then has the next block; `body` is a block's operators and steps.
+            block, *parts = ("\n" + text).split("\n; cost = ")
+            body = _behind(f"\n; plan {number}\n; ops ", block)
+            shared = _shared(block, parts[-2]) if len(parts) > 4 and len(text) > LONG * len(parts) else None
+            for part in parts:
+                following = part.removeprefix(f"{foot}\n; plan {number + 1}\n; ops ")
+                if following == part:
+                    following, told = "", part.partition("\n")[0]
+                    if told != foot:
+                        foot, cost = told, _cost(told)
+                        following = _behind(f"{foot}\n; plan {number + 1}\n; ops ", part)
+                operators, _, steps = body.partition("\n")
+                if shared and not (operators.startswith(shared.operators) and steps.startswith(shared.steps)):
+                    shared = None
+                if shared:
+                    lines = shared.lines + steps.count("\n", len(shared.steps))
+                    spaces = shared.spaces + operators.count(" ", len(shared.operators))
+                else:
+                    lines, spaces = steps.count("\n"), operators.count(" ")
+                if cost and steps and lines == spaces:
+                    plan = _Listed()
+                    plan.number = number
+                    plan.cost, plan.unit = cost
+                    plan._operators = operators
+                    plan._names = steps
+                    plan._length = lines + 1
+                    plan._shared = shared
+                else:
+                    plan = _plan(block.split("\n", 3), foot, number or None)
+                    number = plan.number
+                number += 1
+                yield plan
+                block, body = part, following
+        ended.append(end(left, number or None))
+
+
+def _behind(front: str, text: str) -> str:
+    """What stands in a text behind what it begins with; nothing where it doesn't."""
+    return text[len(front):] if text.startswith(front) else ""
+
+
+def _texts(read: Callable[[int], bytes]) -> Iterator[Tuple[str, bytes]]:
+    """The blocks of a list, as many in a text as have come, without the last line's end, and what was read behind them; the last text has
+    none. `read` gives b"" at the end."""
     held, seen, looked = b"", 0, SHORT
     while True:
         stop = _whole(held, seen)
         if stop:
-            lines: List[str] = []
-            for part in ("\n" + held[:stop].decode("utf-8", "surrogateescape")).split("\n; cost = "):
-                block, lines = lines, part.split("\n", 3)
-                if block:
-                    plan = _plan(block, lines[0], number)
-                    number, looked = plan.number + 1, SHORT
-                    yield plan
-            held = held[stop + 1:]
+            text, held, looked = held[:stop].decode("utf-8", "surrogateescape"), held[stop + 1:], SHORT
+            yield text, held
         seen = max(0, len(held) - LONGEST_FOOT)
         if len(held) > looked:
             _look(held)
             looked = 2 * len(held)
         piece = read(PIECE)
         if not piece and (not held or held.endswith(b"\n")):
-            return held, number
+            yield "", held
+            return
         held += piece or b"\n"
 
 
@@ -369,16 +489,20 @@ def read_list(source: Any) -> Plans:
     >>> [plan.cost for plan in read_list(BytesIO(b"; plan 1\\n; ops 0\\n(switch-on)\\n; cost = 1 (unit cost)\\n"))]
     [1]
     """
-    return Plans(_reading(source))
+    return Plans(_reading(source), 1)
 
 
-def _reading(source: Any) -> Generator[Plan, None, Optional[End]]:
+@contextmanager
+def _reading(source: Any) -> Iterator[Any]:
     file = source if hasattr(source, "read") else open(source, "rb")
     try:
-        left, number = yield from _blocks(file.read, 1)
+        yield file.read, _end_of_file
     finally:
         if file is not source:
             file.close()
+
+
+def _end_of_file(left: bytes, number: Optional[int]) -> Optional[End]:
     end = _end_of(left, number)
     if left and not end:
         raise Broken("this is no block of a plan, and no end of a list: %s" % _shown(left))
@@ -436,6 +560,11 @@ class _Run:
         self.process = subprocess.Popen(command, stdin=subprocess.DEVNULL, stdout=subprocess.PIPE, bufsize=0, start_new_session=True)
         self.read = self.process.stdout.read
         self.ends = weakref.finalize(self, _kill, self.process)
+        try:
+            # (the program goes on while the loop is at work, or waits for a processor)
+            fcntl.fcntl(self.process.stdout, PIPE_SIZE, PIPE)
+        except OSError:
+            pass
         self.timer = threading.Timer(seconds, self.stop) if seconds is not None else None
         if self.timer:
             self.timer.daemon = True
@@ -454,6 +583,15 @@ class _Run:
         self.ends()
         self.process.stdout.close()
         self.process.wait()
+
+    def end_of_list(self, left: bytes, number: Optional[int]) -> End:
+        """How the list that it wrote ends, once all its output was read."""
+        status, end = self.status(left, END_SHAPES), _end_of(left, number)
+        if isinstance(status, str):
+            return End(status, (number or 1) - 1)
+        if not end:
+            raise Broken("this is not how the list can end: %s" % _shown(left))
+        return end
 
     def status(self, said: bytes, answers: Dict[int, str]) -> Union[int, str]:
         """How the run ended, once all its output was read: `timed out` or `out of memory`, or a status of `answers`.
@@ -514,21 +652,15 @@ def plans(task: PathLike, k: int, *, mode: Optional[str] = None, search: Optiona
     words += ["--more"] if more else []
     for name, number in (("bound", bound), ("quality", quality)):
         words += ["--" + name, str(number)] if number is not None else []
-    return Plans(_planning(words, after, mutex, (program, seconds, megabytes)))
+    return Plans(_planning(words, after, mutex, (program, seconds, megabytes)), 1 if after is None else None)
 
 
-def _planning(words: List[str], after: Any, mutex: bool, limits: Limits) -> Generator[Plan, None, Optional[End]]:
+@contextmanager
+def _planning(words: List[str], after: Any, mutex: bool, limits: Limits) -> Iterator[Any]:
     with _listed(() if after is None else after) as earlier:
         words = [*words, *([] if after is None else ["--after", earlier]), *(["--mutex"] if mutex else [])]
         with _Run(words, *limits) as run:
-            left, number = yield from _blocks(run.read, None if after is not None else 1)
-            status = run.status(left, END_SHAPES)
-            end = _end_of(left, number)
-            if isinstance(status, str):
-                return End(status, (number or 1) - 1)
-            if not end:
-                raise Broken("this is not how the list can end: %s" % _shown(left))
-            return end
+            yield run.read, run.end_of_list
 
 
 def _said(words: List[str], answers: Dict[int, str], limits: Limits) -> Tuple[int, str]:

@@ -10,6 +10,7 @@ import io
 import itertools
 import json
 import os
+import pickle
 import pty
 import random
 import shutil
@@ -166,6 +167,14 @@ class Hostile(Case):
         with self.assertRaises(ZeroDivisionError), symk.plans("task.sas", 3, program=self.program(ONE, 0, "sleep 60")) as found:
             next(found)
             raise ZeroDivisionError
+        self.assertTrue(self.is_gone())
+
+    def test_closing_in_the_loop_ends_it(self):
+        found, got = symk.plans("task.sas", 3, program=self.program(ONE, 0, "sleep 60")), []
+        for plan in found:
+            found.close()
+            got.append(plan.number)
+        self.assertEqual(got, [1])
         self.assertTrue(self.is_gone())
 
     def test_nothing_runs_before_the_first_plan_is_asked_for(self):
@@ -336,6 +345,58 @@ class Lists(Case):
     def test_a_long_block(self):
         plan = symk.Plan(range(300_000), ("step %d" % step for step in range(300_000)), 300_000)
         self.assertEqual(self.read(plan.block())[0], [plan])
+
+    def alike(self, count):
+        """Plans of 42 steps, whose first forty are the same."""
+        chosen = [[*range(40), number % 7, number] for number in range(1, count + 1)]
+        return [symk.Plan(steps, ["step %d" % step for step in steps], 42, number) for number, steps in enumerate(chosen, 1)]
+
+    def test_plans_are_the_same_however_their_bytes_come(self):
+        draw, plans, steps = random.Random(1), [], []
+        for number in range(1, 401):
+            steps = steps[:draw.choice([0, 1, 30, 40, 45, 48])] + [draw.randrange(99) for _ in range(draw.choice([0, 1, 3, 20]))]
+            cost = len(plans) // 50
+            plans.append(symk.Plan(steps, ["step; %d \u20ac" % step for step in steps], cost, number, draw.random() < 0.9))
+        text, facts = b"".join(plan.block() for plan in plans), [(plan.operators, plan.names, plan.cost, plan.unit, plan.number) for plan in plans]
+        for most in (1, 70, 5000, 1 << 20):
+            source = io.BytesIO(text)
+            source.read = lambda size, read=source.read: read(draw.randint(1, min(size, most)))
+            found = symk.read_list(source)
+            self.assertEqual([(plan.operators, plan.names, plan.cost, plan.unit, plan.number) for plan in found], facts)
+
+    def test_what_is_wrong_with_one_of_many(self):
+        plans = self.alike(60)
+        blocks = [plan.block().decode() for plan in plans]
+        for old, new in (("(step 0)", "step 0)"), ("39)\n", "39\n"), ("(step 3)\n", ""), ("(step 3)\n", "(step 3)\n\n"), (")\n;", "\n;"), ("ops 0 1", "ops 0 x"),
+                         ("ops 0 1", "ops 0  1"), ("ops 0 1", "ops 1"), ("ops 0", "ops0 0"), (" 39 ", " 39 39 "), ("\n(step 0", " \n(step 0"),
+                         ("plan ", "plan 9"), ("42 (unit", "42 (some"), ("; cost", "; cast")):
+            for at in (0, 29, 58):
+                damaged = blocks[:at] + [blocks[at].replace(old, new, 1)] + blocks[at + 1:]
+                found, got = symk.read_list(io.BytesIO("".join(damaged).encode())), []
+                with self.assertRaisesRegex(symk.Broken, "^(this is no (block|first line)|these are no (operators|steps)) ", msg=(old, new, at)):
+                    for plan in found:
+                        got.append((plan.operators, plan.names))
+                self.assertEqual(got, [(plan.operators, plan.names) for plan in plans[:at]])
+        blocks[29] = blocks[29].replace("(step 30)\n", "")
+        with self.assertRaisesRegex(symk.Broken, "no block"):
+            for plan in symk.read_list(io.BytesIO("".join(blocks).encode())):
+                self.assertEqual(plan.cost, 42)
+
+    def test_loops_and_next_take_from_one_list(self):
+        text = "".join(plan.block().decode() for plan in self.alike(9)).encode()
+        found = symk.read_list(io.BytesIO(text))
+        self.assertEqual((next(found).number, [(one.number, other.number) for one, other in zip(found, found)]), (1, [(2, 3), (4, 5), (6, 7), (8, 9)]))
+        found = symk.read_list(io.BytesIO(text))
+        for plan in found:
+            self.assertEqual(next(found).number, plan.number + 1)
+            if plan.number == 5:
+                break
+        self.assertEqual((list(found), next(found, None)), ([], None))
+
+    def test_plans_are_sent_elsewhere(self):
+        text = b"".join(plan.block() for plan in self.alike(9))
+        sent = pickle.loads(pickle.dumps(self.read(text)[0]))
+        self.assertEqual(([plan.names for plan in sent], sent), ([plan.names for plan in self.alike(9)], self.alike(9)))
 
     def test_plans_by_hand(self):
         plans = [symk.Plan((0,), ("switch-on",), 1), symk.Plan((0, 1, 0), ("switch-on", "switch-off", "switch-on"), 3, number=2)]

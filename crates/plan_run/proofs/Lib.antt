@@ -1,7 +1,8 @@
 pub mod Given
 pub mod Going
 pub mod Serving
-pub mod Listed
+mod Listed
+mod Members
 pub mod Ended
 pub mod Reached
 pub mod Costed

@@ -5,6 +5,7 @@ use Rattle.symk_task.specs.declared.parts.TaskParts.{TaskParts}
 use Rattle.task_system.specs.System.{System, IsPlanOf}
 use Rattle.task_system.specs.Computed.{system_of}
 use Rattle.lazy_plans.specs.Rest.{Rest}
+use Rattle.class_plans.specs.Members.{HasEach}
 
 module _ {I : Type 0} (system : I → System) (mode : I → Mode) (most : I → Option ℕ) (pends : I → List ℕ → Type 0) (lawful : I → Type 0) where
   -- It is lawful, gives plans of the task in a mode, and has this greatest cost, or none.
@@ -23,3 +24,12 @@ module _ {I : Type 0} (system : I → System) (mode : I → Mode) (most : I → 
   pub record OwesRest (task : TaskParts) (wanted : Mode) (limit : Option ℕ) (earlier : List (List ℕ)) (engine : I) : Type 0 where
     pub serves : Serves task wanted limit engine
     pub rest : Rest (system_of task) wanted earlier (pends engine)
+
+-- What one plan of each class of rearrangements asks of the engine below it.
+module _ {I : Type 0} (system : I → System) (most : I → Option ℕ) (pends : I → List ℕ → Type 0) (lawful : I → Type 0) where
+  -- It is lawful, its plans are the task's, it has this greatest cost, or none, and of each class a plan pends.
+  pub record KeepsEach (task : TaskParts) (limit : Option ℕ) (engine : I) : Type 0 where
+    pub holds : lawful engine
+    pub of_task : system engine ≡ system_of task
+    pub limited : most engine ≡ limit
+    pub each : HasEach (system engine) (pends engine)

@@ -1,15 +1,17 @@
 //! Engines that owe all plans of a task, over a space of it.
 
 ghost use Rattle.std.specs.Prelude.{◌≡◌, IsFalse, IfOk, OnOk};
-ghost use Rattle.symk_task.specs.declared.parts.Mode.TheVariants.{TopK, Loopless};
+ghost use Rattle.symk_task.specs.declared.parts.Mode.TheVariants.{TopK, Unordered, Loopless};
 ghost use Rattle.task_system.specs.Computed.{system_of};
 ghost use Rattle.space_api.specs.View.{View};
 ghost use Rattle.reconstruct.specs.Engine.{IsReadyFor};
-ghost use Rattle.plan_run.specs.Engines.{OwesAll};
+ghost use Rattle.plan_run.specs.Engines.{OwesAll, KeepsEach};
 
 use crate::choice::Patient;
 use crate::options::{Direction, Search};
+use class_plans::{Classes, LazyMembers};
 use loopless::LooplessPlans;
+use member_plans::MemberPlans;
 use prefix_plans::PrefixPlans;
 use reconstruct::TopPlans;
 use selectors::LazyPlans;
@@ -103,6 +105,55 @@ pub fn prefix_plans<S: Space + Drop>(
             Some(most) => PrefixPlans::within_most(alloc, space, most, kept),
         },
     }
+}
+
+/// Plans of the task, of each class of rearrangements one at least, in the same way.
+fn member_plans<'a, S: Space + Drop>(
+    alloc: Global,
+    task: &'a Task,
+    search: Search,
+    space: S,
+    limit: Option<u64>,
+) -> Result<MemberPlans<'a, S>, Memory>
+    requires task { (S.view space).task ≡ task.now }
+    requires system { (S.view space).system ≡ system_of task.now }
+    requires none { (a : S.Set) → IsFalse ((S.view space).valid a) }
+    ensures { IfOk result (KeepsEach ⟦<MemberPlans<'a, S> as LazyMembers>⟧.system
+        ⟦<MemberPlans<'a, S> as LazyMembers>⟧.most ⟦<MemberPlans<'a, S> as LazyMembers>⟧.pends
+        ⟦<MemberPlans<'a, S> as LazyMembers>⟧.lawful task.now limit) }
+{
+    let mut space = space;
+    let within = kept_to(alloc, task, is_cut(search), &mut space)?;
+    match within {
+        None => match limit {
+            None => MemberPlans::new(alloc, task, space),
+            Some(most) => MemberPlans::within(alloc, task, space, most),
+        },
+        Some(kept) => match limit {
+            None => MemberPlans::new_within(alloc, task, space, kept),
+            Some(most) => MemberPlans::within_most(alloc, task, space, most, kept),
+        },
+    }
+}
+
+/// One plan of each class of rearrangements of the task, in the same way.
+pub fn class_plans<'a, S: Space + Drop>(
+    alloc: Global,
+    task: &'a Task,
+    search: Search,
+    space: S,
+    limit: Option<u64>,
+) -> Result<Classes<MemberPlans<'a, S>>, Memory>
+    requires task { (S.view space).task ≡ task.now }
+    requires system { (S.view space).system ≡ system_of task.now }
+    requires none { (a : S.Set) → IsFalse ((S.view space).valid a) }
+    ensures { IfOk result (OwesAll ⟦<Classes<MemberPlans<'a, S>> as LazyPlans>⟧.system
+        ⟦<Classes<MemberPlans<'a, S>> as LazyPlans>⟧.mode ⟦<Classes<MemberPlans<'a, S>> as LazyPlans>⟧.most
+        ⟦<Classes<MemberPlans<'a, S>> as LazyPlans>⟧.pends ⟦<Classes<MemberPlans<'a, S>> as LazyPlans>⟧.lawful
+        task.now Unordered limit) }
+{
+    let members = member_plans(alloc, task, search, space, limit)?;
+    Ok(Classes::new(alloc, members))
 }
 
 /// All loopless plans of the task, in the same way. They are searched for backward, whatever the direction.

@@ -18,6 +18,9 @@ pub(crate) trait Keyed {
 
     fn key(&self) -> Option<u128>
         ensures { result ≡ key_of self.now };
+
+    /// What its states cost to the goal. Of those with one key the greatest is nearest to the initial state.
+    fn cost(&self) -> u64;
 }
 
 impl<T: Copy> Keyed for Option<Waiting<T>> {
@@ -27,6 +30,13 @@ impl<T: Copy> Keyed for Option<Waiting<T>> {
         match self {
             Some(waiting) => Some(waiting.key),
             None => None,
+        }
+    }
+
+    fn cost(&self) -> u64 {
+        match self {
+            Some(waiting) => waiting.cost,
+            None => 0,
         }
     }
 }
@@ -40,6 +50,10 @@ impl<T: Copy> Keyed for Ranked<T> {
             None => None,
         }
     }
+
+    fn cost(&self) -> u64 {
+        self.cost
+    }
 }
 
 /// The key of the item of this index. None where it has none, or there is no such item.
@@ -50,6 +64,14 @@ pub(crate) fn key_at<K: Keyed>(items: &[K], index: usize) -> Option<u128>
         return None;
     }
     items[index].key()
+}
+
+/// The cost of the item of this index, or 0 where there is no such item.
+pub(crate) fn cost_at<K: Keyed>(items: &[K], index: usize) -> u64 {
+    if index >= items.len() {
+        return 0;
+    }
+    items[index].cost()
 }
 
 /// Whether this is the key.

@@ -22,7 +22,7 @@ enum Told {
     Later(u128),
 }
 
-ghost use Rattle.std.specs.Prelude.{◌≡◌, ◌+◌, ◌^◌, ◌<◌, ◌≤◌, ℕ, min, IfOk, OnErr};
+ghost use Rattle.std.specs.Prelude.{◌≡◌, ◌+◌, ◌^◌, ◌<◌, ◌≤◌, ℕ, min, IfOk, IfSome, OnErr};
 ghost use Rattle.task_system.specs.System.{State};
 ghost use Rattle.space_api.specs.View.{View, Valid, Has, Meets};
 ghost use Rattle.space_api.specs.Frames.{Kept, NoMore, Gives, Stays};
@@ -36,7 +36,15 @@ use crate::parts::Waiting;
 use crate::rings::Rings;
 use cost_layers::Layers;
 use least_costs::LeastCosts;
-use space_api::{Space, SpaceFault};
+use space_api::{Space, SpaceFault, meets};
+
+/// What a key leaves beyond a cost, where 64 bits hold it.
+fn rest_of(key: u128, cost: u64) -> Option<u64>
+    ensures { IfSome result (λ c. cost + c ≡ key) }
+{
+    let rest = key.checked_sub(cost as u128)?;
+    u64::try_from(rest).ok()
+}
 
 /// The bound below which the search ahead has each state.
 pub fn bound_ahead<T: Copy>(ahead: &LeastCosts<T>) -> u128
@@ -48,7 +56,60 @@ pub fn bound_ahead<T: Copy>(ahead: &LeastCosts<T>) -> u128
     }
 }
 
-/// What the rings tell of a set whose states cost so much to the goal, and which waits under this key.
+/// The cost of the layer that lies between the two, if that has a state of the set.
+fn ring_between<S: Space>(
+    space: &mut S,
+    layers: &Layers<S::Set>,
+    cost: u64,
+    key: u128,
+    set: S::Set,
+) -> Result<Option<u64>, SpaceFault>
+    requires held { Held (S.view space.old) layers.now }
+    requires set { Valid (S.view space.old) set }
+    ensures stays { Stays (S.view space.old) (S.view space.new) }
+    ensures ok { IfOk result (λ o. IfSome o (λ c. (cost + c ≤ key)
+        × IsLayerMeeting (S.view space.old) layers.now set c)) }
+{
+    if let Some(ring) = rest_of(key, cost)
+        && let Some(whole) = layers.layer(ring)
+        && meets(space, whole, set)?
+    {
+        return Ok(Some(ring));
+    }
+    Ok(None)
+}
+
+/// What the rings tell of a set whose states cost so much to the goal, and which waits under this key, by the first ring that
+/// has one of them.
+fn tell_by_rings<S: Space>(
+    space: &mut S,
+    ahead: &LeastCosts<S::Set>,
+    rings: &Rings<S::Set>,
+    cost: u64,
+    key: u128,
+    set: S::Set,
+) -> Result<Told, SpaceFault>
+    requires ahead { IsAhead (S.view space.old) ahead.now }
+    requires rings { AreAllRings (S.view space.old) ahead.now rings.now }
+    requires set { Valid (S.view space.old) set }
+    requires key { IsKeyOf (S.view space.old).system (Has (S.view space.old) set) cost key }
+    requires low { key < cost + bound_of ahead.now }
+    ensures stays { Stays (S.view space.old) (S.view space.new) }
+    ensures ok { IfOk result (Tells (S.view space.old) ahead.now set cost key) }
+{
+    let cost = cost as u128;
+    match rings.first(space, set)? {
+        Some(ring) if cost + ring as u128 <= key => Ok(Told::Ring(ring)),
+        Some(ring) => Ok(Told::Later(cost + ring as u128)),
+        None => {
+            let bound = bound_ahead(ahead);
+            Ok(Told::Later(cost + bound))
+        }
+    }
+}
+
+/// What the rings tell of a set whose states cost so much to the goal, and which waits under this key. Mostly the ring that
+/// lies between the two has one of them, and no other is looked at.
 fn tell<S: Space>(
     space: &mut S,
     ahead: &LeastCosts<S::Set>,
@@ -64,15 +125,13 @@ fn tell<S: Space>(
     ensures stays { Stays (S.view space.old) (S.view space.new) }
     ensures ok { IfOk result (Tells (S.view space.old) ahead.now set cost key) }
 {
-    let cost = cost as u128;
     let bound = bound_ahead(ahead);
-    if cost + bound <= key {
+    if cost as u128 + bound <= key {
         return Ok(Told::Whole);
     }
-    match rings.first(space, set)? {
-        Some(ring) if cost + ring as u128 <= key => Ok(Told::Ring(ring)),
-        Some(ring) => Ok(Told::Later(cost + ring as u128)),
-        None => Ok(Told::Later(cost + bound)),
+    match ring_between(space, ahead.layers(), cost, key, set)? {
+        Some(ring) => Ok(Told::Ring(ring)),
+        None => tell_by_rings(space, ahead, rings, cost, key, set),
     }
 }
 

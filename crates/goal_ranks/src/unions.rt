@@ -23,13 +23,17 @@ ghost use Rattle.goal_ranks.specs.Unions.{AreUnions, UnionSet, SplitsAt};
 
 use space_api::{Space, SpaceFault, meets};
 
-/// The place halfway.
-fn middle(span: Span) -> usize
+/// The place to test next of so many: the last one first, which has the states of all, and then the one halfway.
+fn place_in(span: Span, all: usize) -> usize
     requires { span.low < span.high }
     ensures low { span.low ≤ result }
     ensures high { result < span.high }
 {
-    span.low + (span.high - span.low) / 2
+    if span.high == all {
+        span.high - 1
+    } else {
+        span.low + (span.high - span.low) / 2
+    }
 }
 
 /// The half where the first may be, by what the test of this place between them told.
@@ -51,8 +55,8 @@ fn half(span: Span, place: usize, met: bool) -> Span
     }
 }
 
-/// The place of the first union that has a state of the set, or how many there are where none has. It tests one of them
-/// for each time that their number halves.
+/// The place of the first union that has a state of the set, or how many there are where none has. It tests the last one,
+/// and if that has a state, one more for each time that their number halves.
 pub(crate) fn first_union<S: Space>(
     space: &mut S,
     unions: &[Union<S::Set>],
@@ -68,7 +72,7 @@ pub(crate) fn first_union<S: Space>(
         high: unions.len(),
     };
     'halves: while span.low < span.high {
-        let place = middle(span);
+        let place = place_in(span, unions.len());
         let union = unions[place];
         let met = meets(space, union.states, set)?;
         span = half(span, place, met);

@@ -1,19 +1,16 @@
-use Rattle.std.proofs.Common.{◌<◌, List, length, not, refl, sym, ◌∙◌, ap, subst, arith}
-use Rattle.std.proofs.lemmas.Option.{slice_get_read}
-use Rattle.goal_ranks.proofs.Slotting.{slot_free}
+use Rattle.std.proofs.Common.{◌≡◌, ℕ, List, length, Some, None, slice_get, refl, subst, arith}
+use Rattle.goal_ranks.specs.Slots.{Fills}
+use Rattle.goal_ranks.proofs.Slotting.{slot_push}
 use Rattle.goal_ranks.proofs.Nearing.{put_work}
 use Rattle.goal_ranks.proofs.slots.fill.Goals as goal
 
-pub returns-then-is_none-clause-ok : goal.returns-then-is_none-clause-ok
-returns-then-is_none-clause-ok g c =
-    let in_old : c.slots.i < length c.args.slots.now.items = grind (arith, c.slots-test.true, c.len-i-end.ensures) in
-    let lt : c.slots.i < length c.slots.slots.items = subst (λ (xs : List _). c.slots.i < length xs) (sym c.slots.invariant) in_old in
-    let get = slice_get_read c.slots.slots.items (length c.slots.slots.items) c.slots.i c.index.result.now refl lt c.index.ensures in
-    slot_free c.args.slots.now.items c.slots.slots.items _ c.slots.i c.index.result.now c.args.waiting c.slots.invariant get (c.is_none.ensures ∙ ap not c.if-is_none.true) refl
+pub returns-clause-work : goal.returns-clause-work
+returns-clause-work g c =
+    let get = subst (λ (xs : List _). slice_get xs c.in-Some.index ≡ Some None) c.deref.ensures.value (c.is_free.ensures c.if-is_free.true) in
+    put_work c.args.slots.now.items c.args.slots.now.items c.in-Some.index None c.args.waiting refl get refl
 
-pub returns-then-is_none-clause-work : goal.returns-then-is_none-clause-work
-returns-then-is_none-clause-work g c =
-    let in_old : c.slots.i < length c.args.slots.now.items = grind (arith, c.slots-test.true, c.len-i-end.ensures) in
-    let lt : c.slots.i < length c.slots.slots.items = subst (λ (xs : List _). c.slots.i < length xs) (sym c.slots.invariant) in_old in
-    let get = slice_get_read c.slots.slots.items (length c.slots.slots.items) c.slots.i c.index.result.now refl lt c.index.ensures in
-    put_work c.args.slots.now.items c.slots.slots.items c.slots.i c.index.result.now c.args.waiting c.slots.invariant get (c.is_none.ensures ∙ ap not c.if-is_none.true)
+pub returns-2-clause-ok : goal.returns-2-clause-ok
+returns-2-clause-ok g c =
+    let old = c.args.slots.now.items in
+    let last : length old ≡ c.len-last.result = grind (arith, c.len-last.ensures) in
+    subst (λ (n : ℕ). Fills old c.push.new.self.items c.args.waiting n) last (slot_push old c.push.new.self.items c.args.waiting c.in_ok-push.ensures.items)

@@ -1,41 +1,36 @@
-use Rattle.std.proofs.Common.{ℕ, ◌+◌, ◌<◌, ◌≤◌, sym, subst, arith}
+use Rattle.std.proofs.Common.{sym, ◌∙◌}
 use Rattle.space_api.specs.View.{Has}
-use Rattle.cost_search.specs.Search.{layers_of}
-use Rattle.cost_search.specs.Meeting.{IsLeastAt}
-use Rattle.least_costs.specs.Least.{search_of}
-use Rattle.goal_ranks.specs.Ahead.{bound_of, IsKeyOf}
-use Rattle.goal_ranks.specs.Unions.{known_of}
-use Rattle.goal_ranks.proofs.Keys.{none_more, later_ring, later_bound}
+use Rattle.space_api.proofs.Keeping.{stays_trans}
+use Rattle.goal_ranks.proofs.Keys.{ahead_kept, key_kept, told_kept}
+use Rattle.goal_ranks.proofs.Uniting.{all_kept}
 use Rattle.goal_ranks.proofs.telling.tell.Goals as goal
 
-pub returns-in-Some-clause-ok : goal.returns-in-Some-clause-ok
-returns-in-Some-clause-ok g c =
-    let v = g.S.Space.view c.args.space.now in
-    let f = c.args.ahead.now in
-    let l = layers_of (search_of f) in
-    let least = c.in_ok-ring.ensures.least l c.requires.rings.rings (none_more v f c.requires.ahead (known_of c.args.rings.now) c.requires.rings.all) in
-    let m = subst (IsLeastAt v l c.args.set) c.in-Some.is least in
-    (c.if-cost-ring.true, m.0)
+pub tell_by_rings-requires-clause-ahead : goal.tell_by_rings-requires-clause-ahead
+tell_by_rings-requires-clause-ahead g c =
+    let view = g.S.Space.view in
+    ahead_kept (view c.args.space.now) (view c.ring_between.new.space) c.args.ahead.now c.ring_between.ensures.stays.kept c.requires.ahead
 
-pub returns-in-Some-2-clause-ok : goal.returns-in-Some-2-clause-ok
-returns-in-Some-2-clause-ok g c =
-    let v = g.S.Space.view c.args.space.now in
-    let f = c.args.ahead.now in
-    let l = layers_of (search_of f) in
-    let r = c.args.rings.now in
-    let least = c.in_ok-ring.ensures.least l c.requires.rings.rings (none_more v f c.requires.ahead (known_of r) c.requires.rings.all) in
-    let m = subst (IsLeastAt v l c.args.set) c.in-Some.is least in
-    later_ring v f c.requires.ahead c.args.set c.args.cost c.args.key 0 c.in-Some.ring c.requires.key (omega arith) m.0 m.1 (omega (arith, c.if-cost-ring.false))
+pub tell_by_rings-requires-clause-rings : goal.tell_by_rings-requires-clause-rings
+tell_by_rings-requires-clause-rings g c =
+    let view = g.S.Space.view in
+    all_kept (view c.args.space.now) (view c.ring_between.new.space) c.args.ahead.now c.args.rings.now c.ring_between.ensures.stays.kept c.requires.ahead c.requires.rings
+
+pub tell_by_rings-requires-clause-set : goal.tell_by_rings-requires-clause-set
+tell_by_rings-requires-clause-set g c = c.ring_between.ensures.stays.kept.valid c.args.set c.requires.set
+
+pub tell_by_rings-requires-clause-key : goal.tell_by_rings-requires-clause-key
+tell_by_rings-requires-clause-key g c =
+    let view = g.S.Space.view in
+    let v = view c.args.space.now in
+    let u = view c.ring_between.new.space in
+    let set = c.args.set in
+    let kept = c.ring_between.ensures.stays.kept in
+    key_kept v u (Has v set) (Has u set) c.args.cost c.args.key kept.system (λ s h. sym (kept.same set c.requires.set s) ∙ h) c.requires.key
+
+pub returns-in-None-clause-stays : goal.returns-in-None-clause-stays
+returns-in-None-clause-stays g c = stays_trans c.ring_between.ensures.stays c.tell_by_rings.ensures.stays
 
 pub returns-in-None-clause-ok : goal.returns-in-None-clause-ok
 returns-in-None-clause-ok g c =
-    let v = g.S.Space.view c.args.space.now in
-    let f = c.args.ahead.now in
-    let l = layers_of (search_of f) in
-    let r = c.args.rings.now in
-    let x = c.args.cost in
-    let least = c.in_ok-ring.ensures.least l c.requires.rings.rings (none_more v f c.requires.ahead (known_of r) c.requires.rings.all) in
-    let m = subst (IsLeastAt v l c.args.set) c.in-None.is least in
-    let lt : c.args.key < x + bound_of f = omega (arith, c.if-cost-bound.false, c.bound_ahead-bound.ensures) in
-    subst (λ (n : ℕ). (c.args.key < x + n) × (x + n ≤ x + bound_of f) × IsKeyOf v.system (Has v c.args.set) x (x + n)) (sym c.bound_ahead-bound.ensures)
-    (later_bound v f c.requires.ahead c.args.set x c.args.key 0 c.requires.key (omega arith) m lt)
+    let view = g.S.Space.view in
+    told_kept (view c.args.space.now) (view c.ring_between.new.space) c.args.ahead.now c.args.set c.args.cost c.args.key c.ring_between.ensures.stays.kept c.requires.ahead c.requires.set c.tell_by_rings.result c.tell_by_rings.ensures.ok

@@ -9,6 +9,7 @@ ghost use Rattle.space_api.specs.Owned.{Trades};
 ghost use Rattle.cost_to_go.specs.Standing.{IsCostToGo, IsOwn, HasUseful, within_of, ranks_of};
 
 use crate::search::CostToGo;
+use crate::spells::Spells;
 use goal_ranks::{GoalRanks, Rings};
 use least_costs::{LeastCosts, Side};
 use space_api::{Space, SpaceFault};
@@ -44,8 +45,7 @@ fn begin<S: Space>(
                 everywhere,
                 next,
                 both: true,
-                ahead_work: 0,
-                rank_work: 0,
+                spells: Spells::new(),
             })
         }
         Err(fault) => {

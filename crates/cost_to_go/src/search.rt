@@ -1,5 +1,6 @@
 //! A search from both ends, and how it is given back.
 
+use crate::spells::Spells;
 use goal_ranks::{GoalRanks, Rings};
 use least_costs::LeastCosts;
 
@@ -16,10 +17,8 @@ pub struct CostToGo<T: Copy> {
     pub(crate) next: Option<u128>,
     /// Both sides go on, by turns.
     pub(crate) both: bool,
-    /// How much work the search ahead was.
-    pub(crate) ahead_work: u64,
-    /// How much work the ranks were.
-    pub(crate) rank_work: u64,
+    /// Whose turn it is, while both go on.
+    pub(crate) spells: Spells,
 }
 
 ghost use Rattle.space_api.specs.Owned.{Trades};

@@ -7,14 +7,15 @@ ghost use Rattle.least_costs.specs.Least.{next_of};
 ghost use Rattle.cost_to_go.specs.Standing.{IsCostToGo, ahead_in};
 
 use crate::search::CostToGo;
+use crate::spells::Reach;
 use goal_ranks::{Turn, bound_ahead};
 use least_costs::Step;
 use space_api::{Space, SpaceFault};
 
-/// How much work a side was in all, with a step more, by what the space counts before and after it. Where nothing is counted a
-/// step is one.
-pub(crate) fn with_step(so_far: u64, before: u64, now: u64) -> u64 {
-    so_far.saturating_add(now.wrapping_sub(before).max(1))
+/// How much work a step was: by what the space counts before and after it, and one for each cost of operators that the step
+/// looked at. A step ahead looks at each of them, also where it settles nothing.
+pub(crate) fn work_of(before: u64, now: u64, looked_at: usize) -> u64 {
+    now.wrapping_sub(before).saturating_add(looked_at as u64)
 }
 
 impl<T: Copy> CostToGo<T> {
@@ -25,7 +26,15 @@ impl<T: Copy> CostToGo<T> {
         if self.ahead.next_cost().is_none() {
             return false;
         }
-        self.both && self.ahead_work < self.rank_work
+        self.both && self.spells.is_ahead()
+    }
+
+    /// How far both sides are.
+    pub(crate) fn reach(&self) -> Reach {
+        Reach {
+            ahead: self.ahead.next_cost().unwrap_or(u64::MAX),
+            back: self.ranks.newest().unwrap_or(0),
+        }
     }
 
     /// Whether no state of the layer that the search ahead settled last has a rank.

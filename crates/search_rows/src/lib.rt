@@ -1,8 +1,8 @@
-//! Worked rows of the searches ahead and back, and of their layers.
+//! Worked rows of the searches ahead and back, of their layers, and of the ranks by both.
 //!
 //! The tests settle costs one after the other on small tasks, look at the layers, cut them, and refuse each
-//! call in turn. There is no call. It stands on `cost_layers`, `forward_search` and `backward_search`, and for
-//! its tests on `explicit_space`, `bdd_space` and `small_tasks`.
+//! call in turn; and they go on from both ends and look at ranks. There is no call. It stands on `cost_layers`,
+//! `forward_search`, `backward_search` and `cost_to_go`, and for its tests on `single_states`, `explicit_space`, `bdd_space` and `small_tasks`.
 #![tactic(auto)]
 
 #[cfg(test)]
@@ -11,3 +11,5 @@ mod backward;
 mod forward;
 #[cfg(test)]
 mod layers;
+#[cfg(test)]
+mod ranking;

@@ -19,7 +19,7 @@ use Rattle.prefix_tree.specs.declared.entry.Entry.{Entry}
 use Rattle.prefix_ends.specs.Left.{LeadsOn, bound_at}
 use Rattle.prefix_ends.specs.Children.{IsEntry}
 use Rattle.prefix_ends.specs.Leading.{TellsLeading, GoesOnFrom, IsDear}
-use Rattle.prefix_ends.proofs.Ranks.{run_inside, inside_run}
+use Rattle.prefix_ends.proofs.Ranking.{run_inside, inside_run}
 
 -- whether a plan goes on from the prefix that ends in s
 pub decides_on : {Set : Type 0} (v : View Set) (a : Set) (e : List ℕ) (s : State) (b : Bool) → TellsLeading v a → Runs v.system v.system.initial e s → b ≡ v.has a s → Decides b (GoesOnFrom v.system e)

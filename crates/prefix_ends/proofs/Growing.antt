@@ -1,12 +1,12 @@
 -- Entries while the tree grows, and the children of one, operator after operator.
-use Rattle.std.proofs.Common.{◌≡◌, ℕ, zero, suc, ◌+◌, ◌-◌, ◌*◌, ◌<◌, ◌≤◌, ◌^◌, ◌⊎◌, inl, inr, cond, Bool, true, false, IsTrue, List, [], ◌∷◌, ◌++◌, length, refl, sym, ◌∙◌, ap, subst, arith, eq-eqb}
+use Rattle.std.proofs.Common.{◌≡◌, ℕ, ◌+◌, ◌-◌, ◌*◌, ◌<◌, ◌≤◌, ◌^◌, cond, Bool, true, false, IsTrue, List, [], ◌∷◌, ◌++◌, length, refl, sym, ◌∙◌, ap, subst, arith, eq-eqb}
 use Rattle.std.specs.Prelude.{nat_lt, ◌||◌}
 use Rattle.std.specs.Bool.{Decides}
 use Rattle.std.specs.List.{AllByRecursion}
 use Rattle.std.proofs.lemmas.Bool.Decides.{nat_tests}
 use Rattle.std.proofs.lemmas.List.{length-append}
 use Rattle.symk_task.specs.declared.parts.Mode.TheVariants.{TopK}
-use Rattle.task_system.specs.System.{State, Listed, Runs, IsPlan, cost_of}
+use Rattle.task_system.specs.System.{State, Runs, IsPlan, cost_of}
 use Rattle.space_api.specs.View.{View}
 use Rattle.cost_to_go.specs.Standing.{next_key_of, ranks_of}
 use Rattle.cost_to_go.specs.declared.search.CostToGo.{CostToGo}

@@ -1,4 +1,4 @@
-pub mod Ranks
+pub mod Ranking
 pub mod Moving
 pub mod Growing
 pub mod Reaching

@@ -1,15 +1,13 @@
 -- Entries of the queue, and the children of one.
 use Rattle.std.specs.Prelude.{◌≡◌, ℕ, cond, nat_lt, ◌+◌, ◌*◌, ◌-◌, ◌<◌, ◌≤◌, ◌^◌, ◌⊎◌, ◌||◌, IsTrue, List, [], ◌∷◌, ◌++◌, length}
 use Rattle.std.specs.Bool.{Decides}
-use Rattle.std.specs.List.{AllByRecursion}
 use Rattle.symk_task.specs.declared.parts.Mode.TheVariants.{TopK}
-use Rattle.task_system.specs.System.{State, Listed, Runs, IsPlan, cost_of}
+use Rattle.task_system.specs.System.{State, Runs, IsPlan, cost_of}
 use Rattle.space_api.specs.View.{View}
 use Rattle.cost_to_go.specs.Standing.{ranks_of}
 use Rattle.cost_to_go.specs.declared.search.CostToGo.{CostToGo}
-use Rattle.prefix_laws.specs.Queue.{Bounds, Hopeless, ChildrenBelow}
+use Rattle.prefix_laws.specs.Queue.{Bounds, Hopeless}
 use Rattle.prefix_tree.specs.Tree.{path_at}
-use Rattle.prefix_tree.specs.Entries.{prefixes}
 use Rattle.prefix_tree.specs.declared.tree.Node.{Node}
 use Rattle.prefix_tree.specs.declared.entry.Entry.{Entry}
 use Rattle.prefix_ends.specs.Left.{Known, known_of, bound_at, IsRanked}

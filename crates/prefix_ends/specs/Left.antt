@@ -1,5 +1,5 @@
 -- What is left from a state to the goal, as far as ranks back from there tell it.
-use Rattle.std.specs.Prelude.{◌≡◌, ℕ, min, ◌+◌, ◌-◌, ◌<◌, ◌≤◌, ◌^◌, Bool, true, false, IsTrue, IsFalse, List, Option, Some, None}
+use Rattle.std.specs.Prelude.{◌≡◌, ℕ, min, ◌+◌, ◌-◌, ◌≤◌, ◌^◌, Bool, true, false, IsTrue, IsFalse, List, Option, Some, None}
 use Rattle.task_system.specs.System.{State, System, Runs}
 use Rattle.space_api.specs.View.{View}
 use Rattle.cost_to_go.specs.Standing.{HasRank, next_key_of, ranks_of}

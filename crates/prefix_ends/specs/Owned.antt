@@ -1,5 +1,5 @@
 -- The sets of an engine's space before it begins, and how many nodes are held.
-use Rattle.std.specs.Prelude.{◌≡◌, ℕ, ◌+◌, ◌*◌, ◌≤◌, IsFalse}
+use Rattle.std.specs.Prelude.{◌≡◌, ◌+◌, ◌*◌, ◌≤◌, IsFalse}
 use Rattle.task_system.specs.System.{State}
 use Rattle.run_graph.specs.Reached.{Useful}
 use Rattle.space_api.specs.View.{View, Valid, Has}

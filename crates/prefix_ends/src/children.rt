@@ -9,6 +9,7 @@ ghost use Rattle.cost_to_go.specs.Standing.{IsCostToGo};
 ghost use Rattle.prefix_ends.specs.Children.{IsEntry, Added};
 
 use crate::left::Left;
+use crate::ranks::Ranks;
 use crate::reach::reach;
 use cost_to_go::CostToGo;
 use prefix_tree::{Entry, Move, Node, StateGraph, add};
@@ -39,8 +40,42 @@ pub(crate) fn entry_of(cost: u128, left: Left, node: usize, at_goal: bool) -> En
     }
 }
 
-/// Adds the child by this move to the tree and to the children, where a plan may go on so. Want of memory leaves the
-/// children as they were.
+impl Ranks {
+    /// Adds the child by this move to the tree and to the children, where a plan may go on so. Want of memory leaves the
+    /// children as they were.
+    pub fn add_child<S: Space>(
+        &mut self,
+        alloc: Global,
+        space: &S,
+        search: &CostToGo<S::Set>,
+        graph: &StateGraph,
+        tree: &mut Vec<Node>,
+        entry: Entry,
+        step: Move,
+        children: &mut Vec<Entry>,
+    ) -> Result<(), SpaceFault>
+        requires search { IsCostToGo (S.view space.now) search.now }
+        requires graph { IsStateGraph (S.view space.now).system graph.now }
+        requires tree { IsTree (S.view space.now).system TopK (states_of graph.now) tree.old.items }
+        requires entry { IsEntry (S.view space.now) search.now tree.old.items entry }
+        requires step { IsMove (S.view space.now).system (states_of graph.now)
+            (end_at (states_of graph.now) tree.old.items entry.node) step }
+        ensures grows { Grows (S.view space.now).system TopK (states_of graph.now) tree.old.items tree.new.items }
+        ensures added { OnOk result (Added (S.view space.now) search.now tree.new.items
+            (path_at tree.old.items entry.node) step.op children.old.items children.new.items) }
+    {
+        match reach(alloc, space, search, graph, self, tree, entry, step)? {
+            None => Ok(()),
+            Some(to) => {
+                let node = add(tree, entry.node, step.op, step.to)?;
+                children.push(entry_of(to.cost, to.left, node, to.at_goal))?;
+                Ok(())
+            }
+        }
+    }
+}
+
+/// The same, where no ranks are kept.
 pub fn add_child<S: Space>(
     alloc: Global,
     space: &S,
@@ -61,12 +96,5 @@ pub fn add_child<S: Space>(
     ensures added { OnOk result (Added (S.view space.now) search.now tree.new.items
         (path_at tree.old.items entry.node) step.op children.old.items children.new.items) }
 {
-    match reach(alloc, space, search, graph, tree, entry, step)? {
-        None => Ok(()),
-        Some(to) => {
-            let node = add(tree, entry.node, step.op, step.to)?;
-            children.push(entry_of(to.cost, to.left, node, to.at_goal))?;
-            Ok(())
-        }
-    }
+    Ranks::none(alloc).add_child(alloc, space, search, graph, tree, entry, step, children)
 }

@@ -10,6 +10,7 @@ ghost use Rattle.prefix_ends.specs.Standing.{IsBetter};
 
 use crate::children::entry_of;
 use crate::left::{left_after, left_from};
+use crate::ranks::Ranks;
 use cost_to_go::CostToGo;
 use prefix_tree::{Entry, Node, StateGraph, node_at};
 use space_api::Space;
@@ -19,6 +20,7 @@ pub(crate) fn improve<S: Space>(
     space: &S,
     search: &CostToGo<S::Set>,
     graph: &StateGraph,
+    ranks: &mut Ranks,
     tree: &[Node],
     entry: Entry,
 ) -> Option<Entry>
@@ -31,8 +33,9 @@ pub(crate) fn improve<S: Space>(
     let low = left_after(entry.bound.0, entry.cost);
     let here = node_at(tree, entry.node);
     let state = graph.state(here.state);
-    match left_from(space, search, state, entry.cost, entry.ring.0, low) {
+    let (cost, first) = (entry.cost, entry.ring.0);
+    match left_from(space, search, ranks, state, here.state, cost, first, low) {
         None => None,
-        Some(left) => Some(entry_of(entry.cost, left, entry.node, entry.at_goal)),
+        Some(left) => Some(entry_of(cost, left, entry.node, entry.at_goal)),
     }
 }

@@ -7,6 +7,7 @@ ghost use Rattle.cost_to_go.specs.Standing.{IsCostToGo, next_key_of, beyond_of};
 ghost use Rattle.cost_to_go.specs.Telling.{CostsAtLeast};
 ghost use Rattle.prefix_ends.specs.Left.{least_unranked, IsRanked, IsLeft};
 
+use crate::ranks::Ranks;
 use cost_to_go::CostToGo;
 use space_api::Space;
 use symk_task::State;
@@ -39,15 +40,17 @@ fn left_unranked<T: Copy>(search: &CostToGo<T>, cost: u128) -> Option<u128>
     }
 }
 
-/// What is left at least from the state, to which operators lead at this cost, as far as the search knows; None where it
-/// knows that no list leads to the goal.
+/// What is left at least from the state of this number, to which operators lead at this cost, as far as the search knows;
+/// None where it knows that no list leads to the goal.
 ///
 /// The caller knows that no less than `low` is left, and that no rank below `first` has the state; so no other ranks
 /// are looked at.
 pub(crate) fn left_from<S: Space>(
     space: &S,
     search: &CostToGo<S::Set>,
+    ranks: &mut Ranks,
     state: &State,
+    number: usize,
     cost: u128,
     first: usize,
     low: u64,
@@ -58,7 +61,7 @@ pub(crate) fn left_from<S: Space>(
     requires low { CostsAtLeast (S.view space.now).system state.now low }
     ensures { IsLeft (S.view space.now) search.now cost state.now result }
 {
-    if let Some(rank) = search.rank_from(space, state, first, low) {
+    if let Some(rank) = ranks.rank_from(space, search, state, number, first, low) {
         return Some(Left {
             cost: rank.cost as u128,
             ranked: true,

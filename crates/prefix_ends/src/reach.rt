@@ -13,6 +13,7 @@ ghost use Rattle.prefix_ends.specs.Children.{IsEntry};
 ghost use Rattle.prefix_ends.specs.Reach.{IsReach};
 
 use crate::left::{Left, left_after, left_from};
+use crate::ranks::Ranks;
 use cost_to_go::CostToGo;
 use prefix_tree::{Entry, Move, Node, StateGraph};
 use single_states::goal_at;
@@ -52,6 +53,7 @@ pub(crate) fn reach<S: Space>(
     space: &S,
     search: &CostToGo<S::Set>,
     graph: &StateGraph,
+    ranks: &mut Ranks,
     tree: &[Node],
     entry: Entry,
     step: Move,
@@ -67,7 +69,7 @@ pub(crate) fn reach<S: Space>(
     let next = graph.state(step.to);
     let cost = entry.cost + space.cost_of(step.op) as u128;
     let low = left_after(entry.bound.0, cost);
-    match left_from(space, search, next, cost, 0, low) {
+    match left_from(space, search, ranks, next, step.to, cost, 0, low) {
         None => Ok(None),
         Some(left) => {
             let at_goal = goal_after(alloc, space, next, left)?;

@@ -7,6 +7,7 @@ ghost use Rattle.prefix_tree.specs.Entries.{entries_of};
 ghost use Rattle.prefix_ends.specs.Standing.{IsReady, Learned, IsPlanAt, listed_of};
 
 use crate::improving::improve;
+use crate::ranks::Ranks;
 use cost_to_go::CostToGo;
 use lazy_plans::Steps;
 use prefix_tree::{Entry, Node, Queue, StateGraph, operators_to};
@@ -29,8 +30,39 @@ fn one_or_none(alloc: Global, entry: Option<Entry>) -> Result<Vec<Entry>, AllocE
     }
 }
 
-/// A turn that learns more of the first entry's bound, which puts it where it then belongs, or takes it out where no
-/// plan goes on from it. Want of memory leaves the entries.
+impl Ranks {
+    /// A turn that learns more of the first entry's bound, which puts it where it then belongs, or takes it out where no
+    /// plan goes on from it. Want of memory leaves the entries.
+    pub fn learn<S: Space, L: Ledger>(
+        &mut self,
+        alloc: Global,
+        space: &S,
+        search: &CostToGo<S::Set>,
+        graph: &StateGraph,
+        tree: &[Node],
+        queue: &mut Queue,
+        entry: Entry,
+        steps: &mut Steps<L>,
+    ) -> Result<(), AllocError>
+        requires ready { IsReady (S.view space.now) search.now graph.now tree.now (entries_of queue.old) }
+        requires some { 0 < length (entries_of queue.old) }
+        requires first { entry ≡ slice_index_or (entries_of queue.old) 0 entry }
+        ensures ready { IsReady (S.view space.now) search.now graph.now tree.now (entries_of queue.new) }
+        ensures ok { OnOk result (Learned (S.view space.now) search.now tree.now entry (entries_of queue.old)
+            (entries_of queue.new)) }
+        ensures err { OnErr result (entries_of queue.new ≡ entries_of queue.old) }
+        ensures one { OnOk result (steps.new ≡ steps.old + 1) }
+        ensures none { OnErr result (steps.new ≡ steps.old) }
+    {
+        let better = improve(space, search, graph, self, tree, entry);
+        let others = one_or_none(alloc, better)?;
+        queue.make_room(others.len())?;
+        queue.replace(others, steps);
+        Ok(())
+    }
+}
+
+/// The same, where no ranks are kept.
 pub fn learn<S: Space, L: Ledger>(
     alloc: Global,
     space: &S,
@@ -51,11 +83,7 @@ pub fn learn<S: Space, L: Ledger>(
     ensures one { OnOk result (steps.new ≡ steps.old + 1) }
     ensures none { OnErr result (steps.new ≡ steps.old) }
 {
-    let better = improve(space, search, graph, tree, entry);
-    let others = one_or_none(alloc, better)?;
-    queue.make_room(others.len())?;
-    queue.replace(others, steps);
-    Ok(())
+    Ranks::none(alloc).learn(alloc, space, search, graph, tree, queue, entry, steps)
 }
 
 /// The plan that the entry is, if it is one.

@@ -1,6 +1,6 @@
-use Rattle.std.proofs.Common.{◌≡◌, ◌<◌, ◌^◌, ◌∙◌, true, false, Some, None, max, refl, sym, arith}
+use Rattle.std.proofs.Common.{◌≡◌, ◌<◌, ◌^◌, ◌∙◌, true, false, max, refl, sym, arith}
 use Rattle.prefix_ends.specs.declared.left.Left.{Left}
-use Rattle.prefix_ends.proofs.Ranks.{known_some, unranked_by, known_none, nowhere}
+use Rattle.prefix_ends.proofs.Ranking.{known_some, unranked_by, known_none, nowhere}
 use Rattle.prefix_ends.proofs.left.left_from.Goals as goal
 
 pub rank_from-requires-clause-state : goal.rank_from-requires-clause-state

@@ -1,10 +1,9 @@
-use Rattle.std.proofs.Common.{◌≡◌, ◌+◌, ◌<◌, ◌^◌, Some, None, IsTrue, refl, sym, subst, arith}
+use Rattle.std.proofs.Common.{◌+◌, ◌<◌, ◌^◌, Some, None, IsTrue, refl, sym, subst, arith}
 use Rattle.std.specs.Bool.{Decides}
-use Rattle.task_system.specs.System.{State, cost_of}
+use Rattle.task_system.specs.System.{State}
 use Rattle.run_graph.specs.Reached.{ReachedAt}
 use Rattle.single_states.specs.States.{IsReached}
 use Rattle.prefix_tree.specs.StateGraph.{states_of}
-use Rattle.prefix_tree.specs.Tree.{path_at}
 use Rattle.cost_to_go.specs.Telling.{CostsAtLeast}
 use Rattle.prefix_ends.specs.Left.{IsLeft}
 use Rattle.prefix_ends.proofs.Growing.{ends_longer}

@@ -1,10 +1,9 @@
 -- What ranks tell of what is left to the goal.
-use Rattle.std.proofs.Common.{◌≡◌, ℕ, min, max, ◌+◌, ◌-◌, ◌<◌, ◌≤◌, ◌^◌, ◌⊎◌, inl, inr, Bool, true, false, IsTrue, IsFalse, List, [], ◌∷◌, ◌++◌, Option, Some, None, refl, sym, ◌∙◌, subst, arith}
+use Rattle.std.proofs.Common.{◌≡◌, ℕ, min, max, ◌+◌, ◌-◌, ◌<◌, ◌≤◌, ◌^◌, ◌⊎◌, inl, inr, Bool, true, false, IsTrue, List, [], ◌∷◌, ◌++◌, Option, Some, None, refl, sym, ◌∙◌, subst, arith}
 use Rattle.task_system.specs.System.{State, System, Runs, cost_of}
-use Rattle.space_api.specs.View.{View, Has}
+use Rattle.space_api.specs.View.{View}
 use Rattle.space_api.proofs.Runs.{run_more}
-use Rattle.run_graph.specs.Reached.{Useful, ReachedAt, RunsInside, ReachedInside}
-use Rattle.run_graph.specs.declared.Side.TheVariants.{Back}
+use Rattle.run_graph.specs.Reached.{Useful, ReachedAt, RunsInside}
 use Rattle.single_states.specs.States.{IsReached}
 use Rattle.goal_ranks.proofs.Knowing.{rank_least, rank_way}
 use Rattle.cost_to_go.specs.Standing.{IsCostToGo, HasWay, IsOutside, ranks_in, next_key_of, ranks_of, beyond_of}

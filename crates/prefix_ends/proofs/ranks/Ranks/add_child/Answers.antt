@@ -4,7 +4,7 @@ use Rattle.prefix_tree.specs.declared.tree.Node.{Node}
 use Rattle.symk_task.specs.declared.parts.Mode.TheVariants.{TopK}
 use Rattle.prefix_tree.proofs.Going.{next_run}
 use Rattle.prefix_ends.proofs.Growing.{grows_push, room_push, entry_push}
-use Rattle.prefix_ends.proofs.children.add_child.Goals as goal
+use Rattle.prefix_ends.proofs.ranks.Ranks.add_child.Goals as goal
 
 pub entry_of-requires-clause-cost : goal.entry_of-requires-clause-cost
 entry_of-requires-clause-cost g c =

@@ -1,6 +1,6 @@
 use Rattle.prefix_tree.specs.Entries.{entries_of}
 use Rattle.prefix_ends.proofs.Replacing.{learned_perm, learned_ready}
-use Rattle.prefix_ends.proofs.turns.learn.Goals as goal
+use Rattle.prefix_ends.proofs.ranks.Ranks.learn.Goals as goal
 
 pub returns-clause-ready : goal.returns-clause-ready
 returns-clause-ready g c =

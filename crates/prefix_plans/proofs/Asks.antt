@@ -10,14 +10,15 @@ use Rattle.lazy_plans.proofs.Given.{ended_by}
 use Rattle.cost_to_go.specs.Standing.{within_of}
 use Rattle.cost_to_go.specs.declared.search.CostToGo.{CostToGo}
 use Rattle.prefix_laws.specs.Queue.{Right, Pending}
-use Rattle.prefix_plans.specs.declared.places.Places.{Places}
+use Rattle.prefix_tree.specs.declared.state_graph.StateGraph.{StateGraph}
 use Rattle.prefix_tree.specs.declared.tree.Node.{Node}
 use Rattle.prefix_tree.specs.declared.entry.Entry.{Entry}
 use Rattle.prefix_tree.specs.Entries.{prefixes}
-use Rattle.prefix_plans.specs.Standing.{IsReady}
+use Rattle.prefix_ends.specs.Owned.{IsTidy}
+use Rattle.prefix_ends.specs.Standing.{IsReady}
 use Rattle.prefix_laws.specs.Owing.{Owes, IsHeld}
 use Rattle.prefix_laws.proofs.Owed.{owed_law, held_law, held_fine}
-use Rattle.prefix_plans.specs.Sound.{IsTidy, IsSound, Answered}
+use Rattle.prefix_plans.specs.Sound.{IsSound, Answered}
 
 none_left : (s : Stop) → Some (Some s) ≡ Some None → ⊥
 none_left s e = cc
@@ -26,7 +27,7 @@ none_some : ◌≡◌ {A = Last} None (Some None) → ⊥
 none_some e = cc
 
 -- after the turns of a call, and after the space was tidied
-module _ {Set : Type 0} (v w : View Set) (h : CostToGo Set) (within : Set) (m : Places) (nodes grown : List Node) (most : Option ℕ) (es new : List Entry)
+module _ {Set : Type 0} (v w : View Set) (h : CostToGo Set) (within : Set) (m : StateGraph) (nodes grown : List Node) (most : Option ℕ) (es new : List Entry)
     (system : w.system ≡ v.system) (kept : within ≡ within_of h) (ready : IsReady w h m grown new) (right : Right v.system TopK most (prefixes grown new)) where
   abbrev Before : List ℕ → Type 0
   Before = Owes v.system TopK (prefixes nodes es) None

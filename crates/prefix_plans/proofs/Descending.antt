@@ -14,10 +14,12 @@ use Rattle.prefix_tree.specs.Tree.{path_at}
 use Rattle.prefix_tree.specs.Entries.{prefixes}
 use Rattle.prefix_tree.specs.declared.tree.Node.{Node}
 use Rattle.prefix_tree.specs.declared.entry.Entry.{Entry}
-use Rattle.prefix_plans.specs.Left.{known_of}
-use Rattle.prefix_plans.specs.Children.{EndsRanked, IsEntry, IsNew, AreChildren, outdated}
-use Rattle.prefix_plans.specs.Standing.{farness, all_outdated}
-use Rattle.prefix_plans.proofs.Ranks.{ranked_leads, ranked_way}
+use Rattle.prefix_ends.specs.Left.{known_of}
+use Rattle.prefix_ends.specs.Children.{EndsRanked, IsEntry, IsNew, outdated}
+use Rattle.prefix_ends.specs.Standing.{all_outdated}
+use Rattle.prefix_ends.proofs.Ranking.{ranked_leads, ranked_way}
+use Rattle.prefix_plans.specs.Children.{AreChildren}
+use Rattle.prefix_plans.specs.Standing.{farness}
 use Rattle.prefix_plans.proofs.Far.{near, one_near, nearer, one_nearer}
 
 no_more : (a w b : ℕ) → a + w ≡ b → (a < b) ⊎ (a ≡ b)

@@ -1,7 +1,7 @@
 -- How far entries are from a plan, and what is left to do.
-use Rattle.std.proofs.Common.{◌≡◌, ℕ, ◌+◌, ◌-◌, ◌*◌, ◌<◌, ◌≤◌, ◌^◌, ◌⊎◌, inl, inr, min, cond, Bool, true, false, List, [], ◌∷◌, refl, arith}
+use Rattle.std.proofs.Common.{◌≡◌, ℕ, ◌+◌, ◌-◌, ◌*◌, ◌<◌, ◌≤◌, ◌^◌, ◌⊎◌, inl, inr, min, cond, List, [], ◌∷◌, refl, arith}
 use Rattle.std.proofs.Math.Nat.{mul-le-mul_right}
-use Rattle.std.specs.Prelude.{nat_lt, ◌||◌}
+use Rattle.std.specs.Prelude.{nat_lt}
 use Rattle.std.specs.List.{AllByRecursion, sum_by}
 use Rattle.std.proofs.lemmas.Bool.Decides.{nat_tests}
 use Rattle.std.proofs.lemmas.List.Sums.{sum_by-cons}
@@ -11,9 +11,11 @@ use Rattle.prefix_laws.specs.Queue.{Replaced}
 use Rattle.prefix_tree.specs.Order.{IsNoLater}
 use Rattle.prefix_tree.specs.declared.tree.Node.{Node}
 use Rattle.prefix_tree.specs.declared.entry.Entry.{Entry}
-use Rattle.prefix_plans.specs.Left.{Known, bound_at}
-use Rattle.prefix_plans.specs.Children.{IsEntry, IsOutdated, outdated}
-use Rattle.prefix_plans.specs.Standing.{farness, farthest, nearest, all_outdated, work}
+use Rattle.prefix_ends.specs.Left.{Known}
+use Rattle.prefix_ends.specs.Children.{IsEntry, outdated}
+use Rattle.prefix_ends.specs.Standing.{all_outdated}
+use Rattle.prefix_ends.proofs.Dating.{outdated_sum}
+use Rattle.prefix_plans.specs.Standing.{farness, farthest, nearest, work}
 
 next_times : (a b c : ℕ) → a < b → a * c + c ≤ b * c
 next_times a b c lt = grind (arith, mul-le-mul_right c lt)
@@ -104,13 +106,6 @@ near_sum n (e ∷ es) = plus (one_near n e) (near n es) (sum_by (one_near n) es)
     plus : (a b c d : ℕ) → b ≡ c → d ≡ a + c → a + b ≡ d
     plus a b c d p q = omega (arith, p, q)
 
-outdated_sum : (n : Known) (es : List Entry) → all_outdated n es ≡ sum_by (outdated n) es
-outdated_sum n [] = refl
-outdated_sum n (e ∷ es) = plus (outdated n e) (all_outdated n es) (sum_by (outdated n) es) (sum_by (outdated n) (e ∷ es)) (outdated_sum n es) (sum_by-cons (outdated n) e es)
-  where
-    plus : (a b c d : ℕ) → b ≡ c → d ≡ a + c → a + b ≡ d
-    plus a b c d p q = omega (arith, p, q)
-
 -- some entry is nearer than n
 some_near : (n : ℕ) (es : List Entry) → 0 < near n es → nearest es < n
 some_near n [] some = absurd (omega (arith, some))
@@ -176,26 +171,6 @@ learn_less known es others new e taken own fresh =
 
     top : (a b : ℕ) → a ≤ b → a < b + 1
     top a b le = omega (arith, le)
-
-settled_dated : (b t : Bool) → b ≡ true → ◌≡◌ {A = ℕ} (cond b 0 (cond t 1 0)) 0
-settled_dated b t e = rw e refl
-
-pub ranked_dated : (known : Known) (e : Entry) → e.settled ≡ true → outdated known e ≡ 0
-ranked_dated known e on = settled_dated e.settled (nat_lt e.ring.0 known.many || nat_lt e.bound.0 (bound_at known.next e.cost)) on
-
-less_true : (a b : ℕ) → a < b → nat_lt a b ≡ true
-less_true a b lt = grind (arith, nat_tests)
-
-open_dated : (b t u : Bool) → b ≡ false → (t ≡ true) ⊎ (u ≡ true) → ◌≡◌ {A = ℕ} (cond b 0 (cond (t || u) 1 0)) 1
-open_dated b t u off (inl e) = rw (off, e) refl
-open_dated b true u off (inr e) = rw off refl
-open_dated b false u off (inr e) = rw (off, e) refl
-
-pub unranked_dated : (known : Known) (e : Entry) → e.settled ≡ false → IsOutdated known e → outdated known e ≡ 1
-unranked_dated known e off old = open_dated e.settled (nat_lt e.ring.0 known.many) (nat_lt e.bound.0 (bound_at known.next e.cost)) off (elim old [
-  | inl lt ↦ inl (less_true e.ring.0 known.many lt)
-  | inr lt ↦ inr (less_true e.bound.0 (bound_at known.next e.cost) lt)
-])
 
 -- an entry that is nearer than another, by what is left and the ring
 pub nearer : (e k : Entry) (from : ℕ) → k.bound.0 ≡ e.bound.0 → k.bound.0 ≡ k.cost + from → (from < e.bound.0 - e.cost) ⊎ ((from ≡ e.bound.0 - e.cost) × (k.ring.0 < e.ring.0)) → k.ring.0 < 2 ^ 64 → farness k < farness e

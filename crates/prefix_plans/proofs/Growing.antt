@@ -1,185 +1,34 @@
--- Entries while the tree grows, and the children of one, operator after operator.
-use Rattle.std.proofs.Common.{◌≡◌, ℕ, zero, suc, ◌+◌, ◌-◌, ◌*◌, ◌<◌, ◌≤◌, ◌^◌, ◌⊎◌, inl, inr, cond, Bool, true, false, IsTrue, List, [], ◌∷◌, ◌++◌, length, Option, Some, None, refl, sym, ◌∙◌, ap, subst, arith, eq-eqb}
-use Rattle.std.specs.Prelude.{nat_lt, ◌||◌}
-use Rattle.std.specs.Bool.{Decides}
+-- The children of a prefix, operator after operator.
+use Rattle.std.proofs.Common.{◌≡◌, ℕ, zero, suc, ◌+◌, ◌-◌, ◌<◌, ◌≤◌, ◌⊎◌, inl, inr, List, [], ◌∷◌, ◌++◌, length, get_or, refl, sym, ◌∙◌, ap, subst, arith}
 use Rattle.std.specs.List.{AllByRecursion}
-use Rattle.std.proofs.lemmas.Bool.Decides.{nat_tests}
-use Rattle.std.proofs.lemmas.List.{length-append}
+use Rattle.space_api.proofs.Rising.{IsPast, past_gap}
 use Rattle.symk_task.specs.declared.parts.Mode.TheVariants.{TopK}
-use Rattle.task_system.specs.System.{State, Listed, Runs, IsPlan, cost_of}
+use Rattle.task_system.specs.System.{State, Listed}
 use Rattle.space_api.specs.View.{View}
-use Rattle.cost_to_go.specs.Standing.{next_key_of, ranks_of}
 use Rattle.cost_to_go.specs.declared.search.CostToGo.{CostToGo}
-use Rattle.prefix_laws.specs.Queue.{prefix, Bounds, Hopeless, ChildrenBelow}
-use Rattle.prefix_laws.proofs.Splits.{cost_join}
-use Rattle.prefix_laws.proofs.Traces.{bounds_by, plan_by, runs_join, one_end}
+use Rattle.prefix_laws.specs.Queue.{Hopeless, ChildrenBelow}
 use Rattle.prefix_laws.proofs.Growing as laws
-use Rattle.prefix_tree.specs.StateGraph.{state_at}
-use Rattle.prefix_tree.specs.Tree.{IsTree, Grows, path_at}
+use Rattle.prefix_tree.specs.StateGraph.{ops_of, AreMoves}
+use Rattle.prefix_tree.specs.Tree.{IsTree, path_at, end_at}
 use Rattle.prefix_tree.specs.Entries.{prefixes}
+use Rattle.prefix_tree.specs.declared.state_graph.Move.{Move}
 use Rattle.prefix_tree.specs.declared.tree.Node.{Node}
 use Rattle.prefix_tree.specs.declared.entry.Entry.{Entry}
-use Rattle.prefix_tree.proofs.Paths.{path_last, grows_more}
 use Rattle.prefix_tree.proofs.Entries.{prefixes_last, prefixes_like}
-use Rattle.prefix_plans.specs.Left.{known_of, bound_at, EndsAtLeast, IsRanked, IsKnown}
-use Rattle.prefix_plans.specs.Reach.{IsLonger}
-use Rattle.prefix_plans.specs.Children.{EndsRanked, IsEntry, TellsRank, IsNew, outdated, IsChild, AreChildren}
-use Rattle.prefix_plans.specs.Standing.{listed_of}
-use Rattle.prefix_plans.specs.declared.left.Left.{Left}
-use Rattle.prefix_plans.specs.declared.reach.Reached.{Reached}
+use Rattle.prefix_ends.specs.Children.{IsNew, Added}
+use Rattle.prefix_ends.proofs.Growing.{each_new_like}
+use Rattle.prefix_ends.proofs.Reaching.{lost}
+use Rattle.prefix_plans.specs.Children.{AreChildren}
 
-not_less : (a b : ℕ) → b ≤ a → nat_lt a b ≡ false
-not_less a b le = grind (arith, nat_tests)
-
-up_to_date : (t : Bool) (r many a low : ℕ) → (t ≡ false → (many ≤ r) × (low ≤ a)) → ◌≡◌ {A = ℕ} (cond t 0 (cond (nat_lt r many || nat_lt a low) 1 0)) 0
-up_to_date true r many a low h = refl
-up_to_date false r many a low h = rw (not_less r many (h refl).0, not_less a low (h refl).1) refl
-
--- an entry of a prefix that ends in s, of which this is known
-module _ {Set : Type 0} (v : View Set) (f : CostToGo Set) (nodes : List Node) (k : Entry) (s : State) (run : Runs v.system v.system.initial (path_at nodes k.node) s) (left : Left) (known : IsKnown v f k.cost s left)
-    (cost : k.cost ≡ cost_of v.system (path_at nodes k.node)) (bound : k.bound.0 ≡ k.cost + left.cost) (ring : k.ring.0 ≡ left.ring) (settled : k.settled ≡ left.ranked) where
-  bounds_new : Bounds v.system (path_at nodes k.node) k.bound.0
-  bounds_new = subst (Bounds v.system (path_at nodes k.node)) (sym (bound ∙ ap (λ (n : ℕ). n + left.cost) cost)) (bounds_by v.system (path_at nodes k.node) s run left.cost known.least)
-
-  rest_is : k.bound.0 - k.cost ≡ left.cost
-  rest_is = omega (arith, bound)
-
-  ranked_new : IsTrue k.settled → EndsRanked v f (path_at nodes k.node) (k.bound.0 - k.cost) k.ring.0
-  ranked_new on = (s, run, subst (λ (c : ℕ). IsRanked v f c k.ring.0 s) (sym rest_is) (subst (λ (i : ℕ). IsRanked v f left.cost i s) (sym ring) (known.ranked (sym settled ∙ on))))
-
-  tells_new : TellsRank v f nodes k
-  tells_new c i e =
-      let same = one_end v.system (path_at nodes k.node) v.system.initial e.0 s e.1 run in
-      let t = known.told c i (subst (λ (x : State). IsRanked v f c i x) same e.2) in
-      (omega (arith, bound, t.1), ring ∙ t.2)
-
-  looked_new : (c i : ℕ) → i < k.ring.0 → ¬ EndsRanked v f (path_at nodes k.node) c i
-  looked_new c i lt e = let t = tells_new c i e in apart k.ring.0 i lt t.1
-    where
-      apart : (r i : ℕ) → i < r → r ≡ i → ⊥
-      apart r i lt e = omega (arith, lt, e)
-
-  dated_new : outdated (known_of f) k ≡ 0
-  dated_new = up_to_date k.settled k.ring.0 (ranks_of f) k.bound.0 (bound_at (next_key_of f) k.cost) (λ off. let n = known.newest (sym settled ∙ off) in (omega (arith, n.0, ring), omega (arith, n.1, bound)))
-
-  pub entry_new : k.node < length nodes → k.cost ≤ (2 ^ 64 - 1) * k.node → k.ring.0 < 2 ^ 64 → k.bound.0 < 2 ^ 128 → Decides k.at_goal (IsPlan v.system (path_at nodes k.node)) → IsNew v f nodes k
-  entry_new inside roomy small range plan = (
+-- the tree grew
+pub children_like : {Set : Type 0} (v : View Set) (f : CostToGo Set) (a c : List Node) → length a ≤ length c → ((i : ℕ) → i < length a → path_at c i ≡ path_at a i) → (e : List ℕ) (n : ℕ) (kids : List Entry) → AreChildren v f a e n kids → AreChildren v f c e n kids
+children_like v f a c longer same e n kids g =
+    let back = sym (prefixes_like (IsNew v f a) a c kids (λ k z. z.0.inside) same g.each) in
     record {
-      inside = inside;
-      cost = cost;
-      roomy = roomy;
-      least = omega (arith, bound);
-      span = omega (arith, bound, known.small);
-      ring = small;
-      seen = omega (arith, ring, known.seen);
-      range = range;
-      bounds = bounds_new;
-      plan = plan;
-      ranked = ranked_new;
-      looked = looked_new;
-    },
-    tells_new,
-    dated_new,
-  )
-
--- an entry stands where its place has the same prefix
-module _ {Set : Type 0} (v : View Set) (f : CostToGo Set) (a c : List Node) (longer : length a ≤ length c) (same : (i : ℕ) → i < length a → path_at c i ≡ path_at a i) where
-  pub entry_like : (e : Entry) → IsEntry v f a e → IsEntry v f c e
-  entry_like e z =
-      let path = sym (same e.node z.inside) in
-      record {
-        inside = omega (arith, z.inside, longer);
-        cost = subst (λ (p : List ℕ). e.cost ≡ cost_of v.system p) path z.cost;
-        roomy = z.roomy;
-        least = z.least;
-        span = z.span;
-        ring = z.ring;
-        seen = z.seen;
-        range = z.range;
-        bounds = subst (λ (p : List ℕ). Bounds v.system p e.bound.0) path z.bounds;
-        plan = subst (λ (p : List ℕ). Decides e.at_goal (IsPlan v.system p)) path z.plan;
-        ranked = λ on. subst (λ (p : List ℕ). EndsRanked v f p (e.bound.0 - e.cost) e.ring.0) path (z.ranked on);
-        looked = λ c i lt r. z.looked c i lt (subst (λ (p : List ℕ). EndsRanked v f p c i) (same e.node z.inside) r);
-      }
-
-  new_like : (e : Entry) → IsNew v f a e → IsNew v f c e
-  new_like e z = (
-    entry_like e z.0,
-    (λ d i r. z.1 d i (subst (λ (p : List ℕ). EndsRanked v f p d i) (same e.node z.0.inside) r)),
-    z.2,
-  )
-
-  pub each_like : (es : List Entry) → AllByRecursion (IsEntry v f a) es → AllByRecursion (IsEntry v f c) es
-  each_like [] z = tt
-  each_like (e ∷ es) z = (entry_like e z.0, each_like es z.1)
-
-  each_new_like : (es : List Entry) → AllByRecursion (IsNew v f a) es → AllByRecursion (IsNew v f c) es
-  each_new_like [] z = tt
-  each_new_like (e ∷ es) z = (new_like e z.0, each_new_like es z.1)
-
-  pub children_like : (e : List ℕ) (n : ℕ) (kids : List Entry) → AreChildren v f a e n kids → AreChildren v f c e n kids
-  children_like e n kids g =
-      let back = sym (prefixes_like (IsNew v f a) a c kids (λ k z. z.0.inside) same g.each) in
-      record {
-        each = each_new_like kids g.each;
-        counted = subst (ChildrenBelow v.system TopK e n) back g.counted;
-        all = λ op lt. subst (λ (ks : List (List ℕ)). Hopeless v.system TopK (e ++ op ∷ []) ⊎ Listed ks (e ++ op ∷ [])) back (g.all op lt);
-      }
-
--- one prefix more, at the end of the tree
-module _ {Set : Type 0} (v : View Set) (f : CostToGo Set) (ss : List State) (nodes : List Node) (n : Node) (z : IsTree v.system TopK ss nodes) (behind : n.parent < length nodes) (r : Reached) (longer : IsLonger v f (path_at nodes n.parent ++ n.op ∷ []) r) where
-  pub grows_push : n.state < length ss → Runs v.system v.system.initial (path_at nodes n.parent ++ n.op ∷ []) (state_at ss n.state) → Grows v.system TopK ss nodes (nodes ++ n ∷ [])
-  grows_push within run = grows_more v.system TopK ss nodes n z behind longer.good within run
-
-  module _ (e : Entry) (old : IsEntry v f nodes e) (at : e.node ≡ n.parent) where
-    same_path : path_at nodes e.node ≡ path_at nodes n.parent
-    same_path = ap (path_at nodes) at
-
-    cost_push : r.cost ≡ e.cost + v.system.cost n.op
-    cost_push = omega (arith, longer.cost, old.cost, ap (cost_of v.system) same_path, cost_join v.system (path_at nodes n.parent) (n.op ∷ []))
-
-    pub room_push : v.system.cost n.op < 2 ^ 64 → r.cost ≤ (2 ^ 64 - 1) * length nodes
-    room_push dear = omega (arith, cost_push, old.roomy, at, behind, dear)
-
-    -- the entry of the new prefix
-    pub entry_push : (k : Entry) → k.node ≡ length nodes → k.cost ≡ r.cost → k.bound.0 ≡ k.cost + r.left.cost → k.ring.0 ≡ r.left.ring → k.settled ≡ r.left.ranked → k.at_goal ≡ r.at_goal → k.ring.0 < 2 ^ 64 → k.bound.0 < 2 ^ 128 → v.system.cost n.op < 2 ^ 64
-        → IsNew v f (nodes ++ n ∷ []) k × (path_at (nodes ++ n ∷ []) k.node ≡ path_at nodes n.parent ++ n.op ∷ [])
-    entry_push k place cost bound ring settled goal small range dear =
-        let path : path_at (nodes ++ n ∷ []) k.node ≡ path_at nodes n.parent ++ n.op ∷ [] = path_last nodes n k.node z.some place in
-        let total : k.cost ≡ cost_of v.system (path_at nodes n.parent ++ n.op ∷ []) = cost ∙ longer.cost in
-        let known : IsKnown v f k.cost longer.good.end r.left = subst (λ (g : ℕ). IsKnown v f g longer.good.end r.left) (sym cost) longer.left in
-        let run = subst (λ (q : List ℕ). Runs v.system v.system.initial q longer.good.end) (sym path) longer.good.runs in
-        let plan = plan_by v.system (path_at nodes n.parent ++ n.op ∷ []) longer.good.end longer.good.runs r.at_goal longer.goal in
-        let room = room_push dear in (
-          entry_new v f (nodes ++ n ∷ []) k longer.good.end run r.left known (subst (λ (q : List ℕ). k.cost ≡ cost_of v.system q) (sym path) total) bound ring settled
-              (omega (arith, place, length-append nodes (n ∷ [])))
-              (omega (arith, cost, room, place))
-              small range
-              (subst (λ (q : List ℕ). Decides k.at_goal (IsPlan v.system q)) (sym path) (subst (λ (x : Bool). Decides x (IsPlan v.system (path_at nodes n.parent ++ n.op ∷ []))) (sym goal) plan)),
-          path,
-        )
-
-prefix_join : (e q : List ℕ) → prefix e (e ++ q) ≡ true
-prefix_join [] q = refl
-prefix_join (x ∷ e) q = rw (eq-eqb x x refl, prefix_join e q) refl
-
-prefix_front : (e q r : List ℕ) → prefix e ((e ++ q) ++ r) ≡ true
-prefix_front [] q r = refl
-prefix_front (x ∷ e) q r = rw (eq-eqb x x refl, prefix_front e q r) refl
-
--- what the bound of an entry leaves after what its prefix costs, and after what a longer one does
-module _ {Set : Type 0} (v : View Set) (f : CostToGo Set) (nodes : List Node) (e : Entry) (z : IsEntry v f nodes e) where
-  pub ends_after : (low : ℕ) → low ≤ e.bound.0 - e.cost → EndsAtLeast v.system (path_at nodes e.node) low
-  ends_after low le s run q t more goal =
-      let p = path_at nodes e.node in
-      let b = z.bounds (p ++ q) (t, runs_join v.system p q v.system.initial s t run more, goal) (prefix_join p q) in
-      omega (arith, b, z.cost, cost_join v.system p q, le)
-
-  pub ends_longer : (op low : ℕ) → low ≤ e.bound.0 - (e.cost + v.system.cost op) → EndsAtLeast v.system (path_at nodes e.node ++ op ∷ []) low
-  ends_longer op low le s run q t more goal =
-      let p = path_at nodes e.node in
-      let b = z.bounds ((p ++ op ∷ []) ++ q) (t, runs_join v.system (p ++ op ∷ []) q v.system.initial s t run more, goal) (prefix_front p (op ∷ []) q) in
-      omega (arith, b, z.cost, cost_join v.system (p ++ op ∷ []) q, cost_join v.system p (op ∷ []), le)
+      each = each_new_like v f a c longer same kids g.each;
+      counted = subst (ChildrenBelow v.system TopK e n) back g.counted;
+      all = λ op lt. subst (λ (ks : List (List ℕ)). Hopeless v.system TopK (e ++ op ∷ []) ⊎ Listed ks (e ++ op ∷ [])) back (g.all op lt);
+    }
 
 each_last : {X : Type 0} (P : X → Type 0) (xs : List X) (x : X) → AllByRecursion P xs → P x → AllByRecursion P (xs ++ x ∷ [])
 each_last P [] x a h = (h, tt)
@@ -193,10 +42,6 @@ listed_left (x ∷ xs) ys s (inr l) = inr (listed_left xs ys s l)
 listed_last : (xs : List State) (s : State) → Listed (xs ++ s ∷ []) s
 listed_last [] s = inl refl
 listed_last (x ∷ xs) s = inr (listed_last xs s)
-
-no_more : (xs : List Entry) → xs ++ [] ≡ xs
-no_more [] = refl
-no_more (x ∷ xs) = ap (λ (ys : List Entry). x ∷ ys) (no_more xs)
 
 below_next : (op n : ℕ) → op < n + 1 → (op < n) ⊎ (n ≡ op)
 below_next op n lt = grind arith
@@ -212,9 +57,9 @@ module _ {Set : Type 0} (v : View Set) (f : CostToGo Set) (nodes : List Node) (e
     all = λ op lt. elim (below_next op n lt) [ inl less ↦ g.all op less | inr is ↦ inl (subst (λ (k : ℕ). Hopeless v.system TopK (e ++ k ∷ [])) is lost) ];
   }
 
-  pub children_next : (n : ℕ) (kids new : List Entry) (o : Option Entry) → AreChildren v f nodes e n kids → IsChild v f nodes e n o → new ≡ kids ++ listed_of o → AreChildren v f nodes e (n + 1) new
-  children_next n kids new None g lost pushed = subst (λ (l : List Entry). AreChildren v f nodes e (n + 1) l) (sym (pushed ∙ no_more kids)) (children_skip n kids g lost)
-  children_next n kids new (Some k) g (stands, path) pushed =
+  pub children_next : (n : ℕ) (kids new : List Entry) → AreChildren v f nodes e n kids → Added v f nodes e n kids new → AreChildren v f nodes e (n + 1) new
+  children_next n kids new g (inl (same, lost)) = subst (λ (l : List Entry). AreChildren v f nodes e (n + 1) l) (sym same) (children_skip n kids g lost)
+  children_next n kids new g (inr (k, pushed, stands, path)) =
       let last : prefixes nodes (kids ++ k ∷ []) ≡ prefixes nodes kids ++ (e ++ n ∷ []) ∷ [] = prefixes_last nodes kids k ∙ ap (λ (p : List ℕ). prefixes nodes kids ++ p ∷ []) path in
       rw pushed (record {
         each = each_last (IsNew v f nodes) kids k g.each stands;
@@ -226,9 +71,17 @@ module _ {Set : Type 0} (v : View Set) (f : CostToGo Set) (nodes : List Node) (e
       })
 
   -- no plan goes on by any of the next so many operators
-  pub children_past : (n k : ℕ) (kids : List Entry) → AreChildren v f nodes e n kids → ((op : ℕ) → n ≤ op → op < n + k → Hopeless v.system TopK (e ++ op ∷ [])) → AreChildren v f nodes e (n + k) kids
+  children_past : (n k : ℕ) (kids : List Entry) → AreChildren v f nodes e n kids → ((op : ℕ) → n ≤ op → op < n + k → Hopeless v.system TopK (e ++ op ∷ [])) → AreChildren v f nodes e (n + k) kids
   children_past n zero kids z lost = let same : n ≡ n + 0 = omega arith in subst (λ (w : ℕ). AreChildren v f nodes e w kids) same z
   children_past n (suc k) kids z lost =
       let same : n + k + 1 ≡ n + suc k = omega arith in
       let before = children_past n k kids z (λ op ge lt. lost op ge (omega (arith, lt))) in
       subst (λ (w : ℕ). AreChildren v f nodes e w kids) same (children_skip (n + k) kids before (lost (n + k) (omega arith) (omega arith)))
+
+-- the children by the operators below n are those by the operators below x, where none between is that of a move
+pub skip_to : {Set : Type 0} (v : View Set) (f : CostToGo Set) (ss : List State) (nodes : List Node) (i : ℕ) (z : IsTree v.system TopK ss nodes) (lt : i < length nodes) (moves : List Move) (all : AreMoves v.system ss (end_at ss nodes i) moves) (c : List Node) (kids : List Entry) (k n x : ℕ) → IsPast (ops_of moves) k n → n ≤ x → ((j : ℕ) → k ≤ j → j < length (ops_of moves) → x ≤ get_or (ops_of moves) j 0)
+    → AreChildren v f c (path_at nodes i) n kids → AreChildren v f c (path_at nodes i) x kids
+skip_to v f ss nodes i z lt moves all c kids k n x past le before w =
+    let whole : n + (x - n) ≡ x = omega (arith, le) in
+    subst (λ (top : ℕ). AreChildren v f c (path_at nodes i) top kids) whole
+    (children_past v f c (path_at nodes i) n (x - n) kids w (λ op ge less. lost v f ss nodes i z lt moves all op (past_gap (ops_of moves) k n op past ge (λ j at in_list. let b = before j at in_list in omega (arith, less, le, b)))))

@@ -1,10 +1,5 @@
-pub mod Ranks
-pub mod Finding
-pub mod Moving
 pub mod Far
 pub mod Growing
-pub mod Reaching
-pub mod Improving
 pub mod Descending
 pub mod Turning
 pub mod Ranging

@@ -1,23 +1,16 @@
 -- Where each plan that is left is too dear.
-use Rattle.std.proofs.Common.{◌≡◌, ℕ, ◌<◌, ◌^◌, ◌↔◌, inl, inr, Bool, true, false, IsFalse, List, [], ◌∷◌, ◌++◌, length, slice_index_or, Option, None, sym, ◌∙◌, subst, arith}
-use Rattle.std.specs.Bool.{Decides}
+use Rattle.std.proofs.Common.{◌≡◌, ℕ, ◌<◌, ◌^◌, true, false, List, [], ◌∷◌, ◌++◌, length, slice_index_or, Option, None, subst, arith}
 use Rattle.std.specs.List.{AllByRecursion}
 use Rattle.std.specs.List.Sorted.{IsPermutation}
 use Rattle.std.proofs.lemmas.List.{length-append}
 use Rattle.std.proofs.lemmas.List.Sorted.{length_permutation}
 use Rattle.symk_task.specs.declared.parts.Mode.TheVariants.{TopK}
-use Rattle.task_system.specs.System.{State, System, Runs}
-use Rattle.space_api.specs.View.{View, Valid, Has}
-use Rattle.space_api.specs.Frames.{Kept, Gives, Forgot, Stays}
-use Rattle.space_api.proofs.Trading.{valid_clash}
-use Rattle.run_graph.specs.Reached.{Useful, ReachedInside}
-use Rattle.run_graph.specs.declared.Side.TheVariants.{Back}
-use Rattle.single_states.specs.States.{IsReached}
-use Rattle.lazy_plans.specs.Law.{Stops, NoneLeft, top}
+use Rattle.task_system.specs.System.{State, System}
+use Rattle.lazy_plans.specs.Law.{NoneLeft}
 use Rattle.lazy_plans.specs.Law as law
 use Rattle.lazy_plans.proofs.Given.{stays_trans}
-use Rattle.prefix_laws.specs.Queue.{Bounds, Hopeless, Replaced, Right, Pending}
-use Rattle.prefix_laws.proofs.Traces.{one_end, leads_on, stuck}
+use Rattle.prefix_laws.specs.Queue.{Hopeless, Replaced, Right, Pending}
+use Rattle.prefix_laws.proofs.Traces.{leads_on, stuck}
 use Rattle.prefix_laws.proofs.Turns as turns
 use Rattle.prefix_tree.specs.StateGraph.{state_at}
 use Rattle.prefix_tree.specs.Tree.{IsTree, path_at, number_at}
@@ -25,48 +18,10 @@ use Rattle.prefix_tree.specs.Entries.{prefixes}
 use Rattle.prefix_tree.specs.declared.tree.Node.{Node}
 use Rattle.prefix_tree.specs.declared.entry.Entry.{Entry}
 use Rattle.prefix_tree.proofs.Entries.{first_is, first_in, replaced_by, each_new}
-use Rattle.prefix_plans.specs.Left.{LeadsOn}
+use Rattle.prefix_ends.specs.Leading.{GoesOnFrom, IsDear}
+use Rattle.prefix_ends.proofs.Dearest.{bounds_dear}
 use Rattle.prefix_plans.specs.Standing.{KeepsPending}
-use Rattle.prefix_plans.specs.Turned.{TellsLeading, GoesOnFrom, IsDear, TellsLeft}
-use Rattle.prefix_plans.proofs.Ranks.{run_inside, inside_run}
-
--- whether a plan goes on from the prefix that ends in s
-pub decides_on : {Set : Type 0} (v : View Set) (a : Set) (e : List ℕ) (s : State) (b : Bool) → TellsLeading v a → Runs v.system v.system.initial e s → b ≡ v.has a s → Decides b (GoesOnFrom v.system e)
-decides_on v a e s b tells run is =
-    let t = tells s (e, run) in (
-      (λ on. (s, run, t.0 (sym is ∙ on))),
-      (λ h. is ∙ t.1 (subst (λ (x : State). LeadsOn v.system x) (one_end v.system e v.system.initial h.0 s h.1 run) h.2)),
-    )
-
--- the states that lead to the goal inside a set that has all useful states
-pub tells_leading : {Set : Type 0} (u v : View Set) (within leading : Set) → v.system ≡ u.system → ((s : State) → Useful u.system s → Has u within s) → Gives u v (ReachedInside Back u.system (Has u within)) leading → TellsLeading v leading
-tells_leading u v within leading same wide g s r =
-    let at : IsReached u.system s = subst (λ (y : System). IsReached y s) same r in
-    subst (λ (y : System). Has v leading s ↔ LeadsOn y s) (sym same) (
-      (λ h. let w = (g.means s).0 h in (w.0, w.1, inside_run u.system (Has u within) w.0 s w.1 w.2, w.3)),
-      (λ l. (g.means s).1 (l.0, l.1, run_inside u.system (Has u within) wide l.0 s l.1 at l.2 l.3, l.3)),
-    )
-
--- a set was made and given back
-pub made_forgot : {Set : Type 0} (u v w : View Set) (P : State → Type 0) (a : Set) → Kept u v → Gives u v P a → Forgot v w a → Stays u w
-made_forgot {Set} u v w P a k g f = record {
-  kept = record {
-    system = f.system ∙ k.system;
-    valid = stays;
-    same = λ b h s. f.same b (stays b h) s ∙ k.same b h s;
-  };
-  only = λ b h. elim (g.only b (f.only b h)) [
-    | inl old ↦ old
-    | inr e ↦ absurd (valid_clash h (subst (λ (x : Set). IsFalse (w.valid x)) (sym e) f.gone))
-  ];
-}
-  where
-    stays : (b : Set) → Valid u b → Valid w b
-    stays b h = f.valid b (k.valid b h) (λ e. valid_clash h (subst (λ (x : Set). IsFalse (u.valid x)) (sym e) g.fresh))
-
-bounds_dear : (y : System) (nodes : List Node) (es : List Entry) → AllByRecursion (IsDear y nodes) es → AllByRecursion (λ x. Bounds y x (2 ^ 64)) (prefixes nodes es)
-bounds_dear y nodes [] a = tt
-bounds_dear y nodes (e ∷ es) a = (a.0.bounds, bounds_dear y nodes es a.1)
+use Rattle.prefix_plans.specs.Turned.{TellsLeft}
 
 pub keeps_all : (y : System) (most : Option ℕ) (nodes : List Node) (es : List Entry) → Right y TopK most (prefixes nodes es) → KeepsPending y most nodes nodes es es
 keeps_all y most nodes es right = (right, λ q. ((λ h. h), (λ h. h)))

@@ -1,5 +1,5 @@
 -- The first entry gives way to its children, or to what is known of it.
-use Rattle.std.proofs.Common.{Vec, Global, ◌≡◌, ℕ, ◌+◌, ◌<◌, ◌≤◌, inl, inr, IsTrue, IsFalse, List, [], ◌∷◌, ◌++◌, length, slice_index_or, Option, Some, None, Result, Ok, Err, OnErr, refl, sym, ◌∙◌, ap, subst, arith}
+use Rattle.std.proofs.Common.{◌≡◌, ℕ, ◌<◌, ◌≤◌, IsTrue, IsFalse, List, [], ◌∷◌, ◌++◌, length, slice_index_or, Option, Some, None, refl, sym, ◌∙◌, ap, subst, arith}
 use Rattle.std.specs.List.{All, AllByRecursion}
 use Rattle.std.specs.List.Sorted.{IsPermutation}
 use Rattle.std.proofs.lemmas.List.Elements.{recursion_from_All}
@@ -9,49 +9,26 @@ use Rattle.space_api.specs.View.{View}
 use Rattle.space_api.proofs.Trading.{valid_clash}
 use Rattle.lazy_plans.specs.Law.{Gave, Stays, top}
 use Rattle.cost_to_go.specs.declared.search.CostToGo.{CostToGo}
-use Rattle.prefix_laws.specs.Queue.{Good, Bounds, Replaced, Right, Pending}
+use Rattle.prefix_laws.specs.Queue.{Good, Replaced, Right, Pending}
 use Rattle.prefix_laws.proofs.Turns as turns
 use Rattle.prefix_tree.specs.Order.{IsNoLater}
 use Rattle.prefix_tree.specs.StateGraph.{states_of, IsStateGraph}
 use Rattle.prefix_tree.specs.Tree.{Grows, path_at}
 use Rattle.prefix_tree.specs.Entries.{prefixes}
+use Rattle.prefix_tree.specs.declared.state_graph.StateGraph.{StateGraph}
 use Rattle.prefix_tree.specs.declared.tree.Node.{Node}
 use Rattle.prefix_tree.specs.declared.entry.Entry.{Entry}
 use Rattle.prefix_tree.proofs.Entries.{prefixes_like, first_is, first_in, entries_replaced, replaced_by, each_new}
-use Rattle.goal_ranks.specs.declared.lookup.Rank.{Rank}
-use Rattle.prefix_plans.specs.declared.places.Places.{Places}
-use Rattle.prefix_plans.specs.Places.{AreFound}
-use Rattle.prefix_plans.specs.Left.{known_of}
-use Rattle.prefix_plans.specs.Children.{IsEntry, IsNew, AreChildren, IsOutdated, outdated}
-use Rattle.prefix_plans.specs.Standing.{IsBetter, IsReady, GoesOn, GivesFirst, KeepsPending, Opens, IsPlanAt, listed_of, all_outdated, work}
-use Rattle.prefix_plans.proofs.Far.{open_less, learn_less, ranked_dated, unranked_dated}
-use Rattle.prefix_plans.proofs.Growing.{each_like, entry_like}
+use Rattle.prefix_ends.specs.Left.{known_of}
+use Rattle.prefix_ends.specs.Children.{IsEntry, IsOutdated}
+use Rattle.prefix_ends.specs.Standing.{IsBetter, IsReady, Learned, IsPlanAt, listed_of}
+use Rattle.prefix_ends.proofs.Dating.{ranked_dated, unranked_dated}
+use Rattle.prefix_ends.proofs.Growing.{each_like, entry_like}
+use Rattle.prefix_ends.proofs.Replacing.{each_of_new, bounds_first, good_at, fresh_of}
+use Rattle.prefix_plans.specs.Children.{AreChildren}
+use Rattle.prefix_plans.specs.Standing.{GoesOn, GivesFirst, KeepsPending, Opens, work}
+use Rattle.prefix_plans.proofs.Far.{open_less, learn_less}
 use Rattle.prefix_plans.proofs.Descending.{descends, kids_fresh}
-
-pub on_err : {X E P : Type 0} (r : Result X E) → P → OnErr r P
-on_err (Ok x) p = tt
-on_err (Err e) p = p
-
-each_of_new : {Set : Type 0} (v : View Set) (f : CostToGo Set) (nodes : List Node) (es : List Entry) → AllByRecursion (IsNew v f nodes) es → AllByRecursion (IsEntry v f nodes) es
-each_of_new v f nodes [] a = tt
-each_of_new v f nodes (e ∷ es) a = (a.0.0, each_of_new v f nodes es a.1)
-
-no_less : (x y : Entry) → IsNoLater x y → x.bound.0 ≤ y.bound.0
-no_less x y (inl lt) = omega (arith, lt)
-no_less x y (inr h) = omega (arith, h.0)
-
--- no plan of any entry costs less than the bound of the first
-pub bounds_first : {Set : Type 0} (v : View Set) (f : CostToGo Set) (nodes : List Node) (e : Entry) (es : List Entry) → AllByRecursion (IsEntry v f nodes) es → AllByRecursion (IsNoLater e) es → AllByRecursion (λ x. Bounds v.system x e.bound.0) (prefixes nodes es)
-bounds_first v f nodes e [] a b = tt
-bounds_first v f nodes e (k ∷ es) a b = ((λ p plan on. let le = a.0.bounds p plan on in let first = no_less e k b.0 in omega (arith, le, first)), bounds_first v f nodes e es a.1 b.1)
-
--- a prefix in the tree is good
-pub good_at : {Set : Type 0} (v : View Set) (f : CostToGo Set) (m : Places) (nodes : List Node) (es : List Entry) (e : Entry) → IsReady v f m nodes es → IsEntry v f nodes e → Good v.system TopK (path_at nodes e.node)
-good_at v f m nodes es e z entry = (z.tree.each e.node entry.inside).good
-
--- the tree grew, and the queue is as it was
-pub ready_grown : {Set : Type 0} (v : View Set) (f : CostToGo Set) (m n : Places) (a c : List Node) (es : List Entry) → IsStateGraph v.system n.graph → AreFound v f (states_of n.graph) n.ranks.items → Grows v.system TopK (states_of n.graph) a c → IsReady v f m a es → IsReady v f n c es
-ready_grown v f m n a c es graph found g z = record { alone = z.alone; graph = graph; found = found; tree = g.tree; each = each_like v f a c g.longer g.paths es z.each }
 
 -- the queue and the tree are as if one had grown after the other
 goes_as : {Set : Type 0} (v : View Set) (f : CostToGo Set) (a c : List Node) (es new : List Entry) → prefixes c es ≡ prefixes a es → GoesOn v f c c es new → GoesOn v f a c es new
@@ -65,7 +42,7 @@ gives_as y a c e es new p same g most right cheap =
     (h.0, subst (λ (ps : List (List ℕ)). Gave y TopK most (Pending y TopK ps) (Pending y TopK (prefixes c new)) p) same h.1)
 
 -- the children came to the tree, and the entry gave way to them in the queue
-module _ {Set : Type 0} (v : View Set) (f : CostToGo Set) (m n : Places) (a c : List Node) (es kids new : List Entry) (e : Entry) (graph : IsStateGraph v.system n.graph) (found : AreFound v f (states_of n.graph) n.ranks.items) (g : Grows v.system TopK (states_of n.graph) a c) (z : IsReady v f m a es) (some : 0 < length es) (first : e ≡ slice_index_or es 0 e) (ranked : IsTrue e.settled) (order : All (IsNoLater e) es)
+module _ {Set : Type 0} (v : View Set) (f : CostToGo Set) (m n : StateGraph) (a c : List Node) (es kids new : List Entry) (e : Entry) (graph : IsStateGraph v.system n) (g : Grows v.system TopK (states_of n) a c) (z : IsReady v f m a es) (some : 0 < length es) (first : e ≡ slice_index_or es 0 e) (ranked : IsTrue e.settled) (order : All (IsNoLater e) es)
     (children : AreChildren v f c (path_at a e.node) v.system.operators kids) (perm : IsPermutation (es ++ kids) (e ∷ new)) where
   old_entry : IsEntry v f a e
   old_entry = first_is (IsEntry v f a) es e some first z.each
@@ -74,7 +51,7 @@ module _ {Set : Type 0} (v : View Set) (f : CostToGo Set) (m n : Places) (a c : 
   each_old = each_like v f a c g.longer g.paths es z.each
 
   pub open_ready : IsReady v f n c new
-  open_ready = record { alone = z.alone; graph = graph; found = found; tree = g.tree; each = each_new es kids new e perm (IsEntry v f c) each_old (each_of_new v f c kids children.each) }
+  open_ready = record { alone = z.alone; graph = graph; tree = g.tree; each = each_new es kids new e perm (IsEntry v f c) each_old (each_of_new v f c kids children.each) }
 
   entry : IsEntry v f c e
   entry = entry_like v f a c g.longer g.paths e old_entry
@@ -130,34 +107,10 @@ module _ {Set : Type 0} (v : View Set) (f : CostToGo Set) (m n : Places) (a c : 
   pub open_opens : (o : Option (List ℕ)) → IsPlanAt a e o → Opens v f a c e es new o
   open_opens o h = opened o (plan_on o h)
 
--- what the queue has once its first entry gave way to others
-pub replaced_perm : (es room kids new : List Entry) (e : Entry) → room ≡ es → e ≡ slice_index_or es 0 e → ((k : Entry) → k ≡ slice_index_or room 0 k → IsPermutation (room ++ kids) (k ∷ new)) → IsPermutation (es ++ kids) (e ∷ new)
-replaced_perm es room kids new e same first perm =
-    let there : e ≡ slice_index_or room 0 e = subst (λ (l : List Entry). e ≡ slice_index_or l 0 e) (sym same) first in
-    subst (λ (l : List Entry). IsPermutation (l ++ kids) (e ∷ new)) same (perm e there)
-
-pub learned_perm : (es room others new : List Entry) (o : Option Entry) (e : Entry) → room ≡ es → others ≡ listed_of o → e ≡ slice_index_or es 0 e → ((k : Entry) → k ≡ slice_index_or room 0 k → IsPermutation (room ++ others) (k ∷ new)) → IsPermutation (es ++ listed_of o) (e ∷ new)
-learned_perm es room others new o e same is first perm = subst (λ (l : List Entry). IsPermutation (es ++ l) (e ∷ new)) is (replaced_perm es room others new e same first perm)
-
 -- the first entry gave way to what was learned of it
-module _ {Set : Type 0} (v : View Set) (f : CostToGo Set) (m : Places) (nodes : List Node) (es new : List Entry) (e : Entry) (some : 0 < length es) (first : e ≡ slice_index_or es 0 e) (off : IsFalse e.settled) (more : IsOutdated (known_of f) e) (z : IsReady v f m nodes es) where
-  each_of : (o : Option Entry) → IsBetter v f nodes e o → AllByRecursion (IsEntry v f nodes) (listed_of o)
-  each_of None h = tt
-  each_of (Some k) h = (h.1.0, tt)
-
-  fresh_of : (o : Option Entry) → IsBetter v f nodes e o → all_outdated (known_of f) (listed_of o) ≡ 0
-  fresh_of None h = refl
-  fresh_of (Some k) h = alone (outdated (known_of f) k) h.1.2
-    where
-      alone : (n : ℕ) → n ≡ 0 → n + 0 ≡ 0
-      alone n is = omega (arith, is)
-
-  module _ (o : Option Entry) (better : IsBetter v f nodes e o) (perm : IsPermutation (es ++ listed_of o) (e ∷ new)) where
-    pub learned_ready : (ranks : Vec (Option Rank) Global) → AreFound v f (states_of m.graph) ranks.items → IsReady v f (record m { ranks = ranks }) nodes new
-    learned_ready ranks found = record { alone = z.alone; graph = z.graph; found = found; tree = z.tree; each = each_new es (listed_of o) new e perm (IsEntry v f nodes) z.each (each_of o better) }
-
-    less : work (known_of f) new < work (known_of f) es
-    less = learn_less (known_of f) es (listed_of o) new e (entries_replaced es (listed_of o) new e perm) (unranked_dated (known_of f) e off more) (fresh_of o better)
+module _ {Set : Type 0} (v : View Set) (f : CostToGo Set) (m : StateGraph) (nodes : List Node) (es new : List Entry) (e : Entry) (some : 0 < length es) (first : e ≡ slice_index_or es 0 e) (off : IsFalse e.settled) (more : IsOutdated (known_of f) e) (z : IsReady v f m nodes es) where
+  less : (o : Option Entry) → IsBetter v f nodes e o → IsPermutation (es ++ listed_of o) (e ∷ new) → work (known_of f) new < work (known_of f) es
+  less o better perm = learn_less (known_of f) es (listed_of o) new e (entries_replaced es (listed_of o) new e perm) (unranked_dated (known_of f) e off more) (fresh_of v f m nodes es new e o better)
 
   keeps : (o : Option Entry) → IsBetter v f nodes e o → IsPermutation (es ++ listed_of o) (e ∷ new) → (most : Option ℕ) → Right v.system TopK most (prefixes nodes es) → KeepsPending v.system most nodes nodes es new
   keeps None lost perm most right =
@@ -174,5 +127,5 @@ module _ {Set : Type 0} (v : View Set) (f : CostToGo Set) (m : Places) (nodes : 
         turns.back_stays v.system TopK (path_at nodes e.node) (prefixes nodes es) (prefixes nodes new) taken,
       )
 
-  pub learned_goes : (o : Option Entry) → IsBetter v f nodes e o → IsPermutation (es ++ listed_of o) (e ∷ new) → GoesOn v f nodes nodes es new
-  learned_goes o better perm most right = (keeps o better perm most right, less o better perm)
+  pub learned_goes : Learned v f nodes e es new → GoesOn v f nodes nodes es new
+  learned_goes (o, better, perm) most right = (keeps o better perm most right, less o better perm)

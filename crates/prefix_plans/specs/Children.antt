@@ -1,58 +1,15 @@
--- Entries of the queue, and the children of one.
-use Rattle.std.specs.Prelude.{◌≡◌, ℕ, cond, nat_lt, ◌+◌, ◌*◌, ◌-◌, ◌<◌, ◌≤◌, ◌^◌, ◌⊎◌, ◌||◌, IsTrue, List, [], ◌∷◌, ◌++◌, Option, Some, None, length}
-use Rattle.std.specs.Bool.{Decides}
+-- The children of an entry.
+use Rattle.std.specs.Prelude.{ℕ, ◌<◌, ◌⊎◌, List, [], ◌∷◌, ◌++◌}
 use Rattle.std.specs.List.{AllByRecursion}
 use Rattle.symk_task.specs.declared.parts.Mode.TheVariants.{TopK}
-use Rattle.task_system.specs.System.{State, Listed, Runs, IsPlan, cost_of}
+use Rattle.task_system.specs.System.{Listed}
 use Rattle.space_api.specs.View.{View}
-use Rattle.cost_to_go.specs.Standing.{ranks_of}
 use Rattle.cost_to_go.specs.declared.search.CostToGo.{CostToGo}
-use Rattle.prefix_laws.specs.Queue.{Bounds, Hopeless, ChildrenBelow}
-use Rattle.prefix_tree.specs.Tree.{path_at}
+use Rattle.prefix_laws.specs.Queue.{Hopeless, ChildrenBelow}
 use Rattle.prefix_tree.specs.Entries.{prefixes}
 use Rattle.prefix_tree.specs.declared.tree.Node.{Node}
 use Rattle.prefix_tree.specs.declared.entry.Entry.{Entry}
-use Rattle.prefix_plans.specs.Left.{Known, known_of, bound_at, IsRanked}
-
--- the prefix ends in a state that is ranked so
-abbrev pub EndsRanked : {Set : Type 0} → View Set → CostToGo Set → List ℕ → ℕ → ℕ → Type 0
-EndsRanked v f p c i = (s : State) × Runs v.system v.system.initial p s × IsRanked v f c i s
-
--- what an entry says of its prefix is so; no rank of a number below its ring has the end of it
-pub record IsEntry {Set : Type 0} (v : View Set) (f : CostToGo Set) (nodes : List Node) (e : Entry) : Type 0 where
-  pub inside : e.node < length nodes
-  pub cost : e.cost ≡ cost_of v.system (path_at nodes e.node)
-  pub roomy : e.cost ≤ (2 ^ 64 - 1) * e.node
-  pub least : e.cost ≤ e.bound.0
-  pub span : e.bound.0 ≤ e.cost + 2 ^ 64
-  pub ring : e.ring.0 < 2 ^ 64
-  pub seen : e.ring.0 ≤ ranks_of f
-  pub range : e.bound.0 < 2 ^ 128
-  pub bounds : Bounds v.system (path_at nodes e.node) e.bound.0
-  pub plan : Decides e.at_goal (IsPlan v.system (path_at nodes e.node))
-  pub ranked : IsTrue e.settled → EndsRanked v f (path_at nodes e.node) (e.bound.0 - e.cost) e.ring.0
-  pub looked : (c i : ℕ) → i < e.ring.0 → ¬ EndsRanked v f (path_at nodes e.node) c i
-
--- what is known of the end of the prefix stands in the entry
-abbrev pub TellsRank : {Set : Type 0} → View Set → CostToGo Set → List Node → Entry → Type 0
-TellsRank v f nodes e = (c i : ℕ) → EndsRanked v f (path_at nodes e.node) c i → (e.bound.0 ≡ e.cost + c) × (e.ring.0 ≡ i)
-
--- there are ranks that weren't looked at, or more is known than the bound says
-abbrev pub IsOutdated : Known → Entry → Type 0
-IsOutdated known e = (e.ring.0 < known.many) ⊎ (e.bound.0 < bound_at known.next e.cost)
-
--- 1 where an entry is so, whose last state was not ranked, else 0
-abbrev pub outdated : Known → Entry → ℕ
-outdated known e = cond e.settled 0 (cond (nat_lt e.ring.0 known.many || nat_lt e.bound.0 (bound_at known.next e.cost)) 1 0)
-
--- an entry that says all that the search knows now
-abbrev pub IsNew : {Set : Type 0} → View Set → CostToGo Set → List Node → Entry → Type 0
-IsNew v f nodes e = IsEntry v f nodes e × TellsRank v f nodes e × (outdated (known_of f) e ≡ 0)
-
--- no plan goes on by this operator, or it is the child
-abbrev pub IsChild : {Set : Type 0} → View Set → CostToGo Set → List Node → List ℕ → ℕ → Option Entry → Type 0
-IsChild v f nodes e op None = Hopeless v.system TopK (e ++ op ∷ [])
-IsChild v f nodes e op (Some k) = IsNew v f nodes k × (path_at nodes k.node ≡ e ++ op ∷ [])
+use Rattle.prefix_ends.specs.Children.{IsNew}
 
 -- the children of e by the operators below n
 pub record AreChildren {Set : Type 0} (v : View Set) (f : CostToGo Set) (nodes : List Node) (e : List ℕ) (n : ℕ) (kids : List Entry) : Type 0 where

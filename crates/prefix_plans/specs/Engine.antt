@@ -1,16 +1,16 @@
 -- An engine as its callers see it.
-use Rattle.std.specs.Prelude.{◌≡◌, ℕ, Bool, IsFalse, List, Option, Result}
-use Rattle.task_system.specs.System.{State, System, IsPlanOf}
+use Rattle.std.specs.Prelude.{ℕ, Bool, List, Option, Result}
+use Rattle.task_system.specs.System.{System, IsPlanOf}
 use Rattle.symk_task.specs.declared.parts.Mode.TheVariants.{TopK}
-use Rattle.run_graph.specs.Reached.{Useful}
-use Rattle.space_api.specs.View.{View, Valid, Has}
+use Rattle.space_api.specs.View.{View, Valid}
 use Rattle.lazy_plans.specs.Law.{Last}
 use Rattle.lazy_plans.specs.declared.stop.Stop.{Stop}
 use Rattle.prefix_plans.specs.declared.engine.PrefixPlans.{PrefixPlans}
 use Rattle.prefix_tree.specs.Entries.{entries_of, prefixes}
-use Rattle.prefix_plans.specs.Standing.{IsBeneath}
+use Rattle.prefix_ends.specs.Owned.{IsTidy}
+use Rattle.prefix_ends.specs.Standing.{IsBeneath}
 use Rattle.prefix_laws.specs.Owing.{Owes, tells_owed}
-use Rattle.prefix_plans.specs.Sound.{IsTidy, IsSound, Answered}
+use Rattle.prefix_plans.specs.Sound.{IsSound, Answered}
 
 abbrev pub system_of : {S Set : Type 0} → (S → View Set) → PrefixPlans S Set → System
 system_of view x = (view x.space).system
@@ -32,7 +32,7 @@ tells view x p = tells_owed (view x.space).system TopK (prefixes x.tree.items (e
 
 -- what it meets between two calls
 abbrev pub IsEngine : {S Set : Type 0} → (S → View Set) → PrefixPlans S Set → Type 0
-IsEngine view x = IsSound (view x.space) x.search x.within x.places x.tree.items x.most (entries_of x.queue) x.held x.ended
+IsEngine view x = IsSound (view x.space) x.search x.within x.places.graph x.tree.items x.most (entries_of x.queue) x.held x.ended
 
 -- every valid set is one of the search, or the one that it is kept to
 abbrev pub KeepsAll : {S Set : Type 0} → (S → View Set) → PrefixPlans S Set → Type 0
@@ -45,18 +45,6 @@ HasRoom view x = IsTidy (view x.space)
 -- one call of it
 abbrev pub Answers : {S Set : Type 0} → (S → View Set) → PrefixPlans S Set → PrefixPlans S Set → Result (Option (List ℕ)) Stop → Type 0
 Answers view x z result = Answered (view x.space) (view z.space) x.most (Pends view x) (Pends view z) (IsEngine view z) z.ended result
-
--- no set is valid
-abbrev pub HasNone : {Set : Type 0} → View Set → Type 0
-HasNone {Set} v = (a : Set) → IsFalse (v.valid a)
-
--- the set alone is valid
-abbrev pub HasAlone : {Set : Type 0} → View Set → Set → Type 0
-HasAlone {Set} v within = (a : Set) → Valid v a → a ≡ within
-
--- the set has each useful state
-abbrev pub HasUseful : {Set : Type 0} → View Set → Set → Type 0
-HasUseful v within = (s : State) → Useful v.system s → Has v within s
 
 -- each plan of the system pends
 abbrev pub OwesAll : {S Set : Type 0} → (S → View Set) → System → PrefixPlans S Set → Type 0

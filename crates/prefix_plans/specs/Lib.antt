@@ -1,6 +1,3 @@
-pub mod Left
-pub mod Places
-pub mod Reach
 pub mod Children
 pub mod Standing
 pub mod Turned

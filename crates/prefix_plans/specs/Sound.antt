@@ -1,5 +1,5 @@
 -- What every engine meets between two calls, and what one call gives.
-use Rattle.std.specs.Prelude.{◌≡◌, ℕ, ◌+◌, ◌*◌, ◌≤◌, List, Option, Some, None, Result, IfOk}
+use Rattle.std.specs.Prelude.{◌≡◌, ℕ, List, Option, Some, None, Result, IfOk}
 use Rattle.symk_task.specs.declared.parts.Mode.TheVariants.{TopK}
 use Rattle.space_api.specs.View.{View}
 use Rattle.lazy_plans.specs.Law.{Last, Ended, Turned, last_of}
@@ -9,18 +9,15 @@ use Rattle.cost_to_go.specs.declared.search.CostToGo.{CostToGo}
 use Rattle.prefix_laws.specs.Queue.{Right}
 use Rattle.prefix_laws.specs.Owing.{Owes, IsHeld}
 use Rattle.prefix_tree.specs.Entries.{prefixes}
-use Rattle.prefix_plans.specs.declared.places.Places.{Places}
+use Rattle.prefix_tree.specs.declared.state_graph.StateGraph.{StateGraph}
 use Rattle.prefix_tree.specs.declared.tree.Node.{Node}
 use Rattle.prefix_tree.specs.declared.entry.Entry.{Entry}
-use Rattle.prefix_plans.specs.Standing.{IsReady}
-
--- no more is held than twice what was needed last, and 1,000
-abbrev pub IsTidy : {Set : Type 0} → View Set → Type 0
-IsTidy v = v.held ≤ 2 * v.last + 1000
+use Rattle.prefix_ends.specs.Owned.{IsTidy}
+use Rattle.prefix_ends.specs.Standing.{IsReady}
 
 -- what every engine meets between two calls: the queue stands, what was answered last still holds, and where no plan was left
 -- the space is tidy
-pub record IsSound {Set : Type 0} (v : View Set) (f : CostToGo Set) (within : Set) (m : Places) (nodes : List Node) (most : Option ℕ) (es : List Entry) (held : Option (List ℕ)) (ended : Last) : Type 0 where
+pub record IsSound {Set : Type 0} (v : View Set) (f : CostToGo Set) (within : Set) (m : StateGraph) (nodes : List Node) (most : Option ℕ) (es : List Entry) (held : Option (List ℕ)) (ended : Last) : Type 0 where
   pub ready : IsReady v f m nodes es
   pub kept : within ≡ within_of f
   pub right : Right v.system TopK most (prefixes nodes es)

@@ -1,35 +1,20 @@
 -- What turns do, and why they stop.
-use Rattle.std.specs.Prelude.{◌≡◌, ℕ, ◌+◌, ◌<◌, ◌≤◌, ◌^◌, ◌↔◌, Bool, true, false, List, length, Option, Some, None, IsSome}
+use Rattle.std.specs.Prelude.{◌≡◌, ℕ, ◌+◌, ◌<◌, ◌≤◌, Bool, true, false, List, Option, Some, None, IsSome}
 use Rattle.symk_task.specs.declared.parts.Mode.TheVariants.{TopK}
-use Rattle.task_system.specs.System.{State, System, Runs}
-use Rattle.space_api.specs.View.{View, Has}
+use Rattle.task_system.specs.System.{System}
+use Rattle.space_api.specs.View.{View}
 use Rattle.lazy_plans.specs.Law.{Gave, Stops, NoneLeft}
 use Rattle.lazy_plans.specs.declared.stop.Stop.TheVariants.{CostRange}
 use Rattle.cost_to_go.specs.declared.search.CostToGo.{CostToGo}
-use Rattle.prefix_laws.specs.Queue.{Bounds, Right, Pending}
-use Rattle.prefix_tree.specs.Tree.{path_at}
+use Rattle.prefix_laws.specs.Queue.{Right, Pending}
 use Rattle.prefix_tree.specs.Entries.{prefixes}
 use Rattle.prefix_tree.specs.declared.tree.Node.{Node}
 use Rattle.prefix_tree.specs.declared.entry.Entry.{Entry}
-use Rattle.single_states.specs.States.{IsReached}
-use Rattle.prefix_plans.specs.Left.{Known, known_of, LeadsOn}
-use Rattle.prefix_plans.specs.Children.{IsOutdated}
+use Rattle.prefix_ends.specs.Left.{Known, known_of}
+use Rattle.prefix_ends.specs.Children.{IsOutdated}
 use Rattle.prefix_plans.specs.Standing.{GoesOn, GivesFirst, KeepsPending, work}
 use Rattle.prefix_plans.specs.declared.walk.Halt.{Halt}
 use Rattle.prefix_plans.specs.declared.walk.Halt.TheVariants.{Gives, Waits, Ends, OutOfRange}
-
--- of the states that operators reach the set has those that lead to the goal
-abbrev pub TellsLeading : {Set : Type 0} → View Set → Set → Type 0
-TellsLeading v a = (s : State) → IsReached v.system s → Has v a s ↔ LeadsOn v.system s
-
--- some plan goes on from the prefix
-abbrev pub GoesOnFrom : System → List ℕ → Type 0
-GoesOnFrom y e = (s : State) × Runs y y.initial e s × LeadsOn y s
-
--- each plan that goes on from the prefix costs more than 64 bits hold
-pub record IsDear (y : System) (nodes : List Node) (e : Entry) : Type 0 where
-  pub inside : e.node < length nodes
-  pub bounds : Bounds y (path_at nodes e.node) (2 ^ 64)
 
 -- What is done with the first entry: the queue goes on, its plan is given, or no more is known than it says.
 abbrev pub Acts : {Set : Type 0} → View Set → CostToGo Set → List Node → List Node → Entry → List Entry → List Entry → Option Halt → Type 0

@@ -2,11 +2,13 @@
 
 ghost use Rattle.std.specs.Prelude.{◌≡◌, IfOk, None, Some};
 ghost use Rattle.space_api.specs.View.{View, Valid};
-ghost use Rattle.prefix_plans.specs.Engine.{system_of, most_of, ended_of, IsEngine, HasNone, HasAlone, HasUseful, OwesAll};
+ghost use Rattle.prefix_ends.specs.Owned.{HasNone, HasAlone, HasUseful};
+ghost use Rattle.prefix_plans.specs.Engine.{system_of, most_of, ended_of, IsEngine, OwesAll};
 
 use crate::engine::PrefixPlans;
 use crate::places::Places;
 use cost_to_go::CostToGo;
+use prefix_ends::Ranks;
 use prefix_tree::{Entry, Node, Queue, StateGraph, number_of_start};
 use single_states::goal_at;
 use space_api::Space;
@@ -60,7 +62,7 @@ impl<S: Space + Drop> PrefixPlans<S> {
             within,
             places: Places {
                 graph,
-                ranks: Vec::new(alloc),
+                ranks: Ranks::new(alloc),
             },
             tree,
             queue,

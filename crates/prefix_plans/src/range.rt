@@ -1,7 +1,6 @@
 //! Whether a plan is left, where each that is left costs more than 64 bits hold.
 
-ghost use Rattle.std.specs.Prelude.{◌<◌, ◌≤◌, None, IfOk, length};
-ghost use Rattle.std.specs.Bool.{Decides};
+ghost use Rattle.std.specs.Prelude.{◌≤◌, None, IfOk};
 ghost use Rattle.std.specs.List.{AllByRecursion};
 ghost use Rattle.symk_task.specs.declared.parts.Mode.TheVariants.{TopK};
 ghost use Rattle.space_api.specs.View.{View, Valid};
@@ -10,39 +9,21 @@ ghost use Rattle.cost_to_go.specs.declared.search.CostToGo.{CostToGo};
 ghost use Rattle.prefix_laws.specs.Queue.{Right};
 ghost use Rattle.prefix_tree.specs.Entries.{entries_of, prefixes};
 ghost use Rattle.prefix_tree.specs.StateGraph.{states_of, IsStateGraph};
-ghost use Rattle.prefix_tree.specs.Tree.{IsTree, path_at};
-ghost use Rattle.prefix_plans.specs.Children.{IsEntry};
-ghost use Rattle.prefix_plans.specs.Engine.{HasUseful};
+ghost use Rattle.prefix_tree.specs.Tree.{IsTree};
+ghost use Rattle.prefix_ends.specs.Children.{IsEntry};
+ghost use Rattle.prefix_ends.specs.Owned.{HasUseful};
+ghost use Rattle.prefix_ends.specs.Leading.{TellsLeading, IsDear};
 ghost use Rattle.prefix_plans.specs.Standing.{KeepsPending};
-ghost use Rattle.prefix_plans.specs.Turned.{TellsLeading, GoesOnFrom, IsDear, TellsLeft};
+ghost use Rattle.prefix_plans.specs.Turned.{TellsLeft};
 
 use lazy_plans::Steps;
-use prefix_tree::{Entry, Node, Queue, StateGraph, node_at};
+use prefix_ends::goes_on;
+use prefix_tree::{Node, Queue, StateGraph};
 use run_graph::Side;
-use single_states::has_state;
 use space_api::{Space, SpaceFault};
 use std::alloc::{AllocError, Global};
 use std::sync::ledger::Ledger;
 use useful_states::reach;
-
-/// Whether a plan goes on from the entry's prefix: its last state is one of those that lead to the goal.
-fn goes_on<S: Space>(
-    space: &S,
-    leading: S::Set,
-    graph: &StateGraph,
-    tree: &[Node],
-    entry: Entry,
-) -> bool
-    requires leading { Valid (S.view space.now) leading }
-    requires tells { TellsLeading (S.view space.now) leading }
-    requires graph { IsStateGraph (S.view space.now).system graph.now }
-    requires tree { IsTree (S.view space.now).system TopK (states_of graph.now) tree.now }
-    requires inside { entry.node < length tree.now }
-    ensures { Decides result (GoesOnFrom (S.view space.now).system (path_at tree.now entry.node)) }
-{
-    let here = node_at(tree, entry.node);
-    has_state(space, leading, graph.state(here.state))
-}
 
 /// Whether a plan goes on from some entry, each of which is too dear. The first ones from which none does are taken out,
 /// each by a turn.

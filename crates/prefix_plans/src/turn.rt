@@ -1,84 +1,22 @@
-//! What is done with the first entry of the queue.
+//! What is done with the first entry of the queue, whose last state is ranked.
 
-ghost use Rattle.std.specs.Prelude.{◌≡◌, ◌+◌, ◌<◌, IsTrue, IsFalse, All, IfOk, OnOk, OnErr, length, slice_index_or};
+ghost use Rattle.std.specs.Prelude.{◌≡◌, ◌+◌, ◌<◌, IsTrue, All, IfOk, OnOk, OnErr, length, slice_index_or};
 ghost use Rattle.space_api.specs.View.{View};
-ghost use Rattle.prefix_tree.specs.Tree.{AreLinked};
 ghost use Rattle.prefix_tree.specs.Order.{IsNoLater};
-ghost use Rattle.prefix_tree.specs.Entries.{entries_of};
-ghost use Rattle.prefix_tree.specs.Entries.{prefixes};
-ghost use Rattle.prefix_plans.specs.Left.{known_of};
-ghost use Rattle.prefix_plans.specs.Children.{IsOutdated};
-ghost use Rattle.prefix_plans.specs.Standing.{IsReady, GoesOn, Opens, IsPlanAt, listed_of};
+ghost use Rattle.prefix_tree.specs.Entries.{entries_of, prefixes};
+ghost use Rattle.prefix_ends.specs.Standing.{IsReady};
+ghost use Rattle.prefix_plans.specs.Standing.{Opens};
 
 use crate::expand::expand;
-use crate::improve::improve;
 use crate::places::Places;
 use cost_to_go::CostToGo;
 use lazy_plans::Steps;
-use prefix_tree::{Entry, Node, Queue, operators_to};
+use prefix_ends::plan_of;
+use prefix_tree::{Entry, Node, Queue};
 use space_api::{Space, SpaceFault};
-use std::alloc::{AllocError, Global};
+use std::alloc::Global;
 use std::sync::ledger::Ledger;
 use symk_task::Plan;
-
-/// The entry alone, or none.
-fn one_or_none(alloc: Global, entry: Option<Entry>) -> Result<Vec<Entry>, AllocError>
-    ensures { IfOk result (λ entries. entries.items ≡ listed_of entry) }
-{
-    let mut entries = Vec::new(alloc);
-    match entry {
-        None => Ok(entries),
-        Some(entry) => {
-            entries.push(entry)?;
-            Ok(entries)
-        }
-    }
-}
-
-/// A turn that learns more of the first entry's bound, which puts it where it then belongs, or takes it out where no
-/// plan goes on from it. Want of memory leaves the entries.
-///
-/// The search has gone on since the bound was told.
-pub(crate) fn learn<S: Space, L: Ledger>(
-    alloc: Global,
-    space: &S,
-    search: &CostToGo<S::Set>,
-    places: &mut Places,
-    tree: &[Node],
-    queue: &mut Queue,
-    entry: Entry,
-    steps: &mut Steps<L>,
-) -> Result<(), AllocError>
-    requires ready { IsReady (S.view space.now) search.now places.old tree.now (entries_of queue.old) }
-    requires some { 0 < length (entries_of queue.old) }
-    requires first { entry ≡ slice_index_or (entries_of queue.old) 0 entry }
-    requires open { IsFalse entry.settled }
-    requires more { IsOutdated (known_of search.now) entry }
-    ensures ready { IsReady (S.view space.now) search.now places.new tree.now (entries_of queue.new) }
-    ensures ok { OnOk result (GoesOn (S.view space.now) search.now tree.now tree.now
-        (entries_of queue.old) (entries_of queue.new)) }
-    ensures err { OnErr result (entries_of queue.new ≡ entries_of queue.old) }
-    ensures one { OnOk result (steps.new ≡ steps.old + 1) }
-    ensures none { OnErr result (steps.new ≡ steps.old) }
-{
-    let better = improve(space, search, &places.graph, &mut places.ranks, tree, entry);
-    let others = one_or_none(alloc, better)?;
-    queue.make_room(others.len())?;
-    queue.replace(others, steps);
-    Ok(())
-}
-
-/// The plan that the entry is, if it is one.
-fn plan_of(alloc: Global, tree: &[Node], entry: Entry) -> Result<Option<Plan>, AllocError>
-    requires linked { AreLinked tree.now }
-    requires inside { entry.node < length tree.now }
-    ensures { IfOk result (λ plan. IsPlanAt tree.now entry plan) }
-{
-    if entry.at_goal {
-        return Ok(Some(Plan::of(operators_to(alloc, tree, entry.node)?)));
-    }
-    Ok(None)
-}
 
 /// A turn that takes the first entry out, whose last state is ranked, and puts its children in, and gives the plan that
 /// it is, if it is one. Want of memory leaves the entries.
@@ -92,12 +30,12 @@ pub(crate) fn open<S: Space, L: Ledger>(
     entry: Entry,
     steps: &mut Steps<L>,
 ) -> Result<Option<Plan>, SpaceFault>
-    requires ready { IsReady (S.view space.now) search.now places.old tree.old.items (entries_of queue.old) }
+    requires ready { IsReady (S.view space.now) search.now places.old.graph tree.old.items (entries_of queue.old) }
     requires some { 0 < length (entries_of queue.old) }
     requires first { entry ≡ slice_index_or (entries_of queue.old) 0 entry }
     requires ranked { IsTrue entry.settled }
     requires order { All (IsNoLater entry) (entries_of queue.old) }
-    ensures ready { IsReady (S.view space.now) search.now places.new tree.new.items (entries_of queue.new) }
+    ensures ready { IsReady (S.view space.now) search.now places.new.graph tree.new.items (entries_of queue.new) }
     ensures ok { IfOk result (Opens (S.view space.now) search.now tree.old.items tree.new.items entry
         (entries_of queue.old) (entries_of queue.new)) }
     ensures err { OnErr result (prefixes tree.new.items (entries_of queue.new) ≡ prefixes tree.old.items

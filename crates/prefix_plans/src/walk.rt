@@ -1,28 +1,26 @@
 //! Turns of the queue, until a plan is given.
 
-ghost use Rattle.std.specs.Prelude.{◌≡◌, ◌+◌, ◌<◌, ◌^◌, All, IfOk, OnOk, OnErr, IsSome, List, length, slice_index_or};
-ghost use Rattle.std.specs.Bool.{Decides};
+ghost use Rattle.std.specs.Prelude.{◌≡◌, ◌<◌, All, IfOk, OnErr, length, slice_index_or};
 ghost use Rattle.std.specs.List.{AllByRecursion};
 ghost use Rattle.symk_task.specs.declared.parts.Mode.TheVariants.{TopK};
 ghost use Rattle.space_api.specs.View.{View};
 ghost use Rattle.lazy_plans.specs.Law.{Turned, top};
-ghost use Rattle.cost_to_go.specs.Standing.{within_of, next_key_of, steps_left};
+ghost use Rattle.cost_to_go.specs.Standing.{within_of};
 ghost use Rattle.prefix_laws.specs.Queue.{Right, Pending};
 ghost use Rattle.prefix_tree.specs.Order.{IsNoLater};
 ghost use Rattle.prefix_tree.specs.Entries.{entries_of, prefixes};
 ghost use Rattle.prefix_tree.specs.declared.entry.Entry.{Entry};
-ghost use Rattle.prefix_tree.specs.declared.tree.Node.{Node};
-ghost use Rattle.prefix_plans.specs.declared.places.Places.{Places};
-ghost use Rattle.prefix_plans.specs.Left.{known_of, bound_at};
-ghost use Rattle.prefix_plans.specs.Children.{IsOutdated};
-ghost use Rattle.prefix_plans.specs.Standing.{IsAlone, IsReady, KeepsPending};
+ghost use Rattle.prefix_ends.specs.Left.{known_of};
+ghost use Rattle.prefix_ends.specs.Standing.{IsReady};
+ghost use Rattle.prefix_plans.specs.Standing.{KeepsPending};
 ghost use Rattle.prefix_plans.specs.Turned.{Acts, TurnOf, HaltsAt, CountsTurn};
 
 use crate::places::Places;
 use crate::range::is_left;
-use crate::turn::{learn, open};
+use crate::turn::open;
 use cost_to_go::CostToGo;
 use lazy_plans::{Steps, Stop};
+use prefix_ends::{go_on, is_outdated, top_of};
 use prefix_tree::{Entry, Node, Queue};
 use space_api::{Space, SpaceFault};
 use std::alloc::Global;
@@ -42,36 +40,6 @@ pub(crate) enum Halt {
     OutOfRange,
 }
 
-/// The greatest cost of a plan that is given.
-fn top_of(most: Option<u64>) -> u64
-    ensures { result ≡ top most }
-{
-    match most {
-        None => u64::MAX,
-        Some(most) => most,
-    }
-}
-
-/// The least bound of a prefix of this cost whose last state has no rank.
-fn least_bound<T: Copy>(search: &CostToGo<T>, cost: u128) -> u128
-    requires { cost + 2 ^ 64 < 2 ^ 128 }
-    ensures { result ≡ bound_at (next_key_of search.now) cost }
-{
-    let most = cost + (1 << 64);
-    match search.next() {
-        Some(next) => next.min(most),
-        None => most,
-    }
-}
-
-/// Whether the search knows more than the entry says, whose last state had no rank.
-fn is_outdated<T: Copy>(search: &CostToGo<T>, entry: Entry) -> bool
-    requires { entry.cost + 2 ^ 64 < 2 ^ 128 }
-    ensures { Decides result (IsOutdated (known_of search.now) entry) }
-{
-    entry.ring.0 < search.ranks() || entry.bound.0 < least_bound(search, entry.cost)
-}
-
 /// What is done with the first entry: it is opened where its last state is ranked; else more is learned of it, where
 /// more is known.
 fn act<S: Space, L: Ledger>(
@@ -84,11 +52,11 @@ fn act<S: Space, L: Ledger>(
     entry: Entry,
     steps: &mut Steps<L>,
 ) -> Result<Option<Halt>, SpaceFault>
-    requires ready { IsReady (S.view space.now) search.now places.old tree.old.items (entries_of queue.old) }
+    requires ready { IsReady (S.view space.now) search.now places.old.graph tree.old.items (entries_of queue.old) }
     requires some { 0 < length (entries_of queue.old) }
     requires first { entry ≡ slice_index_or (entries_of queue.old) 0 entry }
     requires order { All (IsNoLater entry) (entries_of queue.old) }
-    ensures ready { IsReady (S.view space.now) search.now places.new tree.new.items (entries_of queue.new) }
+    ensures ready { IsReady (S.view space.now) search.now places.new.graph tree.new.items (entries_of queue.new) }
     ensures ok { IfOk result (Acts (S.view space.now) search.now tree.old.items tree.new.items entry
         (entries_of queue.old) (entries_of queue.new)) }
     ensures err { OnErr result (prefixes tree.new.items (entries_of queue.new) ≡ prefixes tree.old.items
@@ -105,7 +73,16 @@ fn act<S: Space, L: Ledger>(
     if !is_outdated(search, entry) {
         return Ok(Some(Halt::Waits));
     }
-    learn(alloc, space, search, places, tree, queue, entry, steps)?;
+    places.ranks.learn(
+        alloc,
+        space,
+        search,
+        &places.graph,
+        tree,
+        queue,
+        entry,
+        steps,
+    )?;
     Ok(None)
 }
 
@@ -121,12 +98,12 @@ fn end<S: Space, L: Ledger>(
     queue: &mut Queue,
     steps: &mut Steps<L>,
 ) -> Result<Halt, SpaceFault>
-    requires ready { IsReady (S.view space.old) search.now places.now tree.now (entries_of queue.old) }
+    requires ready { IsReady (S.view space.old) search.now places.now.graph tree.now (entries_of queue.old) }
     requires within { within ≡ within_of search.now }
     requires right { Right (S.view space.old).system TopK most (prefixes tree.now (entries_of queue.old)) }
     requires dear { AllByRecursion (λ (k : Entry). top most < k.bound.0) (entries_of queue.old) }
     ensures system { (S.view space.new).system ≡ (S.view space.old).system }
-    ensures ready { IsReady (S.view space.new) search.now places.now tree.now (entries_of queue.new) }
+    ensures ready { IsReady (S.view space.new) search.now places.now.graph tree.now (entries_of queue.new) }
     ensures ok { IfOk result (HaltsAt (S.view space.old).system (known_of search.now) most tree.now tree.now
         (entries_of queue.old) (entries_of queue.new)) }
     ensures last { IfOk result (λ halt. CountsTurn steps.old steps.new (Some halt)) }
@@ -156,11 +133,11 @@ fn take_turn<S: Space, L: Ledger>(
     queue: &mut Queue,
     steps: &mut Steps<L>,
 ) -> Result<Option<Halt>, SpaceFault>
-    requires ready { IsReady (S.view space.old) search.now places.old tree.old.items (entries_of queue.old) }
+    requires ready { IsReady (S.view space.old) search.now places.old.graph tree.old.items (entries_of queue.old) }
     requires within { within ≡ within_of search.now }
     requires right { Right (S.view space.old).system TopK most (prefixes tree.old.items (entries_of queue.old)) }
     ensures system { (S.view space.new).system ≡ (S.view space.old).system }
-    ensures ready { IsReady (S.view space.new) search.now places.new tree.new.items (entries_of queue.new) }
+    ensures ready { IsReady (S.view space.new) search.now places.new.graph tree.new.items (entries_of queue.new) }
     ensures ok { IfOk result (TurnOf (S.view space.old).system (known_of search.now) most tree.old.items
         tree.new.items (entries_of queue.old) (entries_of queue.new)) }
     ensures one { IfOk result (CountsTurn steps.old steps.new) }
@@ -193,11 +170,11 @@ fn take_turns<S: Space, L: Ledger>(
     queue: &mut Queue,
     steps: &mut Steps<L>,
 ) -> Result<Halt, SpaceFault>
-    requires ready { IsReady (S.view space.old) search.now places.old tree.old.items (entries_of queue.old) }
+    requires ready { IsReady (S.view space.old) search.now places.old.graph tree.old.items (entries_of queue.old) }
     requires within { within ≡ within_of search.now }
     requires right { Right (S.view space.old).system TopK most (prefixes tree.old.items (entries_of queue.old)) }
     ensures system { (S.view space.new).system ≡ (S.view space.old).system }
-    ensures ready { IsReady (S.view space.new) search.now places.new tree.new.items (entries_of queue.new) }
+    ensures ready { IsReady (S.view space.new) search.now places.new.graph tree.new.items (entries_of queue.new) }
     ensures ok { IfOk result (HaltsAt (S.view space.old).system (known_of search.now) most tree.old.items
         tree.new.items (entries_of queue.old) (entries_of queue.new)) }
     ensures err { OnErr result (KeepsPending (S.view space.old).system most tree.old.items tree.new.items
@@ -212,26 +189,6 @@ fn take_turns<S: Space, L: Ledger>(
     }
 }
 
-/// The search goes on by one step, where something waits for a rank. What stands on it still stands, and one that
-/// succeeds leaves fewer to do.
-fn go_on<S: Space>(
-    alloc: Global,
-    space: &mut S,
-    search: &mut CostToGo<S::Set>,
-) -> Result<(), SpaceFault>
-    requires alone { IsAlone (S.view space.old) search.old }
-    requires more { IsSome (next_key_of search.old) }
-    ensures system { (S.view space.new).system ≡ (S.view space.old).system }
-    ensures within { within_of search.new ≡ within_of search.old }
-    ensures ready { (places : Places) (tree : List Node) (entries : List Entry)
-        → IsReady (S.view space.old) search.old places tree entries
-        → IsReady (S.view space.new) search.new places tree entries }
-    ensures fewer { let y = (S.view space.old).system in OnOk result (steps_left y search.new
-        < steps_left y search.old) }
-{
-    search.go_on(alloc, space)
-}
-
 /// The next plan out of the queue. Each entry that is taken is one step. Want of memory leaves what pends.
 pub(crate) fn walk<S: Space, L: Ledger>(
     alloc: Global,
@@ -244,11 +201,11 @@ pub(crate) fn walk<S: Space, L: Ledger>(
     queue: &mut Queue,
     steps: &mut Steps<L>,
 ) -> Result<Option<Plan>, Stop>
-    requires ready { IsReady (S.view space.old) search.old places.old tree.old.items (entries_of queue.old) }
+    requires ready { IsReady (S.view space.old) search.old places.old.graph tree.old.items (entries_of queue.old) }
     requires within { within ≡ within_of search.old }
     requires right { Right (S.view space.old).system TopK most (prefixes tree.old.items (entries_of queue.old)) }
     ensures system { (S.view space.new).system ≡ (S.view space.old).system }
-    ensures ready { IsReady (S.view space.new) search.new places.new tree.new.items (entries_of queue.new) }
+    ensures ready { IsReady (S.view space.new) search.new places.new.graph tree.new.items (entries_of queue.new) }
     ensures within { within ≡ within_of search.new }
     ensures right { Right (S.view space.old).system TopK most (prefixes tree.new.items (entries_of queue.new)) }
     ensures law { Turned (S.view space.old).system TopK most (Pending (S.view space.old).system TopK

@@ -7,9 +7,10 @@ use Rattle.prefix_tree.specs.Tree.{path_at}
 use Rattle.prefix_tree.specs.declared.state_graph.Move.{Move}
 use Rattle.prefix_tree.proofs.Paths.{grows_refl, grows_trans}
 use Rattle.prefix_tree.proofs.Going.{op_at, ops_few, ops_many}
-use Rattle.prefix_plans.specs.Children.{IsChild, AreChildren}
-use Rattle.prefix_plans.proofs.Growing.{entry_like, children_none, children_like, children_next}
-use Rattle.prefix_plans.proofs.Reaching.{skip_to}
+use Rattle.prefix_ends.specs.Children.{Added}
+use Rattle.prefix_ends.proofs.Growing.{entry_like}
+use Rattle.prefix_plans.specs.Children.{AreChildren}
+use Rattle.prefix_plans.proofs.Growing.{children_none, children_like, children_next, skip_to}
 use Rattle.prefix_plans.proofs.expand.add_all.Goals as goal
 
 pub moves-init : goal.moves-init
@@ -20,7 +21,6 @@ moves-init g c =
     let e = path_at a c.args.entry.node in
     record {
       grows = grows_refl v.system TopK (states_of c.args.graph.now) a c.requires.tree;
-      found = c.requires.found;
       children = (0, past_none (ops_of c.args.moves.now), omega arith, subst (AreChildren v f a e 0) (sym c.new-children.ensures.items) (children_none v f a e));
     }
 
@@ -54,19 +54,17 @@ moves-preserved g c =
     let i = c.moves.invariant in
     let m = c.add_child.ensures.grows in
     let old = c.moves.children.items in
-    let new = c.push_if.new.children.items in
-    let o = c.in_ok-child.child in
+    let new = c.add_child.new.children.items in
     let is = op_at c.args.moves.now d c.moves.step-index c.moves-test.true in
     let inside = ops_few c.args.moves.now c.moves.step-index c.moves-test.true in
     let one = c.requires.moves.each c.moves.step-index d c.moves-test.true in
     let known : get_or (ops_of c.args.moves.now) c.moves.step-index 0 < v.system.operators = subst (λ (k : ℕ). k < v.system.operators) is one.leads.number in
     let path = i.grows.paths c.args.entry.node c.requires.entry.inside in
-    let child = subst (λ (k : ℕ). IsChild v f t e k o) is (subst (λ (p : List ℕ). IsChild v f t p (get_or c.args.moves.now c.moves.step-index d).op o) path c.in_ok-child.ensures.child) in
+    let added = subst (λ (k : ℕ). Added v f t e k old new) is (subst (λ (p : List ℕ). Added v f t p (get_or c.args.moves.now c.moves.step-index d).op old new) path c.in_ok-add_child.ensures.added) in
     let sofar = skip_to v f ss a c.args.entry.node c.requires.tree c.requires.entry.inside moves c.requires.moves b old at i.children.0 op i.children.1 (i.children.1.above at (omega arith) inside) (never_falls ops c.requires.moves.rising at) i.children.3 in
     record {
       grows = grows_trans v.system TopK ss a b t i.grows m;
-      found = c.add_child.ensures.found;
-      children = (op + 1, past_next ops c.requires.moves.rising at inside, omega (arith, known), children_next v f t e op old new o (children_like v f b t m.longer m.paths e op old sofar) child c.in_ok-push_if.ensures);
+      children = (op + 1, past_next ops c.requires.moves.rising at inside, omega (arith, known), children_next v f t e op old new (children_like v f b t m.longer m.paths e op old sofar) added);
     }
 
 pub returns-clause-children : goal.returns-clause-children

@@ -3,7 +3,6 @@ use Rattle.space_api.proofs.Rising.{IsPast}
 use Rattle.symk_task.specs.declared.parts.Mode.TheVariants.{TopK}
 use Rattle.prefix_tree.specs.StateGraph.{states_of, ops_of}
 use Rattle.prefix_tree.specs.Tree.{Grows, path_at}
-use Rattle.prefix_plans.specs.Places.{AreFound}
 use Rattle.prefix_plans.specs.Children.{AreChildren}
 use Rattle.prefix_plans.proofs.expand.add_all.Given as goal
 
@@ -12,6 +11,5 @@ invariant-moves g l =
     let v = g.S.Space.view l.space in
     record {
       grows : Grows v.system TopK (states_of l.graph) l.fn.tree.items l.tree.items;
-      found : AreFound v l.search (states_of l.graph) l.ranks.items;
       children : (m : ℕ) × IsPast (ops_of l.moves) l.step-index m × (m ≤ v.system.operators) × AreChildren v l.search l.tree.items (path_at l.fn.tree.items l.entry.node) m l.children.items;
     }

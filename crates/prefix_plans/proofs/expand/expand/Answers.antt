@@ -5,7 +5,6 @@ use Rattle.prefix_tree.specs.declared.tree.Node.{Node}
 use Rattle.prefix_tree.proofs.Paths.{grows_refl, tree_prolonged}
 use Rattle.prefix_tree.proofs.Passing.{number_is}
 use Rattle.prefix_tree.proofs.Going.{end_within}
-use Rattle.prefix_plans.proofs.Finding.{found_prolonged}
 use Rattle.prefix_plans.proofs.expand.expand.Goals as goal
 
 pub find_moves-requires-clause-number : goal.find_moves-requires-clause-number
@@ -31,9 +30,3 @@ add_all-requires-clause-moves g c =
     let ss = states_of c.find_moves.new.graph in
     let all = c.find_moves.ensures.graph.moves c.node_at-here.result.state c.in-Some.moves.now c.in-Some.ensures.found in
     subst (λ (k : ℕ). AreMoves y ss (state_at ss k) c.in-Some.moves.now) (number_is nodes c.args.entry.node c.node_at-here.result c.requires.entry.inside is) all.1
-
-pub returns-in_err-find_moves-clause-found : goal.returns-in_err-find_moves-clause-found
-returns-in_err-find_moves-clause-found g c = found_prolonged (g.S.Space.view c.args.space.now) c.args.search.now (states_of c.args.places.now.graph) (states_of c.find_moves.new.graph) c.args.places.now.ranks.items c.find_moves.ensures.prolongs c.requires.found
-
-pub add_all-requires-clause-found : goal.add_all-requires-clause-found
-add_all-requires-clause-found g c = found_prolonged (g.S.Space.view c.args.space.now) c.args.search.now (states_of c.args.places.now.graph) (states_of c.find_moves.new.graph) c.args.places.now.ranks.items c.find_moves.ensures.prolongs c.requires.found

@@ -3,9 +3,9 @@ use Rattle.prefix_tree.specs.Entries.{entries_of}
 use Rattle.prefix_tree.specs.StateGraph.{states_of}
 use Rattle.prefix_tree.specs.Tree.{path_at}
 use Rattle.space_api.proofs.Trading.{valid_clash}
-use Rattle.prefix_plans.specs.Children.{IsEntry}
-use Rattle.prefix_plans.specs.Turned.{GoesOnFrom, IsDear}
-use Rattle.prefix_plans.proofs.Turning.{replaced_perm}
+use Rattle.prefix_ends.specs.Children.{IsEntry}
+use Rattle.prefix_ends.specs.Leading.{GoesOnFrom, IsDear}
+use Rattle.prefix_ends.proofs.Replacing.{replaced_perm}
 use Rattle.prefix_plans.proofs.Ranging.{keeps_all, ends_so, dear_inside, stops_so, keeps_on, each_on, fewer}
 use Rattle.prefix_plans.proofs.range.some_goes_on.Goals as goal
 

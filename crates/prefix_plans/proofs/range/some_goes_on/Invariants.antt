@@ -3,9 +3,9 @@ use Rattle.std.specs.List.{AllByRecursion}
 use Rattle.space_api.specs.View.{View}
 use Rattle.cost_to_go.specs.declared.search.CostToGo.{CostToGo}
 use Rattle.prefix_tree.specs.Entries.{entries_of}
-use Rattle.prefix_plans.specs.Children.{IsEntry}
+use Rattle.prefix_ends.specs.Children.{IsEntry}
+use Rattle.prefix_ends.specs.Leading.{IsDear}
 use Rattle.prefix_plans.specs.Standing.{KeepsPending}
-use Rattle.prefix_plans.specs.Turned.{IsDear}
 use Rattle.prefix_plans.proofs.range.some_goes_on.Given as goal
 
 abbrev pub invariant-entries : goal.invariant-entries

@@ -1,7 +1,8 @@
 use Rattle.prefix_tree.specs.Entries.{entries_of}
 use Rattle.prefix_tree.proofs.Entries.{prefixes_like}
-use Rattle.prefix_plans.specs.Children.{IsEntry}
-use Rattle.prefix_plans.proofs.Turning.{on_err, ready_grown, replaced_perm, open_ready, open_opens}
+use Rattle.prefix_ends.specs.Children.{IsEntry}
+use Rattle.prefix_ends.proofs.Replacing.{on_err, ready_grown, replaced_perm}
+use Rattle.prefix_plans.proofs.Turning.{open_ready, open_opens}
 use Rattle.prefix_plans.proofs.turn.open.Goals as goal
 
 pub returns-clause-ready : goal.returns-clause-ready
@@ -11,7 +12,7 @@ returns-clause-ready g c =
     let kids = c.in_ok-children.children.items in
     let new = entries_of c.replace.new.self in
     let perm = replaced_perm es (entries_of c.expand.new.queue) kids new c.args.entry c.expand.ensures.queue c.requires.first c.replace.ensures.replaces in
-    open_ready v c.args.search.now c.args.places.now c.expand.new.places c.args.tree.now.items c.expand.new.tree.items es kids new c.args.entry c.expand.ensures.graph c.expand.ensures.found c.expand.ensures.grows c.requires.ready c.requires.some c.requires.first c.requires.ranked c.requires.order c.in_ok-children.ensures.children perm
+    open_ready v c.args.search.now c.args.places.now.graph c.expand.new.places.graph c.args.tree.now.items c.expand.new.tree.items es kids new c.args.entry c.expand.ensures.graph c.expand.ensures.grows c.requires.ready c.requires.some c.requires.first c.requires.ranked c.requires.order c.in_ok-children.ensures.children perm
 
 pub returns-clause-ok : goal.returns-clause-ok
 returns-clause-ok g c =
@@ -20,10 +21,10 @@ returns-clause-ok g c =
     let kids = c.in_ok-children.children.items in
     let new = entries_of c.replace.new.self in
     let perm = replaced_perm es (entries_of c.expand.new.queue) kids new c.args.entry c.expand.ensures.queue c.requires.first c.replace.ensures.replaces in
-    open_opens v c.args.search.now c.args.places.now c.expand.new.places c.args.tree.now.items c.expand.new.tree.items es kids new c.args.entry c.expand.ensures.graph c.expand.ensures.found c.expand.ensures.grows c.requires.ready c.requires.some c.requires.first c.requires.ranked c.requires.order c.in_ok-children.ensures.children perm c.in_ok-plan.plan (rw c.deref.ensures.value at c.in_ok-plan.ensures)
+    open_opens v c.args.search.now c.args.places.now.graph c.expand.new.places.graph c.args.tree.now.items c.expand.new.tree.items es kids new c.args.entry c.expand.ensures.graph c.expand.ensures.grows c.requires.ready c.requires.some c.requires.first c.requires.ranked c.requires.order c.in_ok-children.ensures.children perm c.in_ok-plan.plan (rw c.deref.ensures.value at c.in_ok-plan.ensures)
 
 pub returns-in_err-children-clause-ready : goal.returns-in_err-children-clause-ready
-returns-in_err-children-clause-ready g c = rw c.expand.ensures.queue (ready_grown (g.S.Space.view c.args.space.now) c.args.search.now c.args.places.now c.expand.new.places c.args.tree.now.items c.expand.new.tree.items (entries_of c.args.queue.now) c.expand.ensures.graph c.expand.ensures.found c.expand.ensures.grows c.requires.ready)
+returns-in_err-children-clause-ready g c = rw c.expand.ensures.queue (ready_grown (g.S.Space.view c.args.space.now) c.args.search.now c.args.places.now.graph c.expand.new.places.graph c.args.tree.now.items c.expand.new.tree.items (entries_of c.args.queue.now) c.expand.ensures.graph c.expand.ensures.grows c.requires.ready)
 
 pub returns-in_err-children-clause-err : goal.returns-in_err-children-clause-err
 returns-in_err-children-clause-err g c = on_err c.from_residual-in_err-children.result (rw c.expand.ensures.queue (prefixes_like (IsEntry (g.S.Space.view c.args.space.now) c.args.search.now c.args.tree.now.items) c.args.tree.now.items c.expand.new.tree.items (entries_of c.args.queue.now) (λ k w. w.inside) c.expand.ensures.grows.paths c.requires.ready.each))

@@ -1,7 +1,7 @@
 use Rattle.std.proofs.Common.{◌<◌, ◌≤◌, ◌^◌, arith}
 use Rattle.lazy_plans.specs.Law.{top}
 use Rattle.prefix_tree.specs.Entries.{entries_of}
-use Rattle.prefix_plans.proofs.Turning.{on_err}
+use Rattle.prefix_ends.proofs.Replacing.{on_err}
 use Rattle.prefix_plans.proofs.Walking.{acts_ok}
 use Rattle.prefix_plans.proofs.walk.take_turn.Goals as goal
 

@@ -1,14 +1,14 @@
-use Rattle.std.proofs.Common.{◌∙◌, Some, None, refl, sym, subst}
+use Rattle.std.proofs.Common.{◌∙◌, None, refl, sym, subst}
 use Rattle.task_system.specs.System.{System}
 use Rattle.symk_task.specs.declared.parts.Mode.TheVariants.{TopK}
 use Rattle.prefix_laws.specs.Queue.{Right}
 use Rattle.prefix_tree.specs.Entries.{entries_of, prefixes}
-use Rattle.prefix_plans.specs.Left.{known_of}
+use Rattle.prefix_ends.specs.Left.{known_of}
+use Rattle.prefix_ends.proofs.Replacing.{on_err}
 use Rattle.prefix_plans.specs.Standing.{KeepsPending}
 use Rattle.prefix_plans.specs.Turned.{TurnOf}
 use Rattle.prefix_plans.proofs.Ranging.{keeps_all}
-use Rattle.prefix_plans.proofs.Turning.{on_err}
-use Rattle.prefix_plans.proofs.Walking.{keeps_trans, halts_after}
+use Rattle.prefix_plans.proofs.Walking.{keeps_trans, halts_same}
 use Rattle.prefix_plans.proofs.walk.take_turns.Goals as goal
 
 pub turns-init : goal.turns-init
@@ -39,8 +39,7 @@ turns-smaller g c =
 pub returns-in-Some-clause-ok : goal.returns-in-Some-clause-ok
 returns-in-Some-clause-ok g c =
     let y = (g.S.Space.view c.args.space.now).system in
-    let t = subst (λ (x : System). TurnOf x (known_of c.args.search.now) c.args.most c.turns.tree.items c.take_turn.new.tree.items (entries_of c.turns.queue) (entries_of c.take_turn.new.queue) (Some c.in-Some.halt)) c.turns.invariant.system (rw c.in-Some.is at c.in_ok-halt.ensures.ok) in
-    halts_after y (known_of c.args.search.now) c.args.most c.args.tree.now.items c.turns.tree.items c.take_turn.new.tree.items (entries_of c.args.queue.now) (entries_of c.turns.queue) (entries_of c.take_turn.new.queue) c.turns.invariant.keeps c.in-Some.halt t
+    halts_same (g.S.Space.view c.turns.space).system y (known_of c.args.search.now) c.args.most c.args.tree.now.items c.turns.tree.items c.take_turn.new.tree.items (entries_of c.args.queue.now) (entries_of c.turns.queue) (entries_of c.take_turn.new.queue) c.turns.invariant.system c.turns.invariant.keeps c.in-Some.halt (rw c.in-Some.is at c.in_ok-halt.ensures.ok)
 
 pub returns-in_err-halt-clause-err : goal.returns-in_err-halt-clause-err
 returns-in_err-halt-clause-err g c =

@@ -7,11 +7,11 @@ use Rattle.prefix_tree.specs.Entries.{entries_of, prefixes}
 use Rattle.prefix_tree.specs.declared.tree.Node.{Node}
 use Rattle.prefix_tree.specs.declared.entry.Entry.{Entry}
 use Rattle.symk_task.specs.declared.parts.Mode.TheVariants.{TopK}
+use Rattle.prefix_ends.proofs.First.{ready_first, prefixes_first}
+use Rattle.prefix_ends.proofs.Moving.{alone_fresh}
 use Rattle.prefix_laws.specs.Owing.{Owes}
-use Rattle.prefix_plans.specs.declared.places.Places.{Places}
 use Rattle.prefix_plans.specs.Sound.{IsSound}
 use Rattle.prefix_plans.proofs.First.{begun, begun_all}
-use Rattle.prefix_plans.proofs.Moving.{alone_fresh}
 use Rattle.prefix_plans.proofs.engine.PrefixPlans.begin.Goals as goal
 
 pub number_of_start-requires : goal.number_of_start-requires
@@ -27,12 +27,14 @@ returns-clause-lawful g c =
     let n : Node = record { parent = 0; op = 0; state = c.in_ok-start.start } in
     let e : Entry = record { bound = record { 0 = 0 }; cost = 0; ring = record { 0 = 0 }; node = 0; settled = false; at_goal = c.in_ok-at_goal.at_goal } in
     let es = entries_of c.push-2.new.self in
-    let m : Places = record { graph = c.number_of_start.new.graph; ranks = c.new-2.result } in
+    let m = c.number_of_start.new.graph in
     let tree : c.push.new.self.items ≡ n ∷ [] = c.in_ok-push.ensures.items ∙ ap (λ (l : List Node). l ++ n ∷ []) c.new-tree.ensures.items in
     let put : IsPermutation (e ∷ []) es = subst (λ (l : List Entry). IsPermutation (e ∷ l) es) c.new-queue.ensures c.in_ok-push-2.ensures.ok in
     let is = c.in_ok-start.ensures.is in
     let goal = subst (λ (s : State). Decides c.in_ok-at_goal.at_goal (IsTrue (v.system.goal s))) (c.state.ensures ∙ is) c.in_ok-at_goal.ensures in
-    subst (λ (l : List Node). IsSound v b inner m l c.args.most es None None) (sym tree) (begun v.system v b inner m n e es refl alone (sym c.in_ok-search.ensures.within) c.number_of_start.ensures.graph c.new-2.ensures.items c.in_ok-start.ensures.within is put refl refl refl refl refl goal c.args.most)
+    let ready = ready_first v b m n e es alone c.number_of_start.ensures.graph c.in_ok-start.ensures.within is put refl refl refl refl refl goal in
+    let first = prefixes_first v b m n e es alone c.number_of_start.ensures.graph c.in_ok-start.ensures.within is put refl refl refl refl refl goal in
+    subst (λ (l : List Node). IsSound v b inner m l c.args.most es None None) (sym tree) (begun v (n ∷ []) es first b inner m (sym c.in_ok-search.ensures.within) ready c.args.most)
 
 pub returns-clause-all : goal.returns-clause-all
 returns-clause-all g c p i =
@@ -44,13 +46,13 @@ returns-clause-all g c p i =
     let n : Node = record { parent = 0; op = 0; state = c.in_ok-start.start } in
     let e : Entry = record { bound = record { 0 = 0 }; cost = 0; ring = record { 0 = 0 }; node = 0; settled = false; at_goal = c.in_ok-at_goal.at_goal } in
     let es = entries_of c.push-2.new.self in
-    let m : Places = record { graph = c.number_of_start.new.graph; ranks = c.new-2.result } in
+    let m = c.number_of_start.new.graph in
     let tree : c.push.new.self.items ≡ n ∷ [] = c.in_ok-push.ensures.items ∙ ap (λ (l : List Node). l ++ n ∷ []) c.new-tree.ensures.items in
     let put : IsPermutation (e ∷ []) es = subst (λ (l : List Entry). IsPermutation (e ∷ l) es) c.new-queue.ensures c.in_ok-push-2.ensures.ok in
     let is = c.in_ok-start.ensures.is in
     let goal = subst (λ (s : State). Decides c.in_ok-at_goal.at_goal (IsTrue (v.system.goal s))) (c.state.ensures ∙ is) c.in_ok-at_goal.ensures in
-    let same = (kept_made c.in_ok-search.ensures.trades).system in
-    subst (λ (l : List Node). Owes v.system TopK (prefixes l es) None p) (sym tree) (begun_all (view c.args.space).system v b inner m n e es same alone (sym c.in_ok-search.ensures.within) c.number_of_start.ensures.graph c.new-2.ensures.items c.in_ok-start.ensures.within is put refl refl refl refl refl goal p i)
+    let first = prefixes_first v b m n e es alone c.number_of_start.ensures.graph c.in_ok-start.ensures.within is put refl refl refl refl refl goal in
+    subst (λ (l : List Node). Owes v.system TopK (prefixes l es) None p) (sym tree) (begun_all v (n ∷ []) es first (view c.args.space).system (kept_made c.in_ok-search.ensures.trades).system p i)
 
 pub goal_at-requires : goal.goal_at-requires
 goal_at-requires g c = ([], sym (c.state.ensures ∙ c.in_ok-start.ensures.is))

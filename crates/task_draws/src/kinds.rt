@@ -38,7 +38,7 @@ impl Kind {
         }
     }
 
-    /// The value that is not the default of a derived variable.
+    /// Another value than the one that the task states: of a derived variable the one that is not its default.
     pub fn other(self) -> u32 {
         1u32.saturating_sub(self.initial)
     }
@@ -83,6 +83,13 @@ impl Kinds {
         Ok(Kinds { items, bases })
     }
 
+    /// How many are base variables.
+    pub fn bases(&self) -> u32
+        ensures { result ≡ self.now.bases }
+    {
+        self.bases
+    }
+
     /// The variables, in order.
     pub fn as_slice(&self) -> &[Kind]
         ensures value { result.now ≡ self.now.items.items }
@@ -114,6 +121,12 @@ impl Kinds {
     /// The number of a base variable, and its kind.
     pub fn drawn_base(&self, random: &mut Random) -> (u32, Kind) {
         let var = random.below(self.bases);
+        (var, self.items[var as usize])
+    }
+
+    /// The number of the `i`-th base variable, counted round and round, and its kind.
+    pub fn base_at(&self, i: u32) -> (u32, Kind) {
+        let var = i % self.bases;
         (var, self.items[var as usize])
     }
 

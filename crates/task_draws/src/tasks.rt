@@ -94,7 +94,7 @@ fn effect(alloc: Global, random: &mut Random, kinds: &Kinds) -> Result<Effect, M
 }
 
 /// 1 or 2 rules for each derived variable.
-fn rules(alloc: Global, random: &mut Random, kinds: &Kinds) -> Result<List<Rule>, Memory> {
+pub fn rules(alloc: Global, random: &mut Random, kinds: &Kinds) -> Result<List<Rule>, Memory> {
     let mut rules = Vec::new(alloc);
     let all = kinds.as_slice();
     for i in 0..all.len() {

@@ -68,4 +68,23 @@ impl Queue {
             let _ = self.heap.append(&mut others);
         }
     }
+
+    /// Puts these entries in. It takes no memory.
+    pub fn add(&mut self, others: Vec<Entry>)
+        requires room { HasRoom self.old (length others.items) }
+        ensures { IsPermutation (entries_of self.old ++ others.items) (entries_of self.new) }
+    {
+        let mut others = BinaryHeap::from(others);
+        let _ = self.heap.append(&mut others);
+    }
+
+    /// Puts all entries of the other queue in, which has none then. Want of memory leaves both.
+    pub fn join(&mut self, other: &mut Queue) -> Result<(), AllocError>
+        ensures ok { OnOk result (IsPermutation (entries_of self.old ++ entries_of other.old) (entries_of self.new)) }
+        ensures none { OnOk result (entries_of other.new ≡ []) }
+        ensures err { OnErr result (entries_of self.new ≡ entries_of self.old) }
+        ensures same { OnErr result (entries_of other.new ≡ entries_of other.old) }
+    {
+        self.heap.append(&mut other.heap)
+    }
 }

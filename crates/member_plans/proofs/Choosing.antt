@@ -1,6 +1,6 @@
 -- The children of a prefix by some of the moves, operator after operator.
 use Rattle.std.proofs.Common.{◌≡◌, ℕ, ◌+◌, ◌<◌, ◌≤◌, ◌⊎◌, inl, inr, Bool, true, false, not, IsTrue, IsFalse, List, [], ◌∷◌, ◌++◌, length, get_or, refl, sym, subst, arith}
-use Rattle.std.specs.List.{AllByRecursion}
+use Rattle.std.specs.List.Sorted.{IsPermutation}
 use Rattle.space_api.proofs.Rising.{IsPast, past_gap}
 use Rattle.symk_task.specs.declared.parts.Mode.TheVariants.{TopK}
 use Rattle.task_system.specs.System.{State, Listed}
@@ -20,6 +20,7 @@ use Rattle.member_laws.proofs.Reaching.{all_stubborn}
 use Rattle.prefix_ends.specs.Children.{IsNew, Added}
 use Rattle.prefix_ends.proofs.Growing.{each_new_like}
 use Rattle.prefix_ends.proofs.Reaching.{lost}
+use Rattle.member_plans.proofs.Beside.{join_each, permuted_each, permuted_prefixes, permuted_listed}
 use Rattle.member_plans.specs.Moves.{is_taken}
 use Rattle.member_plans.specs.Children.{AreChosen, AreEnough}
 
@@ -28,10 +29,6 @@ below_next op n lt = grind arith
 
 before_or : (a b : ℕ) → (a < b) ⊎ (b ≤ a)
 before_or a b = grind arith
-
-join_each : {X : Type 0} (P : X → Type 0) (xs ys : List X) → AllByRecursion P xs → AllByRecursion P ys → AllByRecursion P (xs ++ ys)
-join_each P [] ys a b = b
-join_each P (x ∷ xs) ys a b = (a.0, join_each P xs ys a.1 b)
 
 listed_left : (nodes : List Node) (xs ys : List Entry) (p : List ℕ) → Listed (prefixes nodes xs) p → Listed (prefixes nodes (xs ++ ys)) p
 listed_left nodes [] ys p l = absurd l
@@ -122,3 +119,17 @@ module _ {Set : Type 0} (v : View Set) (f : CostToGo Set) (nodes : List Node) (e
       ];
     };
   }
+
+-- in another order they are enough too
+pub enough_permuted : {Set : Type 0} (v : View Set) (f : CostToGo Set) (nodes : List Node) (e : List ℕ) (s : State) (kids new : List Entry) → IsPermutation kids new → AreEnough v f nodes e s kids → AreEnough v f nodes e s new
+enough_permuted v f nodes e s kids new perm z = record {
+  set = z.set;
+  stubborn = z.stubborn;
+  chosen = record {
+    each = permuted_each (IsNew v f nodes) kids new perm z.chosen.each;
+    all = λ op lt on. elim (z.chosen.all op lt on) [
+      | inl none ↦ inl none
+      | inr l ↦ inr (permuted_listed (prefixes nodes kids) (prefixes nodes new) (e ++ op ∷ []) (permuted_prefixes nodes kids new perm) l)
+    ];
+  };
+}

@@ -5,8 +5,8 @@ use Rattle.space_api.specs.View.{View}
 use Rattle.lazy_plans.specs.Law.{Stops, NoneLeft, top}
 use Rattle.lazy_plans.specs.declared.stop.Stop.TheVariants.{CostRange}
 use Rattle.cost_to_go.specs.declared.search.CostToGo.{CostToGo}
-use Rattle.prefix_tree.specs.Order.{IsNoLater}
 use Rattle.prefix_tree.specs.Tree.{path_at}
+use Rattle.prefix_tree.specs.Entries.{entries_of}
 use Rattle.prefix_tree.specs.declared.entry.Entry.{Entry}
 use Rattle.member_laws.specs.Nodes.{IsJoined, PendsNode}
 use Rattle.member_plans.specs.Left.{TellsLeft}
@@ -28,11 +28,11 @@ module _ {Set : Type 0} (v : View Set) (f : CostToGo Set) (most : Option ℕ) (x
   pub joined_now : b ≡ true → IsJoined v.system (opened (retold x o)) (path_at x.tree.items e.node)
   joined_now on = subst (λ (os : List (List ℕ)). IsJoined v.system os (path_at x.tree.items e.node)) (sym (retold_opened v f most x o same keys z)) (subst (IsMet v.system (opened x) x.tree.items e) on met)
 
-  pub due_now : b ≡ false → 0 < length (waiting x) → e ≡ slice_index_or (waiting x) 0 e → All (IsNoLater e) (waiting x) → e.bound.0 ≤ top most → IsTrue e.at_goal → IsDue v.system most (retold x o) e
-  due_now off some first order cheap plan = record {
+  pub due_now : b ≡ false → 0 < length (entries_of x.queue) → e ≡ slice_index_or (entries_of x.queue) 0 e → All (λ k. e.bound.0 ≤ k.bound.0) (waiting x) → e.bound.0 ≤ top most → IsTrue e.at_goal → IsDue v.system most (retold x o) e
+  due_now off some first least cheap plan = record {
     some = some;
     first = first;
-    order = order;
+    least = least;
     cheap = cheap;
     plan = plan;
     fresh = subst (λ (os : List (List ℕ)). ¬ IsJoined v.system os (path_at x.tree.items e.node)) (sym (retold_opened v f most x o same keys z)) ((subst (IsMet v.system (opened x) x.tree.items e) off met) plan);

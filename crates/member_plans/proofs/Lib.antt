@@ -1,3 +1,4 @@
+pub mod Beside
 pub mod Choosing
 pub mod Meeting
 pub mod Table

@@ -19,12 +19,13 @@ use Rattle.member_plans.specs.Children.{AreEnough}
 use Rattle.member_plans.specs.Opened.{places_of, keys_of, opened_of, AreOpened, AddsKey, AddsPlace}
 use Rattle.member_plans.specs.Front.{waiting, places, opened, IsSteady, Follows}
 use Rattle.member_plans.specs.declared.front.Front.{Front}
+use Rattle.member_plans.specs.declared.given.Given.{Given}
 use Rattle.member_plans.specs.declared.opened.Opened.{Opened}
 use Rattle.member_plans.proofs.Turning.{grown_ready, grown_table, grown_opened, grown_covers, opened_ready, opened_table, opened_is, opened_covers, pass_same, stays_same}
 
 -- what was opened is told otherwise
 abbrev pub retold : Front → Opened → Front
-retold x o = record { graph = x.graph; moves = x.moves; tree = x.tree; queue = x.queue; opened = o }
+retold x o = record { graph = x.graph; moves = x.moves; tree = x.tree; queue = x.queue; other = x.other; is_late = x.is_late; given = x.given; opened = o }
 
 module _ {Set : Type 0} (v : View Set) (f : CostToGo Set) (most : Option ℕ) (x : Front) (o : Opened) (same : places_of o ≡ places x) (keys : keys_of o ≡ keys_of x.opened) (z : IsSteady v f most x) where
   pub retold_steady : IsSteady v f most (retold x o)
@@ -44,6 +45,13 @@ module _ {Set : Type 0} (v : View Set) (f : CostToGo Set) (most : Option ℕ) (x
       at_most : (a b : ℕ) → b ≡ a → a ≤ b
       at_most a b e = omega (arith, e)
 
+-- more is known of the plans that were given
+abbrev pub regiven : Front → Given → Front
+regiven x g = record { graph = x.graph; moves = x.moves; tree = x.tree; queue = x.queue; other = x.other; is_late = x.is_late; given = g; opened = x.opened }
+
+pub regiven_steady : {Set : Type 0} (v : View Set) (f : CostToGo Set) (most : Option ℕ) (x : Front) (g : Given) → IsSteady v f most x → IsSteady v f most (regiven x g)
+regiven_steady v f most x g z = record { ready = z.ready; serves = z.serves; table = z.table; covers = z.covers }
+
 -- the tree grew from x to w
 module _ {Set : Type 0} (v : View Set) (f : CostToGo Set) (most : Option ℕ) (x w : Front) (z : IsSteady v f most x) (graph : IsStateGraph v.system w.graph) (serves : Serves w.moves v.system) (g : Grows v.system TopK (states_of w.graph) x.tree.items w.tree.items) (queue : waiting w ≡ waiting x) (same : w.opened ≡ x.opened) where
   pub grown_steady : IsSteady v f most w
@@ -62,9 +70,9 @@ module _ {Set : Type 0} (v : View Set) (f : CostToGo Set) (most : Option ℕ) (x
 
   -- and the first entry gave way to its children
   module _ (e : Entry) (some : 0 < length (waiting x)) (first : e ≡ slice_index_or (waiting x) 0 e) (cheap : e.bound.0 ≤ top most)
-      (kids : List Entry) (enough : AreEnough v f w.tree.items (path_at x.tree.items e.node) (end_at (states_of w.graph) x.tree.items e.node) kids) (q : Queue) (perm : IsPermutation (waiting x ++ kids) (e ∷ entries_of q)) (o : Opened) (added : AddsPlace w.tree.items e.node e.at_goal w.opened o) where
+      (kids : List Entry) (enough : AreEnough v f w.tree.items (path_at x.tree.items e.node) (end_at (states_of w.graph) x.tree.items e.node) kids) (q r : Queue) (perm : IsPermutation (waiting x ++ kids) (e ∷ (entries_of q ++ entries_of r))) (o : Opened) (added : AddsPlace w.tree.items e.node e.at_goal w.opened o) where
     abbrev after : Front
-    after = record { graph = w.graph; moves = w.moves; tree = w.tree; queue = q; opened = o }
+    after = record { graph = w.graph; moves = w.moves; tree = w.tree; queue = q; other = r; is_late = w.is_late; given = w.given; opened = o }
 
     place : places_of o ≡ places x ++ e.node ∷ []
     place = added.places ∙ ap (λ (is : List ℕ). is ++ e.node ∷ []) grown_places
@@ -74,14 +82,14 @@ module _ {Set : Type 0} (v : View Set) (f : CostToGo Set) (most : Option ℕ) (x
 
     pub open_steady : IsSteady v f most after
     open_steady = record {
-      ready = opened_ready v f most x.graph w.graph x.tree.items w.tree.items (waiting x) (places x) (keys_of x.opened) graph g z.ready z.table e some first cheap z.covers kids (entries_of q) (keys_of o) enough perm put;
+      ready = opened_ready v f most x.graph w.graph x.tree.items w.tree.items (waiting x) (places x) (keys_of x.opened) graph g z.ready z.table e some first cheap z.covers kids (entries_of q ++ entries_of r) (keys_of o) enough perm put;
       serves = serves;
-      table = subst (λ (is : List ℕ). AreOpened v.system most w.tree.items is (keys_of o)) (sym place) (opened_table v f most x.graph w.graph x.tree.items w.tree.items (waiting x) (places x) (keys_of x.opened) graph g z.ready z.table e some first cheap z.covers kids (entries_of q) (keys_of o) enough perm put);
-      covers = subst (λ (is : List ℕ). Covers v.system (opened_of w.tree.items is) (prefixes w.tree.items (entries_of q))) (sym place) (opened_covers v f most x.graph w.graph x.tree.items w.tree.items (waiting x) (places x) (keys_of x.opened) graph g z.ready z.table e some first cheap z.covers kids (entries_of q) (keys_of o) enough perm put);
+      table = subst (λ (is : List ℕ). AreOpened v.system most w.tree.items is (keys_of o)) (sym place) (opened_table v f most x.graph w.graph x.tree.items w.tree.items (waiting x) (places x) (keys_of x.opened) graph g z.ready z.table e some first cheap z.covers kids (entries_of q ++ entries_of r) (keys_of o) enough perm put);
+      covers = subst (λ (is : List ℕ). Covers v.system (opened_of w.tree.items is) (prefixes w.tree.items (entries_of q ++ entries_of r))) (sym place) (opened_covers v f most x.graph w.graph x.tree.items w.tree.items (waiting x) (places x) (keys_of x.opened) graph g z.ready z.table e some first cheap z.covers kids (entries_of q ++ entries_of r) (keys_of o) enough perm put);
     }
 
     pub open_opened : opened after ≡ opened x ++ path_at x.tree.items e.node ∷ []
-    open_opened = ap (opened_of w.tree.items) place ∙ opened_is v f most x.graph w.graph x.tree.items w.tree.items (waiting x) (places x) (keys_of x.opened) graph g z.ready z.table e some first cheap z.covers kids (entries_of q) (keys_of o) enough perm put
+    open_opened = ap (opened_of w.tree.items) place ∙ opened_is v f most x.graph w.graph x.tree.items w.tree.items (waiting x) (places x) (keys_of x.opened) graph g z.ready z.table e some first cheap z.covers kids (entries_of q ++ entries_of r) (keys_of o) enough perm put
 
     pub open_more : length (places x) < length (places_of o)
     open_more = longer (length (places x)) (length (places_of o)) (ap (λ (is : List ℕ). length is) place ∙ length-append (places x) (e.node ∷ []))

@@ -12,7 +12,6 @@ use Rattle.space_api.specs.Listing.{ListsReached}
 use Rattle.lazy_plans.specs.Law.{Stays, top}
 use Rattle.cost_to_go.specs.declared.search.CostToGo.{CostToGo}
 use Rattle.prefix_laws.specs.Queue.{Replaced}
-use Rattle.prefix_tree.specs.Order.{IsNoLater}
 use Rattle.prefix_tree.specs.StateGraph.{states_of, state_at, IsStateGraph}
 use Rattle.prefix_tree.specs.Tree.{Grows, path_at, end_at}
 use Rattle.prefix_tree.specs.Entries.{prefixes}
@@ -27,13 +26,14 @@ use Rattle.prefix_ends.specs.Children.{IsEntry, IsOutdated, outdated}
 use Rattle.prefix_ends.specs.Standing.{IsReady, Learned, listed_of, all_outdated}
 use Rattle.prefix_ends.proofs.Dating.{outdated_sum, unranked_dated}
 use Rattle.prefix_ends.proofs.Growing.{each_like}
-use Rattle.prefix_ends.proofs.Replacing.{each_of_new, bounds_first, ready_grown, fresh_of}
+use Rattle.prefix_ends.proofs.Replacing.{each_of_new, ready_grown, fresh_of}
 use Rattle.member_laws.specs.Nodes.{IsJoined, Covers, PendsNode, MetOrNone}
 use Rattle.member_laws.specs.Opening.{Opening, ReachedBelow}
 use Rattle.member_laws.proofs.Covering as covering
 use Rattle.member_laws.proofs.Pending as pending
 use Rattle.member_plans.specs.Children.{AreEnough}
 use Rattle.member_plans.specs.Opened.{opened_of, AreOpened, AddsKey}
+use Rattle.member_plans.proofs.Beside.{bounds_least}
 use Rattle.member_plans.proofs.Table.{opened_last, opened_like, table_inside, table_like, table_put}
 
 -- How many entries wait, and how many of them are out of date.
@@ -159,10 +159,10 @@ stays_same y old new is = subst (λ (o : List (List ℕ)). Stays (PendsNode y ol
 
 -- it is a plan that is due
 pub give_gives : {Set : Type 0} (v : View Set) (f : CostToGo Set) (m : StateGraph) (nodes : List Node) (es : List Entry) (most : Option ℕ) (e : Entry) (old new : List (List ℕ)) → ListsReached v.system → IsReady v f m nodes es → Covers v.system old (prefixes nodes es)
-    → 0 < length es → e ≡ slice_index_or es 0 e → All (IsNoLater e) es → e.bound.0 ≤ top most → IsTrue e.at_goal → ¬ IsJoined v.system old (path_at nodes e.node) → new ≡ old ++ path_at nodes e.node ∷ []
+    → 0 < length es → e ≡ slice_index_or es 0 e → All (λ k. e.bound.0 ≤ k.bound.0) es → e.bound.0 ≤ top most → IsTrue e.at_goal → ¬ IsJoined v.system old (path_at nodes e.node) → new ≡ old ++ path_at nodes e.node ∷ []
     → GaveMember v.system most (PendsNode v.system old) (PendsNode v.system new) (path_at nodes e.node)
-give_gives v f m nodes es most e old new lists z covers some first order cheap on free is =
+give_gives v f m nodes es most e old new lists z covers some first least cheap on free is =
     let k = first_is (IsEntry v f nodes) es e some first z.each in
     let le : cost_of v.system (path_at nodes e.node) ≤ e.bound.0 = omega (arith, k.cost, k.least) in
     subst (λ (o : List (List ℕ)). GaveMember v.system most (PendsNode v.system old) (PendsNode v.system o) (path_at nodes e.node)) (sym is)
-    (pending.opening_gives v.system old (prefixes nodes es) lists covers most e.bound.0 (path_at nodes e.node) (bounds_first v f nodes e es z.each (recursion_from_All (IsNoLater e) es order)) (k.plan.0 on) free le (omega (arith, le, cheap)))
+    (pending.opening_gives v.system old (prefixes nodes es) lists covers most e.bound.0 (path_at nodes e.node) (bounds_least v f nodes e es z.each (recursion_from_All (λ k. e.bound.0 ≤ k.bound.0) es least)) (k.plan.0 on) free le (omega (arith, le, cheap)))

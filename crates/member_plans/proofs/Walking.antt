@@ -1,6 +1,7 @@
 -- How turns stop, and turns one after the other.
-use Rattle.std.proofs.Common.{◌≡◌, ℕ, ◌+◌, ◌-◌, ◌<◌, ◌≤◌, ◌^◌, List, [], length, Option, Some, None, sym, ◌∙◌, subst, arith}
+use Rattle.std.proofs.Common.{◌≡◌, ℕ, ◌+◌, ◌-◌, ◌<◌, ◌≤◌, ◌^◌, List, [], ◌++◌, length, Option, Some, None, Result, Ok, Err, IfOk, sym, ◌∙◌, subst, arith}
 use Rattle.std.specs.List.{AllByRecursion}
+use Rattle.std.specs.List.Sorted.{IsPermutation}
 use Rattle.task_system.specs.System.{System}
 use Rattle.space_api.specs.View.{View}
 use Rattle.space_api.specs.Frames.{Stays as SameSets}
@@ -20,14 +21,15 @@ use Rattle.member_laws.specs.Nodes.{Covers, PendsNode}
 use Rattle.member_laws.proofs.Pending as pending
 use Rattle.member_plans.specs.Moves.{Serves}
 use Rattle.member_plans.specs.Opened.{keys_of, AreOpened}
-use Rattle.member_plans.specs.Front.{waiting, places, opened, IsSteady, SamePends, Follows, HaltsAt}
+use Rattle.member_plans.specs.Front.{waiting, places, opened, IsSteady, SamePends, Follows, Rearranged, HaltsAt, TurnOf}
 use Rattle.member_plans.specs.declared.front.Front.{Front}
+use Rattle.member_plans.proofs.Beside.{beside_none, permuted_each, permuted_covers, permuted_work}
 use Rattle.member_plans.specs.declared.walk.Halt.{Halt}
 use Rattle.member_plans.specs.declared.walk.Halt.TheVariants.{Due, Opens, Waits, Ends, OutOfRange}
 
--- the queue alone is another
-abbrev pub requeued : Front → Queue → Front
-requeued x q = record { graph = x.graph; moves = x.moves; tree = x.tree; queue = q; opened = x.opened }
+-- the queues alone are others
+abbrev pub requeued : Front → Queue → Queue → Front
+requeued x q o = record { graph = x.graph; moves = x.moves; tree = x.tree; queue = q; other = o; is_late = x.is_late; given = x.given; opened = x.opened }
 
 pub same_self : (y : System) (x : Front) → SamePends y x x
 same_self y x p = ((λ h. h), (λ h. h))
@@ -35,8 +37,8 @@ same_self y x p = ((λ h. h), (λ h. h))
 pub follows_self : {Set : Type 0} (v : View Set) (f : CostToGo Set) (most : Option ℕ) (x : Front) → IsSteady v f most x → Follows v f most x x
 follows_self v f most x z = record { steady = z; same = same_self v.system x; more = omega arith }
 
-pub follows_requeued : {Set : Type 0} (v : View Set) (f : CostToGo Set) (most : Option ℕ) (x : Front) (q : Queue) → IsSteady v f most x → AllByRecursion (IsEntry v f x.tree.items) (entries_of q) → Covers v.system (opened x) (prefixes x.tree.items (entries_of q)) → Follows v f most x (requeued x q)
-follows_requeued v f most x q z each covers = record {
+pub follows_requeued : {Set : Type 0} (v : View Set) (f : CostToGo Set) (most : Option ℕ) (x : Front) (q o : Queue) → IsSteady v f most x → AllByRecursion (IsEntry v f x.tree.items) (entries_of q ++ entries_of o) → Covers v.system (opened x) (prefixes x.tree.items (entries_of q ++ entries_of o)) → Follows v f most x (requeued x q o)
+follows_requeued v f most x q o z each covers = record {
   steady = record {
     ready = record { alone = z.ready.alone; graph = z.ready.graph; tree = z.ready.tree; each = each };
     serves = z.serves;
@@ -46,6 +48,10 @@ follows_requeued v f most x q z each covers = record {
   same = same_self v.system x;
   more = omega arith;
 }
+
+-- the queues have the entries that they had
+pub kept_follows : {Set : Type 0} (v : View Set) (f : CostToGo Set) (most : Option ℕ) (x : Front) (q o : Queue) → IsSteady v f most x → entries_of q ++ entries_of o ≡ waiting x → Follows v f most x (requeued x q o)
+kept_follows v f most x q o z same = follows_requeued v f most x q o z (subst (AllByRecursion (IsEntry v f x.tree.items)) (sym same) z.ready.each) (subst (λ (es : List Entry). Covers v.system (opened x) (prefixes x.tree.items es)) (sym same) z.covers)
 
 -- the same, as the search and the space go on
 pub steady_on : {Set : Type 0} (v w : View Set) (f h : CostToGo Set) (most : Option ℕ) (x : Front) → w.system ≡ v.system → IsReady w h x.graph x.tree.items (waiting x) → IsSteady v f most x → IsSteady w h most x
@@ -87,14 +93,56 @@ past_ends v f None m x is z dear = absurd (none_some is)
     none_some e = cc
 past_ends v f (Some n) m x is z dear = pending.dear_leaves v.system (opened x) (prefixes x.tree.items (waiting x)) z.serves.lists z.covers n (n + 1) (bounds_past v f x.tree.items n (waiting x) z.ready.each dear) (omega arith)
 
--- first entries from which no plan goes on were taken out, by a space that is as before
-pub left_follows : {Set : Type 0} (v w : View Set) (f : CostToGo Set) (most : Option ℕ) (x : Front) (q : Queue) → SameSets v w → IsSteady v f most x → (AllByRecursion (IsEntry v f x.tree.items) (waiting x) → AllByRecursion (IsEntry v f x.tree.items) (entries_of q))
-    → (Covers v.system (opened x) (prefixes x.tree.items (waiting x)) → Covers v.system (opened x) (prefixes x.tree.items (entries_of q))) → Follows w f most x (requeued x q)
-left_follows v w f most x q s z each covers = record {
-  steady = steady_stays v w f most (requeued x q) s (follows_requeued v f most x q z (each z.ready.each) (covers z.covers)).steady;
-  same = same_self w.system x;
-  more = omega arith;
-}
+-- all entries came into the one queue
+module _ {Set : Type 0} (v : View Set) (f : CostToGo Set) (most : Option ℕ) (x : Front) (q : Queue) (joined : IsPermutation (waiting x) (entries_of q)) (z : IsSteady v f most x) where
+  pub joined_each : AllByRecursion (IsEntry v f x.tree.items) (entries_of q)
+  joined_each = permuted_each (IsEntry v f x.tree.items) (waiting x) (entries_of q) joined z.ready.each
+
+  pub joined_covers : Covers v.system (opened x) (prefixes x.tree.items (entries_of q))
+  joined_covers = permuted_covers v.system x.tree.items (opened x) (waiting x) (entries_of q) joined z.covers
+
+  -- first ones from which no plan goes on were taken out, by a space that is as before
+  pub left_follows : (w : View Set) (r o : Queue) → SameSets v w → entries_of o ≡ [] → (AllByRecursion (IsEntry v f x.tree.items) (entries_of q) → AllByRecursion (IsEntry v f x.tree.items) (entries_of r))
+      → (Covers v.system (opened x) (prefixes x.tree.items (entries_of q)) → Covers v.system (opened x) (prefixes x.tree.items (entries_of r))) → Follows w f most x (requeued x r o)
+  left_follows w r o s none each covers =
+      let all : entries_of r ++ entries_of o ≡ entries_of r = beside_none (entries_of r) (entries_of o) none in
+      let here = subst (AllByRecursion (IsEntry v f x.tree.items)) (sym all) (each joined_each) in
+      let kept = subst (λ (es : List Entry). Covers v.system (opened x) (prefixes x.tree.items es)) (sym all) (covers joined_covers) in
+      record {
+        steady = steady_stays v w f most (requeued x r o) s (follows_requeued v f most x r o z here kept).steady;
+        same = same_self w.system x;
+        more = omega arith;
+      }
+
+-- the same entries wait
+module _ {Set : Type 0} (v : View Set) (f : CostToGo Set) (most : Option ℕ) (x z : Front) (k : Rearranged x z) where
+  -- the new queues beside all else that is old
+  abbrev mixed : Front
+  mixed = record { graph = x.graph; moves = x.moves; tree = x.tree; queue = z.queue; other = z.other; is_late = z.is_late; given = z.given; opened = x.opened }
+
+  is_mixed : mixed ≡ z
+  is_mixed i = record { graph = sym k.graph i; moves = sym k.moves i; tree = sym k.tree i; queue = z.queue; other = z.other; is_late = z.is_late; given = z.given; opened = sym k.opened i }
+
+  pub rearranged_follows : IsSteady v f most x → Follows v f most x z
+  rearranged_follows s = subst (Follows v f most x) is_mixed (record {
+    steady = record {
+      ready = record { alone = s.ready.alone; graph = s.ready.graph; tree = s.ready.tree; each = permuted_each (IsEntry v f x.tree.items) (waiting x) (waiting z) k.entries s.ready.each };
+      serves = s.serves;
+      table = s.table;
+      covers = permuted_covers v.system x.tree.items (opened x) (waiting x) (waiting z) k.entries s.covers;
+    };
+    same = same_self v.system x;
+    more = omega arith;
+  })
+
+-- a turn after the queues were rearranged
+pub turned_on : (y : System) (known : Known) (most : Option ℕ) (x m z : Front) → IsPermutation (waiting x) (waiting m) → length (places x) ≤ length (places m) → (o : Option Halt) → TurnOf y known most m z o → TurnOf y known most x z o
+turned_on y known most x m z same le None h = omega (arith, h, permuted_work known (waiting x) (waiting m) same)
+turned_on y known most x m z same le (Some halt) h = halts_after y known most x m z le halt h
+
+pub if_turned : {E : Type 0} (y : System) (known : Known) (most : Option ℕ) (x m z : Front) → IsPermutation (waiting x) (waiting m) → length (places x) ≤ length (places m) → (r : Result (Option Halt) E) → IfOk r (TurnOf y known most m z) → IfOk r (TurnOf y known most x z)
+if_turned y known most x m z same le (Ok o) h = turned_on y known most x m z same le o h
+if_turned y known most x m z same le (Err e) h = tt
 
 -- the search went on
 pub follows_on : {Set : Type 0} (v w : View Set) (f h : CostToGo Set) (most : Option ℕ) (x z : Front) → w.system ≡ v.system → IsReady w h z.graph z.tree.items (waiting z) → Follows v f most x z → Follows w h most x z

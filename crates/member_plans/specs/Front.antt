@@ -1,12 +1,12 @@
 -- What holds of prefixes, those that wait and those that were opened, between two turns.
-use Rattle.std.specs.Prelude.{◌≡◌, ℕ, ◌+◌, ◌<◌, ◌≤◌, ◌^◌, IsTrue, All, List, length, slice_index_or, Option, Some, None, IsSome, Result, Ok, Err}
+use Rattle.std.specs.Prelude.{◌≡◌, ℕ, ◌+◌, ◌<◌, ◌≤◌, ◌^◌, IsTrue, All, List, [], ◌++◌, length, slice_index_or, Option, Some, None, IsSome, Result, Ok, Err}
+use Rattle.std.specs.List.Sorted.{IsPermutation}
 use Rattle.task_system.specs.System.{System}
 use Rattle.space_api.specs.View.{View}
 use Rattle.lazy_plans.specs.Law.{Stays, Stops, NoneLeft, top}
 use Rattle.lazy_plans.specs.declared.stop.Stop.{Stop}
 use Rattle.lazy_plans.specs.declared.stop.Stop.TheVariants.{CostRange}
 use Rattle.cost_to_go.specs.declared.search.CostToGo.{CostToGo}
-use Rattle.prefix_tree.specs.Order.{IsNoLater}
 use Rattle.prefix_tree.specs.Tree.{path_at}
 use Rattle.prefix_tree.specs.Entries.{entries_of, prefixes}
 use Rattle.prefix_tree.specs.declared.entry.Entry.{Entry}
@@ -19,9 +19,9 @@ use Rattle.member_plans.specs.declared.front.Front.{Front}
 use Rattle.member_plans.specs.declared.walk.Halt.{Halt}
 use Rattle.member_plans.specs.declared.walk.Halt.TheVariants.{Due, Opens, Waits, Ends, OutOfRange}
 
--- the entries that wait, the places of the prefixes that were opened, and these prefixes
+-- the entries that wait, in the queue at work and in the other; the places of the prefixes that were opened, and these prefixes
 abbrev pub waiting : Front → List Entry
-waiting x = entries_of x.queue
+waiting x = entries_of x.queue ++ entries_of x.other
 
 abbrev pub places : Front → List ℕ
 places x = places_of x.opened
@@ -46,15 +46,28 @@ pub record Follows {Set : Type 0} (v : View Set) (f : CostToGo Set) (most : Opti
   pub same : SamePends v.system old new
   pub more : length (places old) ≤ length (places new)
 
+-- No entry of ys has a lesser bound than the first of xs, and there is none where xs has none.
+pub record IsAhead (xs ys : List Entry) : Type 0 where
+  pub none : xs ≡ [] → ys ≡ []
+  pub least : (e : Entry) → 0 < length xs → e ≡ slice_index_or xs 0 e → All (λ k. e.bound.0 ≤ k.bound.0) ys
+
+-- the same entries wait, and all else but the queues is as it was
+pub record Rearranged (old new : Front) : Type 0 where
+  pub graph : new.graph ≡ old.graph
+  pub moves : new.moves ≡ old.moves
+  pub tree : new.tree ≡ old.tree
+  pub opened : new.opened ≡ old.opened
+  pub entries : IsPermutation (waiting old) (waiting new)
+
 -- what is left to do until a prefix is opened or turns stop
 abbrev pub work : Known → Front → ℕ
 work known x = length (waiting x) + all_outdated known (waiting x)
 
--- the first entry is a plan that pends, and one of the cheapest
+-- the first entry of the queue at work is a plan that pends, and one of the cheapest
 pub record IsDue (y : System) (most : Option ℕ) (x : Front) (e : Entry) : Type 0 where
-  pub some : 0 < length (waiting x)
-  pub first : e ≡ slice_index_or (waiting x) 0 e
-  pub order : All (IsNoLater e) (waiting x)
+  pub some : 0 < length (entries_of x.queue)
+  pub first : e ≡ slice_index_or (entries_of x.queue) 0 e
+  pub least : All (λ k. e.bound.0 ≤ k.bound.0) (waiting x)
   pub cheap : e.bound.0 ≤ top most
   pub plan : IsTrue e.at_goal
   pub fresh : ¬ IsJoined y (opened x) (path_at x.tree.items e.node)

@@ -13,6 +13,7 @@ ghost use Rattle.member_plans.specs.Engine.{system_of, most_of, ended_of, IsEngi
 
 use crate::engine::MemberPlans;
 use crate::front::Front;
+use crate::given::Given;
 use crate::moves::Moves;
 use crate::opened::Opened;
 use cost_to_go::CostToGo;
@@ -60,6 +61,9 @@ fn first_front<'a, S: Space>(
         moves: Moves::new(alloc, task)?,
         tree,
         queue,
+        other: Queue::new(alloc),
+        is_late: false,
+        given: Given::new(alloc),
         opened: Opened::new(alloc),
     })
 }

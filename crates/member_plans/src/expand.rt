@@ -1,6 +1,6 @@
 //! The children of a prefix.
 
-ghost use Rattle.std.specs.Prelude.{◌≡◌, ◌<◌, IfOk, length};
+ghost use Rattle.std.specs.Prelude.{◌≡◌, ◌<◌, ◌++◌, IfOk, length};
 ghost use Rattle.symk_task.specs.declared.parts.Mode.TheVariants.{TopK};
 ghost use Rattle.space_api.specs.View.{View};
 ghost use Rattle.stubborn_laws.specs.Stubborn.{Stubborn};
@@ -98,8 +98,8 @@ fn add_enough<S: Space>(
     Ok(children)
 }
 
-/// The children of an entry that are enough, which stand in the tree then, and for which the queue has room.
-pub(crate) fn expand<S: Space>(
+/// The children of an entry that are enough, which stand in the tree then.
+fn children_of<S: Space>(
     alloc: Global,
     space: &S,
     search: &CostToGo<S::Set>,
@@ -114,10 +114,10 @@ pub(crate) fn expand<S: Space>(
     ensures graph { IsStateGraph (S.view space.now).system front.new.graph }
     ensures serves { Serves front.new.moves (S.view space.now).system }
     ensures queue { entries_of front.new.queue ≡ entries_of front.old.queue }
+    ensures other { entries_of front.new.other ≡ entries_of front.old.other }
     ensures opened { front.new.opened ≡ front.old.opened }
     ensures grows { Grows (S.view space.now).system TopK (states_of front.new.graph) front.old.tree.items
         front.new.tree.items }
-    ensures room { IfOk result (λ kids. HasRoom front.new.queue (length kids.items)) }
     ensures children { IfOk result (λ kids. AreEnough (S.view space.now) search.now front.new.tree.items
         (path_at front.old.tree.items entry.node)
         (end_at (states_of front.new.graph) front.old.tree.items entry.node) kids.items) }
@@ -129,19 +129,51 @@ pub(crate) fn expand<S: Space>(
     let marks = front.moves.marks_of(here.state);
     match front.graph.moves_of(here.state) {
         None => unreachable!(),
-        Some(moves) => {
-            let children = add_enough(
-                alloc,
-                space,
-                search,
-                &front.graph,
-                &mut front.tree,
-                entry,
-                moves,
-                marks,
-            )?;
-            front.queue.make_room(children.len())?;
-            Ok(children)
-        }
+        Some(moves) => add_enough(
+            alloc,
+            space,
+            search,
+            &front.graph,
+            &mut front.tree,
+            entry,
+            moves,
+            marks,
+        ),
     }
+}
+
+/// The children of an entry that are enough, which stand in the tree then: those of the kind of the queue at work, for which
+/// that queue has room, and those for which the other has.
+pub(crate) fn expand<S: Space>(
+    alloc: Global,
+    space: &S,
+    search: &CostToGo<S::Set>,
+    front: &mut Front,
+    entry: Entry,
+) -> Result<(Vec<Entry>, Vec<Entry>), SpaceFault>
+    requires search { IsCostToGo (S.view space.now) search.now }
+    requires graph { IsStateGraph (S.view space.now).system front.old.graph }
+    requires serves { Serves front.old.moves (S.view space.now).system }
+    requires tree { IsTree (S.view space.now).system TopK (states_of front.old.graph) front.old.tree.items }
+    requires entry { IsEntry (S.view space.now) search.now front.old.tree.items entry }
+    ensures graph { IsStateGraph (S.view space.now).system front.new.graph }
+    ensures serves { Serves front.new.moves (S.view space.now).system }
+    ensures queue { entries_of front.new.queue ≡ entries_of front.old.queue }
+    ensures other { entries_of front.new.other ≡ entries_of front.old.other }
+    ensures opened { front.new.opened ≡ front.old.opened }
+    ensures grows { Grows (S.view space.now).system TopK (states_of front.new.graph) front.old.tree.items
+        front.new.tree.items }
+    ensures here { IfOk result (λ kids. HasRoom front.new.queue (length kids.0.items)) }
+    ensures there { IfOk result (λ kids. HasRoom front.new.other (length kids.1.items)) }
+    ensures children { IfOk result (λ kids. AreEnough (S.view space.now) search.now front.new.tree.items
+        (path_at front.old.tree.items entry.node)
+        (end_at (states_of front.new.graph) front.old.tree.items entry.node) (kids.0.items ++ kids.1.items)) }
+{
+    let children = children_of(alloc, space, search, front, entry)?;
+    let (here, there) = front
+        .given
+        .part(alloc, &front.tree, entry.node, &children, front.is_late)?;
+    front.queue.make_room(here.len())?;
+    front.other.make_room(there.len())?;
+    Ok((here, there))
 }

@@ -5,7 +5,9 @@
 //! out prefixes. Of the moves from a state only those of a stubborn set of it are taken, unless none of them leads nearer
 //! to a plan; then the others are taken too. The set of a state is made once, and kept by the state's number. And
 //! prefixes join where they have the same operators, each as often, and lead to one state: of these the first that is
-//! taken is opened, and the others are dropped. What pends are the plans that join no prefix that was opened. Before
+//! taken is opened, and the others are dropped. There are two queues: a prefix all of whose operators belong to one of
+//! the last plans that were given waits in the late one, behind prefixes of the same bound in the other. For what it
+//! leads to is often a rearrangement of that plan. What pends are the plans that join no prefix that was opened. Before
 //! memory is refused nothing of them is lost, so no plan is held. It stands on `prefix_ends` for what is known of
 //! prefixes by where they end, on `member_laws` for what pends, on `stubborn_sets` for the moves that are enough, on
 //! `prefix_tree` for prefixes and their queue, on `useful_states` for the states that lead to the goal, and on
@@ -18,6 +20,7 @@ mod beginning;
 mod engine;
 mod expand;
 mod front;
+mod given;
 mod hints;
 mod kept;
 mod keys;

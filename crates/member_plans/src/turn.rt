@@ -1,14 +1,15 @@
-//! What is done with the first entry of the queue.
+//! What is done with the first entry of the queue at work.
 
 ghost use Rattle.std.specs.Prelude.{◌≡◌, ◌+◌, ◌<◌, ◌≤◌, ◌^◌, ◌∷◌, ◌++◌, [], IsFalse, IfOk, OnOk, OnErr, length, slice_index_or};
 ghost use Rattle.space_api.specs.View.{View};
 ghost use Rattle.lazy_plans.specs.Law.{top};
 ghost use Rattle.prefix_tree.specs.Tree.{path_at};
+ghost use Rattle.prefix_tree.specs.Entries.{entries_of};
 ghost use Rattle.prefix_ends.specs.Left.{known_of};
 ghost use Rattle.prefix_ends.specs.Children.{IsOutdated};
 ghost use Rattle.member_laws.specs.Nodes.{IsJoined, PendsNode};
 ghost use Rattle.class_plans.specs.Members.{GaveMember};
-ghost use Rattle.member_plans.specs.Front.{waiting, places, opened, IsSteady, Follows, IsDue, work};
+ghost use Rattle.member_plans.specs.Front.{places, opened, IsSteady, Follows, IsDue, work};
 
 use crate::expand::expand;
 use crate::front::Front;
@@ -35,8 +36,8 @@ pub(crate) fn learn<S: Space, L: Ledger>(
     steps: &mut Steps<L>,
 ) -> Result<(), AllocError>
     requires steady { IsSteady (S.view space.now) search.now most front.old }
-    requires some { 0 < length (waiting front.old) }
-    requires first { entry ≡ slice_index_or (waiting front.old) 0 entry }
+    requires some { 0 < length (entries_of front.old.queue) }
+    requires first { entry ≡ slice_index_or (entries_of front.old.queue) 0 entry }
     requires open { IsFalse entry.settled }
     requires more { IsOutdated (known_of search.now) entry }
     ensures follows { Follows (S.view space.now) search.now most front.old front.new }
@@ -67,8 +68,8 @@ pub(crate) fn drop_joined<S: Space, L: Ledger>(
     steps: &mut Steps<L>,
 ) -> Result<(), AllocError>
     requires steady { IsSteady (S.view space.now) search.now most front.old }
-    requires some { 0 < length (waiting front.old) }
-    requires first { entry ≡ slice_index_or (waiting front.old) 0 entry }
+    requires some { 0 < length (entries_of front.old.queue) }
+    requires first { entry ≡ slice_index_or (entries_of front.old.queue) 0 entry }
     requires joined { IsJoined (S.view space.now).system (opened front.old) (path_at front.old.tree.items entry.node) }
     ensures follows { Follows (S.view space.now) search.now most front.old front.new }
     ensures less { OnOk result (work (known_of search.now) front.new < work (known_of search.now) front.old) }
@@ -92,8 +93,8 @@ fn open<S: Space, L: Ledger>(
     steps: &mut Steps<L>,
 ) -> Result<(), SpaceFault>
     requires steady { IsSteady (S.view space.now) search.now most front.old }
-    requires some { 0 < length (waiting front.old) }
-    requires first { entry ≡ slice_index_or (waiting front.old) 0 entry }
+    requires some { 0 < length (entries_of front.old.queue) }
+    requires first { entry ≡ slice_index_or (entries_of front.old.queue) 0 entry }
     requires cheap { entry.bound.0 ≤ top most }
     ensures steady { IsSteady (S.view space.now) search.now most front.new }
     ensures ok { OnOk result (opened front.new ≡ opened front.old ++ path_at front.old.tree.items entry.node ∷ []) }
@@ -104,11 +105,12 @@ fn open<S: Space, L: Ledger>(
     ensures one { OnOk result (steps.new ≡ steps.old + 1) }
     ensures none { OnErr result (steps.new ≡ steps.old) }
 {
-    let children = expand(alloc, space, search, front, entry)?;
+    let (here, there) = expand(alloc, space, search, front, entry)?;
     front
         .opened
         .put(alloc, &front.tree, entry.node, entry.at_goal)?;
-    front.queue.replace(children, steps);
+    front.queue.replace(here, steps);
+    front.other.add(there);
     Ok(())
 }
 
@@ -123,8 +125,8 @@ pub(crate) fn pass<S: Space, L: Ledger>(
     steps: &mut Steps<L>,
 ) -> Result<(), SpaceFault>
     requires steady { IsSteady (S.view space.now) search.now most front.old }
-    requires some { 0 < length (waiting front.old) }
-    requires first { entry ≡ slice_index_or (waiting front.old) 0 entry }
+    requires some { 0 < length (entries_of front.old.queue) }
+    requires first { entry ≡ slice_index_or (entries_of front.old.queue) 0 entry }
     requires cheap { entry.bound.0 ≤ top most }
     requires off { IsFalse entry.at_goal }
     ensures follows { Follows (S.view space.now) search.now most front.old front.new }
@@ -155,7 +157,8 @@ pub(crate) fn give<S: Space, L: Ledger>(
     ensures one { OnOk result (steps.new ≡ steps.old + 1) }
     ensures none { OnErr result (steps.new ≡ steps.old) }
 {
-    let plan = Plan::of(operators_to(alloc, &front.tree, entry.node)?);
+    let operators = operators_to(alloc, &front.tree, entry.node)?;
+    front.given.note(&operators)?;
     open(alloc, space, search, most, front, entry, steps)?;
-    Ok(plan)
+    Ok(Plan::of(operators))
 }

@@ -1,11 +1,11 @@
-//! Turns of the queue, until a plan is due.
+//! Turns of the queues, until a plan is due.
 
 ghost use Rattle.std.specs.Prelude.{◌≡◌, ◌<◌, ◌≤◌, All, IfOk, length, slice_index_or};
 ghost use Rattle.std.specs.List.{AllByRecursion};
 ghost use Rattle.space_api.specs.View.{View};
 ghost use Rattle.lazy_plans.specs.Law.{top};
 ghost use Rattle.cost_to_go.specs.Standing.{within_of};
-ghost use Rattle.prefix_tree.specs.Order.{IsNoLater};
+ghost use Rattle.prefix_tree.specs.Entries.{entries_of};
 ghost use Rattle.prefix_tree.specs.declared.entry.Entry.{Entry};
 ghost use Rattle.prefix_ends.specs.Left.{known_of};
 ghost use Rattle.member_plans.specs.Front.{waiting, IsSteady, Follows, TurnOf, HaltsAt, Stopped};
@@ -48,9 +48,9 @@ fn act_ranked<S: Space, L: Ledger>(
     steps: &mut Steps<L>,
 ) -> Result<Option<Halt>, SpaceFault>
     requires steady { IsSteady (S.view space.now) search.now most front.old }
-    requires some { 0 < length (waiting front.old) }
-    requires first { entry ≡ slice_index_or (waiting front.old) 0 entry }
-    requires order { All (IsNoLater entry) (waiting front.old) }
+    requires some { 0 < length (entries_of front.old.queue) }
+    requires first { entry ≡ slice_index_or (entries_of front.old.queue) 0 entry }
+    requires least { All (λ k. entry.bound.0 ≤ k.bound.0) (waiting front.old) }
     requires cheap { entry.bound.0 ≤ top most }
     ensures follows { Follows (S.view space.now) search.now most front.old front.new }
     ensures ok { IfOk result (TurnOf (S.view space.now).system (known_of search.now) most front.old front.new) }
@@ -78,9 +78,9 @@ fn act<S: Space, L: Ledger>(
     steps: &mut Steps<L>,
 ) -> Result<Option<Halt>, SpaceFault>
     requires steady { IsSteady (S.view space.now) search.now most front.old }
-    requires some { 0 < length (waiting front.old) }
-    requires first { entry ≡ slice_index_or (waiting front.old) 0 entry }
-    requires order { All (IsNoLater entry) (waiting front.old) }
+    requires some { 0 < length (entries_of front.old.queue) }
+    requires first { entry ≡ slice_index_or (entries_of front.old.queue) 0 entry }
+    requires least { All (λ k. entry.bound.0 ≤ k.bound.0) (waiting front.old) }
     requires cheap { entry.bound.0 ≤ top most }
     ensures follows { Follows (S.view space.now) search.now most front.old front.new }
     ensures ok { IfOk result (TurnOf (S.view space.now).system (known_of search.now) most front.old front.new) }
@@ -96,7 +96,7 @@ fn act<S: Space, L: Ledger>(
     Ok(None)
 }
 
-/// What ends the list where the first entry is dearer than any plan that is given.
+/// What ends the list where each entry is dearer than any plan that is given.
 fn end<S: Space, L: Ledger>(
     alloc: Global,
     space: &mut S,
@@ -117,6 +117,7 @@ fn end<S: Space, L: Ledger>(
     match most {
         Some(_) => Ok(Halt::Ends),
         None => {
+            front.queue.join(&mut front.other)?;
             if is_left(
                 alloc,
                 space,
@@ -133,7 +134,35 @@ fn end<S: Space, L: Ledger>(
     }
 }
 
-/// One turn: what is done with the first entry. None where turns go on.
+/// What is done with the first entry: the list ends where it is dearer than any plan that is given.
+fn act_or_end<S: Space, L: Ledger>(
+    alloc: Global,
+    space: &mut S,
+    search: &CostToGo<S::Set>,
+    within: S::Set,
+    most: Option<u64>,
+    front: &mut Front,
+    entry: Entry,
+    steps: &mut Steps<L>,
+) -> Result<Option<Halt>, SpaceFault>
+    requires steady { IsSteady (S.view space.old) search.now most front.old }
+    requires within { within ≡ within_of search.now }
+    requires some { 0 < length (entries_of front.old.queue) }
+    requires first { entry ≡ slice_index_or (entries_of front.old.queue) 0 entry }
+    requires least { All (λ k. entry.bound.0 ≤ k.bound.0) (waiting front.old) }
+    ensures system { (S.view space.new).system ≡ (S.view space.old).system }
+    ensures follows { Follows (S.view space.new) search.now most front.old front.new }
+    ensures ok { IfOk result (TurnOf (S.view space.old).system (known_of search.now) most front.old front.new) }
+    ensures steps { steps.old ≤ steps.new }
+{
+    if entry.bound.0 > top_of(most) as u128 {
+        let halt = end(alloc, space, search, within, most, front, steps)?;
+        return Ok(Some(halt));
+    }
+    act(alloc, space, search, most, front, entry, steps)
+}
+
+/// One turn: what is done with the first entry of all. None where turns go on.
 fn take_turn<S: Space, L: Ledger>(
     alloc: Global,
     space: &mut S,
@@ -150,15 +179,9 @@ fn take_turn<S: Space, L: Ledger>(
     ensures ok { IfOk result (TurnOf (S.view space.old).system (known_of search.now) most front.old front.new) }
     ensures steps { steps.old ≤ steps.new }
 {
-    match front.queue.first() {
+    match front.turn_to_first() {
         None => Ok(Some(Halt::Ends)),
-        Some(entry) => {
-            if entry.bound.0 > top_of(most) as u128 {
-                let halt = end(alloc, space, search, within, most, front, steps)?;
-                return Ok(Some(halt));
-            }
-            act(alloc, space, search, most, front, entry, steps)
-        }
+        Some(entry) => act_or_end(alloc, space, search, within, most, front, entry, steps),
     }
 }
 

@@ -7,6 +7,7 @@ use Rattle.prefix_tree.specs.declared.tree.Node.{Node}
 use Rattle.prefix_tree.specs.declared.entry.Entry.{Entry}
 use Rattle.prefix_ends.specs.Standing.{IsReady}
 use Rattle.prefix_ends.proofs.First.{ready_first, prefixes_first}
+use Rattle.member_plans.proofs.Beside.{beside_none}
 use Rattle.member_plans.proofs.beginning.first_front.Goals as goal
 
 pub number_of_start-requires : goal.number_of_start-requires
@@ -24,9 +25,10 @@ returns-clause-ready g c =
     let es = entries_of c.push-2.new.self in
     let tree : c.push.new.self.items ≡ n ∷ [] = c.in_ok-push.ensures.items ∙ ap (λ (l : List Node). l ++ n ∷ []) c.new-tree.ensures.items in
     let put : IsPermutation (e ∷ []) es = subst (λ (l : List Entry). IsPermutation (e ∷ l) es) c.new-queue.ensures c.in_ok-push-2.ensures.ok in
+    let both : es ++ entries_of c.new-2.result ≡ es = beside_none es (entries_of c.new-2.result) c.new-2.ensures in
     let is = c.in_ok-start.ensures.is in
     let goal = subst (λ (s : State). Decides c.in_ok-at_goal.at_goal (IsTrue (v.system.goal s))) (c.state.ensures ∙ is) c.in_ok-at_goal.ensures in
-    subst (λ (l : List Node). IsReady v b c.number_of_start.new.graph l es) (sym tree) (ready_first v b c.number_of_start.new.graph n e es c.requires.alone c.number_of_start.ensures.graph c.in_ok-start.ensures.within is put refl refl refl refl refl goal)
+    subst (IsReady v b c.number_of_start.new.graph c.push.new.self.items) (sym both) (subst (λ (l : List Node). IsReady v b c.number_of_start.new.graph l es) (sym tree) (ready_first v b c.number_of_start.new.graph n e es c.requires.alone c.number_of_start.ensures.graph c.in_ok-start.ensures.within is put refl refl refl refl refl goal))
 
 pub returns-clause-first : goal.returns-clause-first
 returns-clause-first g c =
@@ -37,6 +39,7 @@ returns-clause-first g c =
     let es = entries_of c.push-2.new.self in
     let tree : c.push.new.self.items ≡ n ∷ [] = c.in_ok-push.ensures.items ∙ ap (λ (l : List Node). l ++ n ∷ []) c.new-tree.ensures.items in
     let put : IsPermutation (e ∷ []) es = subst (λ (l : List Entry). IsPermutation (e ∷ l) es) c.new-queue.ensures c.in_ok-push-2.ensures.ok in
+    let both : es ++ entries_of c.new-2.result ≡ es = beside_none es (entries_of c.new-2.result) c.new-2.ensures in
     let is = c.in_ok-start.ensures.is in
     let goal = subst (λ (s : State). Decides c.in_ok-at_goal.at_goal (IsTrue (v.system.goal s))) (c.state.ensures ∙ is) c.in_ok-at_goal.ensures in
-    subst (λ (l : List Node). prefixes l es ≡ [] ∷ []) (sym tree) (prefixes_first v b c.number_of_start.new.graph n e es c.requires.alone c.number_of_start.ensures.graph c.in_ok-start.ensures.within is put refl refl refl refl refl goal)
+    subst (λ (l : List Entry). prefixes c.push.new.self.items l ≡ [] ∷ []) (sym both) (subst (λ (l : List Node). prefixes l es ≡ [] ∷ []) (sym tree) (prefixes_first v b c.number_of_start.new.graph n e es c.requires.alone c.number_of_start.ensures.graph c.in_ok-start.ensures.within is put refl refl refl refl refl goal))

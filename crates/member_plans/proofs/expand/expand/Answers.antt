@@ -1,47 +1,17 @@
-use Rattle.std.proofs.Common.{◌≡◌, ℕ, List, slice_index_or, subst, ap, ◌∙◌}
-use Rattle.symk_task.specs.declared.parts.Mode.TheVariants.{TopK}
-use Rattle.prefix_tree.specs.StateGraph.{states_of, state_at, AreMoves}
-use Rattle.prefix_tree.specs.declared.tree.Node.{Node}
-use Rattle.prefix_tree.proofs.Paths.{tree_prolonged}
-use Rattle.prefix_tree.proofs.Passing.{number_is}
-use Rattle.prefix_tree.proofs.Going.{end_within, end_run}
-use Rattle.prefix_tree.specs.Tree.{path_at}
-use Rattle.task_system.specs.System.{State}
-use Rattle.stubborn_laws.specs.Stubborn.{Stubborn}
-use Rattle.stubborn_sets.specs.Closing.{is_in}
+use Rattle.std.proofs.Common.{List, ◌++◌, subst}
+use Rattle.std.specs.List.Sorted.{IsPermutation}
+use Rattle.prefix_tree.specs.StateGraph.{states_of}
+use Rattle.prefix_tree.specs.Tree.{path_at, end_at}
+use Rattle.prefix_tree.specs.declared.entry.Entry.{Entry}
+use Rattle.member_plans.proofs.Choosing.{enough_permuted}
 use Rattle.member_plans.proofs.expand.expand.Goals as goal
 
-pub find_moves-requires-clause-number : goal.find_moves-requires-clause-number
-find_moves-requires-clause-number g c =
-    let y = (g.S.Space.view c.args.space.now).system in
-    let nodes = c.args.front.now.tree.items in
-    let is = subst (λ (ns : List Node). c.node_at-here.result ≡ slice_index_or ns c.args.entry.node c.node_at-here.result) c.deref.ensures.value (c.node_at-here.ensures c.node_at-here.result) in
-    end_within y TopK (states_of c.args.front.now.graph) nodes c.args.entry.node c.requires.tree c.requires.entry.inside c.node_at-here.result is
-
-pub find_marks-requires : goal.find_marks-requires
-find_marks-requires g c =
-    let y = (g.S.Space.view c.args.space.now).system in
-    let nodes = c.args.front.now.tree.items in
-    let is = subst (λ (ns : List Node). c.node_at-here.result ≡ slice_index_or ns c.args.entry.node c.node_at-here.result) c.deref.ensures.value (c.node_at-here.ensures c.node_at-here.result) in
-    let ss = states_of c.find_moves.new.graph in
-    let tree = tree_prolonged y TopK (states_of c.args.front.now.graph) ss nodes c.find_moves.ensures.prolongs c.requires.tree in
-    (y, c.requires.serves, (path_at nodes c.args.entry.node, end_run y TopK ss nodes c.args.entry.node tree c.requires.entry.inside c.node_at-here.result is c.state-state.result.now c.state-state.ensures))
-
-pub add_enough-requires-clause-moves : goal.add_enough-requires-clause-moves
-add_enough-requires-clause-moves g c =
-    let y = (g.S.Space.view c.args.space.now).system in
-    let nodes = c.args.front.now.tree.items in
-    let is = subst (λ (ns : List Node). c.node_at-here.result ≡ slice_index_or ns c.args.entry.node c.node_at-here.result) c.deref.ensures.value (c.node_at-here.ensures c.node_at-here.result) in
-    let ss = states_of c.find_moves.new.graph in
-    let all = c.find_moves.ensures.graph.moves c.node_at-here.result.state c.in-Some.moves.now c.in-Some.ensures.found in
-    subst (λ (k : ℕ). AreMoves y ss (state_at ss k) c.in-Some.moves.now) (number_is nodes c.args.entry.node c.node_at-here.result c.requires.entry.inside is) all.1
-
-pub add_enough-requires-clause-marks : goal.add_enough-requires-clause-marks
-add_enough-requires-clause-marks g c =
-    let y = (g.S.Space.view c.args.space.now).system in
-    let nodes = c.args.front.now.tree.items in
-    let is = subst (λ (ns : List Node). c.node_at-here.result ≡ slice_index_or ns c.args.entry.node c.node_at-here.result) c.deref.ensures.value (c.node_at-here.ensures c.node_at-here.result) in
-    let ss = states_of c.find_moves.new.graph in
-    let number = number_is nodes c.args.entry.node c.node_at-here.result c.requires.entry.inside is in
-    let serves = c.find_marks.ensures.serves y c.requires.serves in
-    subst (λ (s : State). Stubborn y (is_in c.marks_of-marks.result.now) s) (c.state-state.ensures ∙ ap (state_at ss) number) (c.marks_of-marks.ensures y c.state-state.result.now serves c.in_ok-find_marks.ensures.found)
+pub returns-clause-children : goal.returns-clause-children
+returns-clause-children g c =
+    let x = c.args.front.now in
+    let w = c.children_of.new.front in
+    let i = c.args.entry.node in
+    let kids = c.in_ok-children.children.items in
+    let new = c.in_ok-here.here.items ++ c.in_ok-here.there.items in
+    let perm = subst (λ (l : List Entry). IsPermutation l new) c.deref-2.ensures.value c.in_ok-here.ensures in
+    enough_permuted (g.S.Space.view c.args.space.now) c.args.search.now w.tree.items (path_at x.tree.items i) (end_at (states_of w.graph) x.tree.items i) kids new perm c.in_ok-children.ensures.children

@@ -1,23 +1,29 @@
-use Rattle.std.proofs.Common.{Result, Ok, Err, OnOk, OnErr, subst, sym}
-use Rattle.std.proofs.Common.{◌≡◌, List, ℕ}
+use Rattle.std.proofs.Common.{◌≡◌, ℕ, List, ◌++◌, Result, Ok, Err, OnOk, OnErr, subst, sym}
 use Rattle.task_system.specs.System.{System}
 use Rattle.prefix_tree.specs.Entries.{entries_of, prefixes}
 use Rattle.prefix_tree.specs.declared.tree.Node.{Node}
 use Rattle.prefix_tree.specs.declared.entry.Entry.{Entry}
+use Rattle.prefix_ends.specs.Children.{IsEntry}
 use Rattle.member_laws.specs.Nodes.{Covers}
 use Rattle.member_plans.specs.Front.{opened, waiting}
+use Rattle.member_plans.proofs.Beside.{join_each, right_each, ready_left, learned_beside}
 use Rattle.member_plans.proofs.Turning.{learned_covers, learned_less}
 use Rattle.member_plans.proofs.Walking.{follows_requeued}
 use Rattle.member_plans.proofs.turn.learn.Goals as goal
 
 -- what covers covers, refused or not
-either : {X E : Type 0} (y : System) (nodes : List Node) (o : List (List ℕ)) (es new : List Entry) (L : Type 0) (r : Result X E) → OnOk r L → OnErr r (new ≡ es) → (L → Covers y o (prefixes nodes new)) → Covers y o (prefixes nodes es) → Covers y o (prefixes nodes new)
-either y nodes o es new L (Ok x) ok err on covers = on ok
-either y nodes o es new L (Err e) ok err on covers = subst (λ (l : List Entry). Covers y o (prefixes nodes l)) (sym err) covers
+either : {X E : Type 0} (y : System) (nodes : List Node) (os : List (List ℕ)) (q o new : List Entry) (L : Type 0) (r : Result X E) → OnOk r L → OnErr r (new ≡ q) → (L → Covers y os (prefixes nodes (new ++ o))) → Covers y os (prefixes nodes (q ++ o)) → Covers y os (prefixes nodes (new ++ o))
+either y nodes os q o new L (Ok x) ok err on covers = on ok
+either y nodes os q o new L (Err e) ok err on covers = subst (λ (l : List Entry). Covers y os (prefixes nodes (l ++ o))) (sym err) covers
 
 on_ok : {X E : Type 0} (A B : Type 0) (r : Result X E) → (A → B) → OnOk r A → OnOk r B
 on_ok A B (Ok x) f h = f h
 on_ok A B (Err e) f h = tt
+
+pub learn-requires-clause-ready : goal.learn-requires-clause-ready
+learn-requires-clause-ready g c =
+    let x = c.args.front.now in
+    rw c.deref.ensures.value (ready_left (g.S.Space.view c.args.space.now) c.args.search.now x.graph x.tree.items (entries_of x.queue) (entries_of x.other) c.requires.steady.ready)
 
 pub returns-clause-follows : goal.returns-clause-follows
 returns-clause-follows g c =
@@ -25,9 +31,13 @@ returns-clause-follows g c =
     let f = c.args.search.now in
     let x = c.args.front.now in
     let z = c.requires.steady in
+    let e = c.args.entry in
+    let q = entries_of x.queue in
+    let o = entries_of x.other in
     let new = entries_of c.learn.new.queue in
-    follows_requeued v f c.args.most x c.learn.new.queue z (rw c.deref.ensures.value at c.learn.ensures.ready).each
-    (either v.system x.tree.items (opened x) (waiting x) new _ c.learn.result (rw c.deref.ensures.value at c.learn.ensures.ok) c.learn.ensures.err (λ l. learned_covers v f x.graph x.tree.items (waiting x) new c.args.entry (opened x) z.covers l) z.covers)
+    let P = IsEntry v f x.tree.items in
+    follows_requeued v f c.args.most x c.learn.new.queue x.other z (join_each P new o (rw c.deref.ensures.value at c.learn.ensures.ready).each (right_each P q o z.ready.each))
+    (either v.system x.tree.items (opened x) q o new _ c.learn.result (rw c.deref.ensures.value at c.learn.ensures.ok) c.learn.ensures.err (λ l. learned_covers v f x.graph x.tree.items (waiting x) (new ++ o) e (opened x) z.covers (learned_beside v f x.tree.items q o new e l)) z.covers)
 
 pub returns-clause-less : goal.returns-clause-less
 returns-clause-less g c =
@@ -35,5 +45,8 @@ returns-clause-less g c =
     let f = c.args.search.now in
     let x = c.args.front.now in
     let z = c.requires.steady in
+    let e = c.args.entry in
+    let q = entries_of x.queue in
+    let o = entries_of x.other in
     let new = entries_of c.learn.new.queue in
-    on_ok _ _ c.learn.result (learned_less v f x.graph x.tree.items (waiting x) new c.args.entry (opened x) z.covers c.requires.open c.requires.more) (rw c.deref.ensures.value at c.learn.ensures.ok)
+    on_ok _ _ c.learn.result (λ l. learned_less v f x.graph x.tree.items (waiting x) (new ++ o) e (opened x) z.covers c.requires.open c.requires.more (learned_beside v f x.tree.items q o new e l)) (rw c.deref.ensures.value at c.learn.ensures.ok)

@@ -1,6 +1,5 @@
-use Rattle.prefix_tree.proofs.Entries.{first_is}
-use Rattle.prefix_ends.specs.Children.{IsEntry}
-use Rattle.member_plans.specs.Front.{waiting}
+use Rattle.prefix_tree.specs.Entries.{entries_of}
+use Rattle.member_plans.proofs.Beside.{first_entry}
 use Rattle.member_plans.proofs.Opening.{pass_follows}
 use Rattle.member_plans.proofs.turn.pass.Goals as goal
 
@@ -10,4 +9,5 @@ returns-clause-follows g c =
     let f = c.args.search.now in
     let x = c.args.front.now in
     let o = c.open.ensures in
-    pass_follows v f c.args.most x c.open.new.front c.args.entry c.open.result (first_is (IsEntry v f x.tree.items) (waiting x) c.args.entry c.requires.some c.requires.first c.requires.steady.ready.each) c.requires.off o.steady o.ok o.err o.more o.same
+    let k = first_entry v f x.graph x.tree.items (entries_of x.queue) (entries_of x.other) c.args.entry c.requires.some c.requires.first c.requires.steady.ready in
+    pass_follows v f c.args.most x c.open.new.front c.args.entry c.open.result k c.requires.off o.steady o.ok o.err o.more o.same

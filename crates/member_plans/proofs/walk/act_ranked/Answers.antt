@@ -1,9 +1,9 @@
 use Rattle.std.proofs.Common.{refl}
 use Rattle.prefix_tree.specs.StateGraph.{states_of}
-use Rattle.prefix_tree.proofs.Entries.{first_is}
-use Rattle.prefix_ends.specs.Children.{IsEntry}
+use Rattle.prefix_tree.specs.Entries.{entries_of}
 use Rattle.member_plans.specs.Opened.{keys_of}
-use Rattle.member_plans.specs.Front.{waiting, places}
+use Rattle.member_plans.specs.Front.{places}
+use Rattle.member_plans.proofs.Beside.{first_entry}
 use Rattle.member_plans.proofs.Table.{table_inside}
 use Rattle.member_plans.proofs.Opening.{retold, retold_steady, retold_follows}
 use Rattle.member_plans.proofs.Walking.{follows_then}
@@ -17,7 +17,7 @@ pub meets-requires-clause-node : goal.meets-requires-clause-node
 meets-requires-clause-node g c =
     let v = g.S.Space.view c.args.space.now in
     let x = c.args.front.now in
-    let k = first_is (IsEntry v c.args.search.now x.tree.items) (waiting x) c.args.entry c.requires.some c.requires.first c.requires.steady.ready.each in
+    let k = first_entry v c.args.search.now x.graph x.tree.items (entries_of x.queue) (entries_of x.other) c.args.entry c.requires.some c.requires.first c.requires.steady.ready in
     rw c.deref.ensures.value k.inside
 
 pub meets-requires-clause-inside : goal.meets-requires-clause-inside
@@ -35,7 +35,7 @@ drop_joined-requires-clause-joined g c =
     let f = c.args.search.now in
     let x = c.args.front.now in
     let z = c.requires.steady in
-    let k = first_is (IsEntry v f x.tree.items) (waiting x) c.args.entry c.requires.some c.requires.first z.ready.each in
+    let k = first_entry v f x.graph x.tree.items (entries_of x.queue) (entries_of x.other) c.args.entry c.requires.some c.requires.first z.ready in
     let met = (rw c.deref.ensures.value at c.in_ok-meets.ensures.met) v.system c.args.most (states_of x.graph) z.ready.tree z.ready.graph.once z.table k.plan in
     joined_now v f c.args.most x c.meets.new.self c.meets.ensures.places c.meets.ensures.keys z c.args.entry _ met c.if-branch.true
 
@@ -70,9 +70,9 @@ returns-then-entry-clause-ok g c =
     let f = c.args.search.now in
     let x = c.args.front.now in
     let z = c.requires.steady in
-    let k = first_is (IsEntry v f x.tree.items) (waiting x) c.args.entry c.requires.some c.requires.first z.ready.each in
+    let k = first_entry v f x.graph x.tree.items (entries_of x.queue) (entries_of x.other) c.args.entry c.requires.some c.requires.first z.ready in
     let met = (rw c.deref.ensures.value at c.in_ok-meets.ensures.met) v.system c.args.most (states_of x.graph) z.ready.tree z.ready.graph.once z.table k.plan in
-    due_now v f c.args.most x c.meets.new.self c.meets.ensures.places c.meets.ensures.keys z c.args.entry _ met c.if-branch.false c.requires.some c.requires.first c.requires.order c.requires.cheap c.if-entry.true
+    due_now v f c.args.most x c.meets.new.self c.meets.ensures.places c.meets.ensures.keys z c.args.entry _ met c.if-branch.false c.requires.some c.requires.first c.requires.least c.requires.cheap c.if-entry.true
 
 pub returns-in_err-pass-clause-follows : goal.returns-in_err-pass-clause-follows
 returns-in_err-pass-clause-follows g c =

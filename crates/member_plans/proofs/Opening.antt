@@ -25,7 +25,7 @@ use Rattle.member_plans.proofs.Turning.{grown_ready, grown_table, grown_opened, 
 
 -- what was opened is told otherwise
 abbrev pub retold : Front → Opened → Front
-retold x o = record { graph = x.graph; moves = x.moves; tree = x.tree; queue = x.queue; other = x.other; is_late = x.is_late; given = x.given; opened = o }
+retold x o = record x { opened = o }
 
 module _ {Set : Type 0} (v : View Set) (f : CostToGo Set) (most : Option ℕ) (x : Front) (o : Opened) (same : places_of o ≡ places x) (keys : keys_of o ≡ keys_of x.opened) (z : IsSteady v f most x) where
   pub retold_steady : IsSteady v f most (retold x o)
@@ -47,7 +47,7 @@ module _ {Set : Type 0} (v : View Set) (f : CostToGo Set) (most : Option ℕ) (x
 
 -- more is known of the plans that were given
 abbrev pub regiven : Front → Given → Front
-regiven x g = record { graph = x.graph; moves = x.moves; tree = x.tree; queue = x.queue; other = x.other; is_late = x.is_late; given = g; opened = x.opened }
+regiven x g = record x { given = g }
 
 pub regiven_steady : {Set : Type 0} (v : View Set) (f : CostToGo Set) (most : Option ℕ) (x : Front) (g : Given) → IsSteady v f most x → IsSteady v f most (regiven x g)
 regiven_steady v f most x g z = record { ready = z.ready; serves = z.serves; table = z.table; covers = z.covers }
@@ -72,7 +72,7 @@ module _ {Set : Type 0} (v : View Set) (f : CostToGo Set) (most : Option ℕ) (x
   module _ (e : Entry) (some : 0 < length (waiting x)) (first : e ≡ slice_index_or (waiting x) 0 e) (cheap : e.bound.0 ≤ top most)
       (kids : List Entry) (enough : AreEnough v f w.tree.items (path_at x.tree.items e.node) (end_at (states_of w.graph) x.tree.items e.node) kids) (q r : Queue) (perm : IsPermutation (waiting x ++ kids) (e ∷ (entries_of q ++ entries_of r))) (o : Opened) (added : AddsPlace w.tree.items e.node e.at_goal w.opened o) where
     abbrev after : Front
-    after = record { graph = w.graph; moves = w.moves; tree = w.tree; queue = q; other = r; is_late = w.is_late; given = w.given; opened = o }
+    after = record w { queue = q; other = r; opened = o }
 
     place : places_of o ≡ places x ++ e.node ∷ []
     place = added.places ∙ ap (λ (is : List ℕ). is ++ e.node ∷ []) grown_places

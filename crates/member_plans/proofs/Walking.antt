@@ -16,6 +16,7 @@ use Rattle.prefix_ends.specs.Left.{Known}
 use Rattle.prefix_ends.specs.Children.{IsEntry}
 use Rattle.prefix_ends.specs.Standing.{IsReady}
 use Rattle.prefix_ends.proofs.Moving.{ready_stays}
+use Rattle.prefix_ends.specs.declared.ranks.Ranks.{Ranks}
 use Rattle.prefix_ends.proofs.Dearest.{bounds_past}
 use Rattle.member_laws.specs.Nodes.{Covers, PendsNode}
 use Rattle.member_laws.proofs.Pending as pending
@@ -29,7 +30,7 @@ use Rattle.member_plans.specs.declared.walk.Halt.TheVariants.{Due, Opens, Waits,
 
 -- the queues alone are others
 abbrev pub requeued : Front → Queue → Queue → Front
-requeued x q o = record { graph = x.graph; moves = x.moves; tree = x.tree; queue = q; other = o; is_late = x.is_late; given = x.given; opened = x.opened }
+requeued x q o = record x { queue = q; other = o }
 
 pub same_self : (y : System) (x : Front) → SamePends y x x
 same_self y x p = ((λ h. h), (λ h. h))
@@ -114,14 +115,25 @@ module _ {Set : Type 0} (v : View Set) (f : CostToGo Set) (most : Option ℕ) (x
         more = omega arith;
       }
 
+-- more ranks are kept
+abbrev pub reranked : Front → Ranks → Front
+reranked x r = record x { ranks = r }
+
+pub reranked_follows : {Set : Type 0} (v : View Set) (f : CostToGo Set) (most : Option ℕ) (x z : Front) (r : Ranks) → Follows v f most x z → Follows v f most x (reranked z r)
+reranked_follows v f most x z r k = record {
+  steady = record { ready = k.steady.ready; serves = k.steady.serves; table = k.steady.table; covers = k.steady.covers };
+  same = k.same;
+  more = k.more;
+}
+
 -- the same entries wait
 module _ {Set : Type 0} (v : View Set) (f : CostToGo Set) (most : Option ℕ) (x z : Front) (k : Rearranged x z) where
   -- the new queues beside all else that is old
   abbrev mixed : Front
-  mixed = record { graph = x.graph; moves = x.moves; tree = x.tree; queue = z.queue; other = z.other; is_late = z.is_late; given = z.given; opened = x.opened }
+  mixed = record z { graph = x.graph; moves = x.moves; tree = x.tree; opened = x.opened }
 
   is_mixed : mixed ≡ z
-  is_mixed i = record { graph = sym k.graph i; moves = sym k.moves i; tree = sym k.tree i; queue = z.queue; other = z.other; is_late = z.is_late; given = z.given; opened = sym k.opened i }
+  is_mixed i = record z { graph = sym k.graph i; moves = sym k.moves i; tree = sym k.tree i; opened = sym k.opened i }
 
   pub rearranged_follows : IsSteady v f most x → Follows v f most x z
   rearranged_follows s = subst (Follows v f most x) is_mixed (record {

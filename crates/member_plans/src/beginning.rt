@@ -17,6 +17,7 @@ use crate::given::Given;
 use crate::moves::Moves;
 use crate::opened::Opened;
 use cost_to_go::CostToGo;
+use prefix_ends::Ranks;
 use prefix_tree::{Entry, Node, Queue, StateGraph, number_of_start};
 use single_states::goal_at;
 use space_api::Space;
@@ -65,6 +66,7 @@ fn first_front<'a, S: Space>(
         is_late: false,
         given: Given::new(alloc),
         opened: Opened::new(alloc),
+        ranks: Ranks::new(alloc),
     })
 }
 

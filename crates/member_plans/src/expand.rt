@@ -16,7 +16,7 @@ ghost use Rattle.member_plans.specs.Children.{AreChosen, AreEnough};
 use crate::front::Front;
 use crate::taking::{is_one_nearer, takes};
 use cost_to_go::CostToGo;
-use prefix_ends::add_child;
+use prefix_ends::Ranks;
 use prefix_tree::{Entry, Move, Node, StateGraph, find_moves, node_at};
 use space_api::{Space, SpaceFault};
 use std::alloc::Global;
@@ -28,6 +28,7 @@ fn add_some<S: Space>(
     space: &S,
     search: &CostToGo<S::Set>,
     graph: &StateGraph,
+    ranks: &mut Ranks,
     tree: &mut Vec<Node>,
     entry: Entry,
     moves: &[Move],
@@ -49,7 +50,7 @@ fn add_some<S: Space>(
         if !takes(marks, marked, step.op) {
             continue;
         }
-        add_child(
+        ranks.add_child(
             alloc,
             space,
             search,
@@ -70,6 +71,7 @@ fn add_enough<S: Space>(
     space: &S,
     search: &CostToGo<S::Set>,
     graph: &StateGraph,
+    ranks: &mut Ranks,
     tree: &mut Vec<Node>,
     entry: Entry,
     moves: &[Move],
@@ -87,12 +89,14 @@ fn add_enough<S: Space>(
     ensures children { IfOk result (λ kids. AreEnough (S.view space.now) search.now tree.new.items
         (path_at tree.old.items entry.node) (end_at (states_of graph.now) tree.old.items entry.node) kids.items) }
 {
-    let mut children = add_some(alloc, space, search, graph, tree, entry, moves, marks, true)?;
+    let mut children = add_some(
+        alloc, space, search, graph, ranks, tree, entry, moves, marks, true,
+    )?;
     if is_one_nearer(&children, entry) {
         return Ok(children);
     }
     let others = add_some(
-        alloc, space, search, graph, tree, entry, moves, marks, false,
+        alloc, space, search, graph, ranks, tree, entry, moves, marks, false,
     )?;
     children.extend_from_slice(&others)?;
     Ok(children)
@@ -134,6 +138,7 @@ fn children_of<S: Space>(
             space,
             search,
             &front.graph,
+            &mut front.ranks,
             &mut front.tree,
             entry,
             moves,

@@ -3,6 +3,7 @@
 use crate::given::Given;
 use crate::moves::Moves;
 use crate::opened::Opened;
+use prefix_ends::Ranks;
 use prefix_tree::{Node, Queue, StateGraph};
 
 /// Prefixes, those that wait, and those that were opened.
@@ -10,6 +11,8 @@ use prefix_tree::{Node, Queue, StateGraph};
 pub struct Front<'a> {
     /// The states to which prefixes come.
     pub(crate) graph: StateGraph,
+    /// Of some of them the rank.
+    pub(crate) ranks: Ranks,
     /// Which of the moves from there are enough.
     pub(crate) moves: Moves<'a>,
     /// The prefixes that were made.

@@ -15,7 +15,6 @@ use crate::expand::expand;
 use crate::front::Front;
 use cost_to_go::CostToGo;
 use lazy_plans::Steps;
-use prefix_ends::learn as learn_more;
 use prefix_tree::{Entry, operators_to};
 use space_api::{Space, SpaceFault};
 use std::alloc::{AllocError, Global};
@@ -45,7 +44,7 @@ pub(crate) fn learn<S: Space, L: Ledger>(
     ensures one { OnOk result (steps.new ≡ steps.old + 1) }
     ensures none { OnErr result (steps.new ≡ steps.old) }
 {
-    learn_more(
+    front.ranks.learn(
         alloc,
         space,
         search,

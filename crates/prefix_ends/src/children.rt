@@ -74,27 +74,3 @@ impl Ranks {
         }
     }
 }
-
-/// The same, where no ranks are kept.
-pub fn add_child<S: Space>(
-    alloc: Global,
-    space: &S,
-    search: &CostToGo<S::Set>,
-    graph: &StateGraph,
-    tree: &mut Vec<Node>,
-    entry: Entry,
-    step: Move,
-    children: &mut Vec<Entry>,
-) -> Result<(), SpaceFault>
-    requires search { IsCostToGo (S.view space.now) search.now }
-    requires graph { IsStateGraph (S.view space.now).system graph.now }
-    requires tree { IsTree (S.view space.now).system TopK (states_of graph.now) tree.old.items }
-    requires entry { IsEntry (S.view space.now) search.now tree.old.items entry }
-    requires step { IsMove (S.view space.now).system (states_of graph.now)
-        (end_at (states_of graph.now) tree.old.items entry.node) step }
-    ensures grows { Grows (S.view space.now).system TopK (states_of graph.now) tree.old.items tree.new.items }
-    ensures added { OnOk result (Added (S.view space.now) search.now tree.new.items
-        (path_at tree.old.items entry.node) step.op children.old.items children.new.items) }
-{
-    Ranks::none(alloc).add_child(alloc, space, search, graph, tree, entry, step, children)
-}

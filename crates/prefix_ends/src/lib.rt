@@ -20,8 +20,7 @@ mod ranks;
 mod reach;
 mod turns;
 
-pub use children::add_child;
 pub use knowing::{go_on, is_outdated, top_of};
 pub use leading::goes_on;
 pub use ranks::Ranks;
-pub use turns::{learn, plan_of};
+pub use turns::plan_of;

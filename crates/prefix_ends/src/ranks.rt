@@ -8,7 +8,6 @@ use cost_to_go::Rank;
 pub struct Ranks {
     /// The last states may have no place here.
     kept: Vec<Option<Rank>>,
-    keeps: bool,
 }
 
 ghost use Rattle.std.specs.Prelude.{◌≤◌, ℕ, MatchOption};
@@ -27,15 +26,6 @@ impl Ranks {
     pub fn new(alloc: Global) -> Ranks {
         Ranks {
             kept: Vec::new(alloc),
-            keeps: true,
-        }
-    }
-
-    /// Keeps no ranks.
-    pub(crate) fn none(alloc: Global) -> Ranks {
-        Ranks {
-            kept: Vec::new(alloc),
-            keeps: false,
         }
     }
 
@@ -82,9 +72,7 @@ impl Ranks {
         }
         let found = search.rank_from(space, state, first, low);
         if let Some(rank) = found {
-            if self.keeps {
-                self.keep(number, rank);
-            }
+            self.keep(number, rank);
         }
         found
     }

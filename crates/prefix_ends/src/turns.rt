@@ -62,30 +62,6 @@ impl Ranks {
     }
 }
 
-/// The same, where no ranks are kept.
-pub fn learn<S: Space, L: Ledger>(
-    alloc: Global,
-    space: &S,
-    search: &CostToGo<S::Set>,
-    graph: &StateGraph,
-    tree: &[Node],
-    queue: &mut Queue,
-    entry: Entry,
-    steps: &mut Steps<L>,
-) -> Result<(), AllocError>
-    requires ready { IsReady (S.view space.now) search.now graph.now tree.now (entries_of queue.old) }
-    requires some { 0 < length (entries_of queue.old) }
-    requires first { entry ≡ slice_index_or (entries_of queue.old) 0 entry }
-    ensures ready { IsReady (S.view space.now) search.now graph.now tree.now (entries_of queue.new) }
-    ensures ok { OnOk result (Learned (S.view space.now) search.now tree.now entry (entries_of queue.old)
-        (entries_of queue.new)) }
-    ensures err { OnErr result (entries_of queue.new ≡ entries_of queue.old) }
-    ensures one { OnOk result (steps.new ≡ steps.old + 1) }
-    ensures none { OnErr result (steps.new ≡ steps.old) }
-{
-    Ranks::none(alloc).learn(alloc, space, search, graph, tree, queue, entry, steps)
-}
-
 /// The plan that the entry is, if it is one.
 pub fn plan_of(alloc: Global, tree: &[Node], entry: Entry) -> Result<Option<Plan>, AllocError>
     requires linked { AreLinked tree.now }

@@ -8,7 +8,7 @@ use Rattle.member_laws.specs.Nodes.{Covers}
 use Rattle.member_plans.specs.Front.{opened, waiting}
 use Rattle.member_plans.proofs.Beside.{join_each, right_each, ready_left, learned_beside}
 use Rattle.member_plans.proofs.Turning.{learned_covers, learned_less}
-use Rattle.member_plans.proofs.Walking.{follows_requeued}
+use Rattle.member_plans.proofs.Walking.{follows_requeued, requeued, reranked_follows}
 use Rattle.member_plans.proofs.turn.learn.Goals as goal
 
 -- what covers covers, refused or not
@@ -36,8 +36,8 @@ returns-clause-follows g c =
     let o = entries_of x.other in
     let new = entries_of c.learn.new.queue in
     let P = IsEntry v f x.tree.items in
-    follows_requeued v f c.args.most x c.learn.new.queue x.other z (join_each P new o (rw c.deref.ensures.value at c.learn.ensures.ready).each (right_each P q o z.ready.each))
-    (either v.system x.tree.items (opened x) q o new _ c.learn.result (rw c.deref.ensures.value at c.learn.ensures.ok) c.learn.ensures.err (λ l. learned_covers v f x.graph x.tree.items (waiting x) (new ++ o) e (opened x) z.covers (learned_beside v f x.tree.items q o new e l)) z.covers)
+    reranked_follows v f c.args.most x (requeued x c.learn.new.queue x.other) c.learn.new.self (follows_requeued v f c.args.most x c.learn.new.queue x.other z (join_each P new o (rw c.deref.ensures.value at c.learn.ensures.ready).each (right_each P q o z.ready.each))
+    (either v.system x.tree.items (opened x) q o new _ c.learn.result (rw c.deref.ensures.value at c.learn.ensures.ok) c.learn.ensures.err (λ l. learned_covers v f x.graph x.tree.items (waiting x) (new ++ o) e (opened x) z.covers (learned_beside v f x.tree.items q o new e l)) z.covers))
 
 pub returns-clause-less : goal.returns-clause-less
 returns-clause-less g c =

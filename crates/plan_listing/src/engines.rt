@@ -1,17 +1,21 @@
 //! Lists by any engine over either space.
 
 ghost use Rattle.std.specs.Prelude.{◌≡◌, None, Some, IfOk};
+ghost use Rattle.task_system.specs.Computed.{system_of as system_by};
 ghost use Rattle.reconstruct.specs.Engine.{IsReadyFor, IsEngine};
 ghost use Rattle.loopless.specs.Engine.{IsEngine as IsLoopless};
 ghost use Rattle.prefix_plans.specs.Engine.{IsEngine as IsPrefixes};
+ghost use Rattle.member_plans.specs.Engine.{system_of, HasAll, IsEngine as IsMembers};
 
 use crate::costs::costs_of;
 use crate::listing::{Ending, Listing, first_plans};
 use bdd_space::BddSpace;
 use bidirectional::Choice;
+use class_plans::Classes;
 use explicit_space::{ExplicitSpace, FuseSpace};
 use lazy_plans::LazyPlans;
 use loopless::LooplessPlans;
+use member_plans::MemberPlans;
 use prefix_plans::PrefixPlans;
 use reconstruct::TopPlans;
 use selectors::Unordered;
@@ -30,6 +34,8 @@ pub enum Engine {
     Prefixes,
     /// Of those the first of each class of rearrangements.
     PrefixClasses,
+    /// One plan of each class of rearrangements, without drawing all of them.
+    Classes,
     /// The plans that visit no state twice.
     Loopless,
 }
@@ -39,7 +45,7 @@ impl Engine {
     pub fn mode(self) -> Mode {
         match self {
             Engine::Top(_) | Engine::Prefixes => Mode::TopK,
-            Engine::Unordered(_) | Engine::PrefixClasses => Mode::Unordered,
+            Engine::Unordered(_) | Engine::PrefixClasses | Engine::Classes => Mode::Unordered,
             Engine::Loopless => Mode::Loopless,
         }
     }
@@ -122,6 +128,32 @@ fn prefix_plans<S: Space + Drop>(
     }
 }
 
+/// The engine of one plan of each class at least.
+fn member_plans<'a, S: Space + Drop>(
+    alloc: Global,
+    task: &'a Task,
+    space: S,
+    request: Request,
+) -> Result<MemberPlans<'a, S>, Memory>
+    requires task { (S.view space).system ≡ system_by task.now }
+    requires none { IsReadyFor (S.view space) None }
+    ensures lawful { IfOk result (IsMembers S.view) }
+    ensures all { IfOk result (λ x. HasAll S.view (system_of S.view x) x) }
+{
+    let mut space = space;
+    if !request.handed {
+        return match request.most {
+            None => MemberPlans::new(alloc, task, space),
+            Some(most) => MemberPlans::within(alloc, task, space, most),
+        };
+    }
+    let all = space.all()?;
+    match request.most {
+        None => MemberPlans::new_within(alloc, task, space, all),
+        Some(most) => MemberPlans::within_most(alloc, task, space, most, all),
+    }
+}
+
 /// The engine of loopless plans.
 fn loopless_plans<S: Space + Drop>(
     alloc: Global,
@@ -148,10 +180,12 @@ fn loopless_plans<S: Space + Drop>(
 /// The first plans over a space.
 fn listed_over<S: Space + Drop>(
     alloc: Global,
+    task: &Task,
     space: S,
     request: Request,
 ) -> Result<Listing, Memory>
-    requires { IsReadyFor (S.view space) None }
+    requires task { (S.view space).system ≡ system_by task.now }
+    requires none { IsReadyFor (S.view space) None }
 {
     match request.engine {
         Engine::Top(choice) => {
@@ -170,6 +204,10 @@ fn listed_over<S: Space + Drop>(
             let plans = prefix_plans(alloc, space, request)?;
             list_of(alloc, Unordered::new(alloc, plans)?, request.count)
         }
+        Engine::Classes => {
+            let plans = member_plans(alloc, task, space, request)?;
+            list_of(alloc, Classes::new(alloc, plans), request.count)
+        }
         Engine::Loopless => {
             let plans = loopless_plans(alloc, space, request)?;
             list_of(alloc, plans, request.count)
@@ -182,9 +220,9 @@ pub fn listed(alloc: Global, task: &Task, request: Request) -> Result<Listing, M
     match request.sets {
         Sets::States { calls } => {
             let space = FuseSpace::new(ExplicitSpace::of(alloc, task)?, calls);
-            listed_over(alloc, space, request)
+            listed_over(alloc, task, space, request)
         }
-        Sets::Diagrams => listed_over(alloc, BddSpace::of(alloc, task)?, request),
+        Sets::Diagrams => listed_over(alloc, task, BddSpace::of(alloc, task)?, request),
     }
 }
 

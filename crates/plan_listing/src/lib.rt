@@ -4,8 +4,8 @@
 //! count of turns of its own; where the list ends, it asks twice more. `first_plan` takes the first one by the
 //! selector, and asks once more. `costs_of` tells what plans cost, where
 //! `plan_out` calls their list good, and `lists` compares both with what they should be; `stops_well` refuses
-//! one call of the space after the other. It stands on the engines (`reconstruct`, `prefix_plans`, `loopless`, `selectors`), on
-//! both spaces, and on `plan_out` for the check.
+//! one call of the space after the other. It stands on the engines (`reconstruct`, `prefix_plans`,
+//! `member_plans` with `class_plans`, `loopless`, `selectors`), on both spaces, and on `plan_out` for the check.
 #![tactic(auto)]
 
 mod choice;

@@ -103,7 +103,7 @@ fn has_rows<S: Space + Drop>(
     go_by(rt, alloc, &mut space, &mut search, rows)?;
     assert!(rt; search.next().is_none());
     assert_eq!(rt; search.beyond(), rows.is_beyond);
-    let ranks = rows.starts.len() - 1;
+    let ranks = rows.starts.len().saturating_sub(1);
     assert_eq!(rt; search.ranks(), ranks);
     Ok(())
 }

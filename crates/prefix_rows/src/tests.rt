@@ -1,7 +1,8 @@
-//! Rows.
+//! All plans.
 
+use crate::rows::{Row, is_listed_each_way, none};
 use lazy_plans::Stop;
-use plan_listing::{Ending, Engine, Request, Sets, listed, lists, stops_well};
+use plan_listing::{Ending, Engine, stops_well};
 use small_tasks::{
     Draft, EffectDraft, OperatorDraft, VariableDraft, drafted, goal_at_start, near_and_far,
     no_operator, no_plan, past_64_bits, switch_and_back, two_switches, zero_costs,
@@ -10,50 +11,14 @@ use std::alloc::Global;
 use std::test::Fail;
 use symk_task::{Memory, Task};
 
-const SETS: [Sets; 2] = [Sets::States { calls: u64::MAX }, Sets::Diagrams];
-
-/// What a list of the plans ought to be.
-#[derive(Clone, Copy)]
-struct Row<'a> {
-    /// The greatest cost that is wanted, where there is one.
-    most: Option<u64>,
-    /// The operators of the plans, in their order.
-    plans: &'a [&'a [u32]],
-    /// What they cost.
-    costs: &'a [u64],
-    /// How the list ends.
-    ending: Ending,
-}
-
-/// So many plans over the sets.
-fn some(row: Row<'_>, sets: Sets, handed: bool, count: u32) -> Request {
-    Request {
-        engine: Engine::Prefixes,
-        sets,
-        most: row.most,
-        handed,
-        count,
-    }
-}
-
-/// Whether the plans, and what they cost, are those of the row.
-fn is_listed(alloc: Global, task: &Task, request: Request, row: Row<'_>) -> Result<bool, Memory> {
-    Ok(
-        listed(alloc, task, request)?.begins(row.plans)
-            && lists(alloc, task, request, row.costs, row.ending)?,
-    )
-}
-
-/// Whether the row is listed over each space, with a set that is handed over and without. So many plans are asked for.
+/// Whether the row is listed, whatever sets are made of.
 fn each_way(alloc: Global, task: Task, row: Row<'_>, count: u32) -> Result<bool, Memory> {
-    for sets in SETS {
-        if !is_listed(alloc, &task, some(row, sets, false, count), row)?
-            || !is_listed(alloc, &task, some(row, sets, true, count), row)?
-        {
-            return Ok(false);
-        }
-    }
-    Ok(true)
+    is_listed_each_way(alloc, Engine::Prefixes, &task, row, count)
+}
+
+/// Whether the row is listed as far as the space is not refused memory, for good.
+fn is_refused(alloc: Global, task: Task, row: Row<'_>, count: u32) -> Result<bool, Memory> {
+    stops_well(alloc, &task, Engine::Prefixes, row.plans, count, row.ending)
 }
 
 /// A place that is left at cost 1 and come back to at cost 2, and a far way on to the goal.
@@ -99,16 +64,6 @@ const WIDE: Draft = Draft {
     ],
     rules: &[],
 };
-
-/// The row of no plan, and how it ends.
-fn none(most: Option<u64>, ending: Ending) -> Row<'static> {
-    Row {
-        most,
-        plans: &[],
-        costs: &[],
-        ending,
-    }
-}
 
 #[test]
 fn circles_of_cost_0_come_as_longer_plans(rt: HostRuntime) -> Result<(), Fail> {
@@ -221,27 +176,14 @@ fn a_greatest_cost_ends_a_list(rt: HostRuntime) -> Result<(), Fail> {
 #[test]
 fn each_call_of_the_space_is_refused_once(rt: HostRuntime) -> Result<(), Fail> {
     let alloc = rt.alloc();
-    let task = two_switches(alloc)?;
-    assert!(rt;
-        stops_well(
-            alloc,
-            &task,
-            Engine::Prefixes,
-            &[&[1, 0], &[0, 1]],
-            5,
-            Ending::Exhausted
-        )?
-    );
-    let task = past_64_bits(alloc)?;
-    assert!(rt;
-        stops_well(
-            alloc,
-            &task,
-            Engine::Prefixes,
-            &[],
-            3,
-            Ending::Stopped(Stop::CostRange)
-        )?
-    );
+    let all = Row {
+        most: None,
+        plans: &[&[1, 0], &[0, 1]],
+        costs: &[2, 2],
+        ending: Ending::Exhausted,
+    };
+    assert!(rt; is_refused(alloc, two_switches(alloc)?, all, 5)?);
+    let stopped = Ending::Stopped(Stop::CostRange);
+    assert!(rt; is_refused(alloc, past_64_bits(alloc)?, none(None, stopped), 3)?);
     Ok(())
 }

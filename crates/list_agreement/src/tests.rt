@@ -6,7 +6,7 @@ use plan_listing::{BACKWARD, Choice, Engine, FORWARD, LIGHTER, LOWER, Request, S
 use std::alloc::Global;
 use std::test::Fail;
 use symk_task::{Memory, Mode, Task};
-use task_draws::random_task;
+use task_draws::{loose_task, random_task};
 
 const STATES: Sets = Sets::States { calls: u64::MAX };
 
@@ -19,52 +19,70 @@ const TOPS: [Engine; 5] = [
     Engine::Prefixes,
 ];
 
-const CLASSES: [Engine; 3] = [
+const CLASSES: [Engine; 4] = [
     Engine::Unordered(LOWER),
     Engine::Unordered(LIGHTER),
     Engine::PrefixClasses,
+    Engine::Classes,
 ];
 
-/// How many plans of an engine are compared, and how many all plans are taken.
-const SHORT: u32 = 8;
+/// How far a list goes.
+#[derive(Clone, Copy)]
+struct Reach {
+    /// The greatest cost that is wanted, where there is one.
+    most: Option<u64>,
+    /// How many plans are wanted.
+    count: u32,
+}
 
-const LONG: u32 = 40;
+/// How many plans of an engine are compared, and how many of all plans are taken; and how many where costs are bounded.
+const SHORT: Reach = Reach {
+    most: None,
+    count: 8,
+};
+
+const LONG: Reach = Reach {
+    most: None,
+    count: 40,
+};
+
+const MANY: u32 = 100;
 
 /// How many tasks are drawn.
 const SEEDS: u64 = 300;
 
-/// The list of so many plans over the sets, where it is good.
+/// The list over the sets that goes so far, where it is good.
 fn priced(
     alloc: Global,
     task: &Task,
     engine: Engine,
     sets: Sets,
-    count: u32,
+    reach: Reach,
 ) -> Result<Option<Priced>, Memory> {
     let request = Request {
         engine,
         sets,
-        most: None,
+        most: reach.most,
         handed: false,
-        count,
+        count: reach.count,
     };
     let listing = listed(alloc, task, request)?;
     Priced::of(alloc, task, engine.mode(), listing)
 }
 
-/// Long lists of all plans, over each space.
+/// Lists of an engine, over each space.
 #[derive(Drop)]
 struct Pair {
     states: Priced,
     diagrams: Priced,
 }
 
-/// The lists of so many plans over both spaces, where they are good, cost the same and end alike.
-fn both(alloc: Global, task: &Task, engine: Engine, count: u32) -> Result<Option<Pair>, Memory> {
-    let Some(states) = priced(alloc, task, engine, STATES, count)? else {
+/// The lists over both spaces that go so far, where they are good, cost the same and end alike.
+fn both(alloc: Global, task: &Task, engine: Engine, reach: Reach) -> Result<Option<Pair>, Memory> {
+    let Some(states) = priced(alloc, task, engine, STATES, reach)? else {
         return Ok(None);
     };
-    let Some(diagrams) = priced(alloc, task, engine, Sets::Diagrams, count)? else {
+    let Some(diagrams) = priced(alloc, task, engine, Sets::Diagrams, reach)? else {
         return Ok(None);
     };
     if states.costs != diagrams.costs || states.listing.ending != diagrams.listing.ending {
@@ -81,25 +99,29 @@ fn gives_firsts(engine: Engine) -> bool {
     }
 }
 
-/// Whether the list of the engine follows from the list of all plans over the same sets.
+/// Whether the list of the engine, for which so many plans were asked, follows from the list of all plans over the same
+/// sets.
 fn list_follows(
     alloc: Global,
     engine: Engine,
     all: &Priced,
     firsts: &Firsts,
+    count: u32,
     list: &Priced,
 ) -> Result<bool, Memory> {
     let alike = !gives_firsts(engine) || give_alike(&firsts.plans, &list.listing.plans);
-    Ok(alike && follows(alloc, engine.mode(), all, firsts, SHORT as usize, list)?)
+    Ok(alike && follows(alloc, engine.mode(), all, firsts, count as usize, list)?)
 }
 
-/// Whether the lists of the engines of a mode agree with one another, and follow from the lists of all plans.
+/// Whether the lists of the engines of a mode that go so far agree with one another, and follow from the lists of all
+/// plans.
 fn mode_agrees(
     alloc: Global,
     task: &Task,
     mode: Mode,
     engines: &[Engine],
     all: &Pair,
+    reach: Reach,
 ) -> Result<bool, Memory> {
     let Some(states) = Firsts::of(alloc, task, mode, &all.states)? else {
         return Ok(false);
@@ -108,11 +130,19 @@ fn mode_agrees(
         return Ok(false);
     };
     for engine in engines {
-        let Some(lists) = both(alloc, task, *engine, SHORT)? else {
+        let Some(lists) = both(alloc, task, *engine, reach)? else {
             return Ok(false);
         };
-        if !list_follows(alloc, *engine, &all.states, &states, &lists.states)?
-            || !list_follows(alloc, *engine, &all.diagrams, &diagrams, &lists.diagrams)?
+        let count = reach.count;
+        if !list_follows(alloc, *engine, &all.states, &states, count, &lists.states)?
+            || !list_follows(
+                alloc,
+                *engine,
+                &all.diagrams,
+                &diagrams,
+                count,
+                &lists.diagrams,
+            )?
         {
             return Ok(false);
         }
@@ -132,9 +162,16 @@ fn task_agrees(
         return Ok(false);
     };
     Ok(
-        mode_agrees(alloc, task, Mode::TopK, tops, &all)?
-            && mode_agrees(alloc, task, Mode::Unordered, classes, &all)?
-            && mode_agrees(alloc, task, Mode::Loopless, &[Engine::Loopless], &all)?,
+        mode_agrees(alloc, task, Mode::TopK, tops, &all, SHORT)?
+            && mode_agrees(alloc, task, Mode::Unordered, classes, &all, SHORT)?
+            && mode_agrees(
+                alloc,
+                task,
+                Mode::Loopless,
+                &[Engine::Loopless],
+                &all,
+                SHORT,
+            )?,
     )
 }
 
@@ -154,8 +191,59 @@ fn wide_agrees(alloc: Global, seed: u64) -> Result<bool, Memory> {
             &task,
             Engine::Prefixes,
             &[Engine::Prefixes],
-            &[Engine::PrefixClasses],
+            &[Engine::PrefixClasses, Engine::Classes],
         ),
+        None => Ok(true),
+    }
+}
+
+/// So much more than what a cheapest plan costs, and 0 where there is none.
+fn dearer(alloc: Global, task: &Task, more: u64) -> Result<u64, Memory> {
+    let one = Reach {
+        most: None,
+        count: 1,
+    };
+    let Some(first) = priced(alloc, task, Engine::Prefixes, STATES, one)? else {
+        return Ok(0);
+    };
+    match first.costs.first() {
+        Some(cost) => Ok(cost.saturating_add(more)),
+        None => Ok(0),
+    }
+}
+
+/// Whether the classes that cost so much more than a cheapest plan at most are those of all such plans, cost the same
+/// and end alike.
+fn classes_agree(alloc: Global, task: &Task, more: u64) -> Result<bool, Memory> {
+    let reach = Reach {
+        most: Some(dearer(alloc, task, more)?),
+        count: MANY,
+    };
+    let Some(all) = both(alloc, task, Engine::Top(LOWER), reach)? else {
+        return Ok(false);
+    };
+    mode_agrees(
+        alloc,
+        task,
+        Mode::Unordered,
+        &[Engine::Classes],
+        &all,
+        reach,
+    )
+}
+
+/// Whether what the seed draws is no task, or a task of which the classes are those of all plans.
+fn seed_has_classes(alloc: Global, seed: u64) -> Result<bool, Memory> {
+    match random_task(alloc, seed)? {
+        Some(task) => classes_agree(alloc, &task, 3),
+        None => Ok(true),
+    }
+}
+
+/// The same where many operators commute.
+fn loose_has_classes(alloc: Global, seed: u64) -> Result<bool, Memory> {
+    match loose_task(alloc, seed)? {
+        Some(task) => classes_agree(alloc, &task, 1),
         None => Ok(true),
     }
 }
@@ -174,6 +262,26 @@ fn lists_agree_where_costs_are_wide(rt: HostRuntime) -> Result<(), Fail> {
     let alloc = rt.alloc();
     for seed in 0..SEEDS {
         assert!(rt; wide_agrees(alloc, seed)?, "at seed {seed}");
+    }
+    Ok(())
+}
+
+#[test]
+fn classes_are_those_of_all_plans(rt: HostRuntime) -> Result<(), Fail> {
+    let alloc = rt.alloc();
+    for seed in 0..SEEDS {
+        assert!(rt; seed_has_classes(alloc, seed)?, "at seed {seed}");
+    }
+    Ok(())
+}
+
+#[test]
+fn classes_are_those_of_all_plans_where_many_operators_commute(
+    rt: HostRuntime,
+) -> Result<(), Fail> {
+    let alloc = rt.alloc();
+    for seed in 0..SEEDS {
+        assert!(rt; loose_has_classes(alloc, seed)?, "at seed {seed}");
     }
     Ok(())
 }

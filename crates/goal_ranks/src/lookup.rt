@@ -20,7 +20,7 @@ ghost use Rattle.goal_ranks.specs.Ranks.{IsGoalRanks, HasRank, WaitsIn, within_o
 ghost use Rattle.goal_ranks.specs.Known.{HasWay, IsOutside, IsNewest};
 
 use crate::lists::First;
-use crate::parts::Ranked;
+use crate::parts::{Ranked, Waiting};
 use crate::search::GoalRanks;
 use single_states::has_state;
 use space_api::Space;
@@ -76,6 +76,18 @@ impl<T: Copy> GoalRanks<T> {
             (λ rank. HasRank (S.view space.now) self.now rank.number rank.cost state.now) }
     {
         self.rank_from(space, state, 0, 0)
+    }
+
+    /// Of the sets that wait in slots the one of the least key. None where no slot has one. The set stays its owner's, until
+    /// a turn.
+    pub fn first_waiting(&self) -> Option<Waiting<T>>
+        ensures { (v : View T) → IsGoalRanks v self.now → IfSome result (λ waiting. Valid v waiting.set) }
+    {
+        let least = self.slot_keys.least()?;
+        if least.index >= self.slots.len() {
+            return None;
+        }
+        self.slots[least.index]
     }
 
     /// The states that may have a rank and have none. The set stays its owner's, until a turn.

@@ -7,8 +7,8 @@ pub enum Part<T: Copy> {
     Spent,
     /// None of them can have a rank yet: the set may wait under this key, which is greater.
     Later(u128),
-    /// A new set of some of them, each of which can have a rank.
-    Next(T),
+    /// A new set of some of them, each of which can have a rank; `all` only where it has all that are left.
+    Next { set: T, all: bool },
 }
 
 /// What the rings of the search ahead tell of a set.
@@ -22,7 +22,7 @@ enum Told {
     Later(u128),
 }
 
-ghost use Rattle.std.specs.Prelude.{◌≡◌, ◌+◌, ◌^◌, ◌<◌, ◌≤◌, ℕ, min, IfOk, IfSome, OnErr};
+ghost use Rattle.std.specs.Prelude.{◌≡◌, ◌≢◌, ◌+◌, ◌^◌, ◌<◌, ◌≤◌, ℕ, None, min, IfOk, IfSome, MatchOption, OnErr};
 ghost use Rattle.task_system.specs.System.{State};
 ghost use Rattle.space_api.specs.View.{View, Valid, Has, Meets};
 ghost use Rattle.space_api.specs.Frames.{Kept, NoMore, Gives, Stays};
@@ -40,7 +40,7 @@ use space_api::{Space, SpaceFault, meets};
 
 /// What a key leaves beyond a cost, where 64 bits hold it.
 fn rest_of(key: u128, cost: u64) -> Option<u64>
-    ensures { IfSome result (λ c. cost + c ≡ key) }
+    ensures { MatchOption result ((c : ℕ) → c < 2 ^ 64 → cost + c ≢ key) (λ c. cost + c ≡ key) }
 {
     let rest = key.checked_sub(cost as u128)?;
     u64::try_from(rest).ok()
@@ -69,14 +69,20 @@ fn ring_between<S: Space>(
     ensures stays { Stays (S.view space.old) (S.view space.new) }
     ensures ok { IfOk result (λ o. IfSome o (λ c. (cost + c ≤ key)
         × IsLayerMeeting (S.view space.old) layers.now set c)) }
+    ensures none { IfOk result (λ o. (o ≡ None) → (c : ℕ) → c < 2 ^ 64 → cost + c ≡ key
+        → ¬ IsLayerMeeting (S.view space.old) layers.now set c) }
 {
-    if let Some(ring) = rest_of(key, cost)
-        && let Some(whole) = layers.layer(ring)
-        && meets(space, whole, set)?
-    {
-        return Ok(Some(ring));
+    let Some(ring) = rest_of(key, cost) else {
+        return Ok(None);
+    };
+    let Some(whole) = layers.layer(ring) else {
+        return Ok(None);
+    };
+    if meets(space, whole, set)? {
+        Ok(Some(ring))
+    } else {
+        Ok(None)
     }
-    Ok(None)
 }
 
 /// What the rings tell of a set whose states cost so much to the goal, and which waits under this key, by the first ring that
@@ -109,7 +115,7 @@ fn tell_by_rings<S: Space>(
 }
 
 /// What the rings tell of a set whose states cost so much to the goal, and which waits under this key. Mostly the ring that
-/// lies between the two has one of them, and no other is looked at.
+/// lies between the two has one of them, or it is the last ring that there may be, and no other is looked at.
 fn tell<S: Space>(
     space: &mut S,
     ahead: &LeastCosts<S::Set>,
@@ -131,6 +137,7 @@ fn tell<S: Space>(
     }
     match ring_between(space, ahead.layers(), cost, key, set)? {
         Some(ring) => Ok(Told::Ring(ring)),
+        None if cost as u128 + bound == key + 1 => Ok(Told::Later(cost as u128 + bound)),
         None => tell_by_rings(space, ahead, rings, cost, key, set),
     }
 }
@@ -181,11 +188,17 @@ pub fn divide<S: Space>(
         return Ok(Part::Spent);
     }
     match tell(space, ahead, rings, waiting.cost, waiting.key, fresh) {
-        Ok(Told::Whole) => Ok(Part::Next(fresh)),
+        Ok(Told::Whole) => Ok(Part::Next {
+            set: fresh,
+            all: true,
+        }),
         Ok(Told::Ring(cost)) => {
             let near = in_layer(space, ahead.layers(), cost, fresh);
             space.forget(fresh);
-            Ok(Part::Next(near?))
+            Ok(Part::Next {
+                set: near?,
+                all: false,
+            })
         }
         Ok(Told::Later(key)) => {
             space.forget(fresh);

@@ -75,7 +75,7 @@ returns-in_ok-near-in-Ok-Ring-clause-ok g c =
     let a = ahead_kept v u f c.meet.ensures.kept c.requires.ahead in
     let t = subst (λ (o : Told). Tells u f fresh c.args.waiting.cost c.args.waiting.key o) c.in-Ok-Ring.field-0-is c.in-Ok-Ring.ensures.ok in
     let h = subst (λ (l : Layers _). Gives x y (λ s. Has x fresh s × InLayer (Stands x l) cost s) near) c.layers.ensures.value c.in_ok-near-in-Ok-Ring.ensures.ok in
-    ring v u f c.args.waiting c.args.left fresh c.meet.ensures.kept c.in_ok-fresh.ensures.ok x y (view c.forget-in-Ok-Ring.new.self) cost near c.tell.ensures.stays t a c.in_layer-near.ensures.kept h c.forget-in-Ok-Ring.ensures
+    (ring v u f c.args.waiting c.args.left fresh c.meet.ensures.kept c.in_ok-fresh.ensures.ok x y (view c.forget-in-Ok-Ring.new.self) cost near c.tell.ensures.stays t a c.in_layer-near.ensures.kept h c.forget-in-Ok-Ring.ensures, (λ e. cc))
 
 pub returns-in-Ok-Later-clause-ok : goal.returns-in-Ok-Later-clause-ok
 returns-in-Ok-Later-clause-ok g c =

@@ -108,13 +108,14 @@ impl Spells {
         is_cheaper(self.ahead_price, self.back_price)
     }
 
-    /// The spells after a step of the side that goes on, which was so much work and came to here.
-    pub(crate) fn after(self, work: u64, at: Reach) -> Spells {
+    /// The spells after a step of the side that goes on, which was so much work and came to here. The spell goes on where
+    /// the step left something half done: what it led to may have met the other side already.
+    pub(crate) fn after(self, work: u64, at: Reach, half_done: bool) -> Spells {
         let spells = Spells {
             work: self.work.saturating_add(work),
             ..self
         };
-        if !spells.is_over() {
+        if half_done || !spells.is_over() {
             return spells;
         }
         let closed = spells.closed(at);

@@ -1,7 +1,7 @@
 //! Which side goes on. It is steered by how much work each was, and told in no clause: it steers speed alone.
 
 ghost use Rattle.std.specs.Prelude.{◌<◌, ◌^◌, IsTrue};
-ghost use Rattle.space_api.specs.View.{View};
+ghost use Rattle.space_api.specs.View.{View, Valid};
 ghost use Rattle.space_api.specs.Frames.{Stays};
 ghost use Rattle.least_costs.specs.Least.{next_of};
 ghost use Rattle.cost_to_go.specs.Standing.{IsCostToGo, ahead_in};
@@ -10,7 +10,7 @@ use crate::search::CostToGo;
 use crate::spells::Reach;
 use goal_ranks::{Turn, bound_ahead};
 use least_costs::Step;
-use space_api::{Space, SpaceFault};
+use space_api::{Space, SpaceFault, meets};
 
 /// How much work a step was: by what the space counts before and after it, and one for each cost of operators that the step
 /// looked at. A step ahead looks at each of them, also where it settles nothing.
@@ -37,24 +37,43 @@ impl<T: Copy> CostToGo<T> {
         }
     }
 
-    /// Whether no state of the layer that the search ahead settled last has a rank.
-    fn is_layer_apart<S: Space<Set = T>>(
-        &self,
-        space: &mut S,
-        cost: u64,
-    ) -> Result<bool, SpaceFault>
+    /// Whether a state of the set has a rank.
+    fn is_ranked_in<S: Space<Set = T>>(&self, space: &mut S, set: T) -> Result<bool, SpaceFault>
+        requires stands { IsCostToGo (S.view space.old) self.now }
+        requires set { Valid (S.view space.old) set }
+        ensures { Stays (S.view space.old) (S.view space.new) }
+    {
+        let known = space.minus(set, self.ranks.left())?;
+        let apart = space.is_empty(known);
+        space.forget(known);
+        Ok(!apart)
+    }
+
+    /// Whether a state of the set waits first for a rank.
+    fn is_first_in<S: Space<Set = T>>(&self, space: &mut S, set: T) -> Result<bool, SpaceFault>
+        requires stands { IsCostToGo (S.view space.old) self.now }
+        requires set { Valid (S.view space.old) set }
+        ensures { Stays (S.view space.old) (S.view space.new) }
+    {
+        match self.ranks.first_waiting() {
+            Some(first) => meets(space, set, first.set),
+            None => Ok(false),
+        }
+    }
+
+    /// Whether the layer that the search ahead settled last has met the ranks: one of its states has a rank, or waits first
+    /// for one.
+    fn is_layer_met<S: Space<Set = T>>(&self, space: &mut S, cost: u64) -> Result<bool, SpaceFault>
         requires { IsCostToGo (S.view space.old) self.now }
         ensures { Stays (S.view space.old) (S.view space.new) }
     {
-        match self.ahead.layers().layer(cost) {
-            Some(whole) => {
-                let known = space.minus(whole, self.ranks.left())?;
-                let apart = space.is_empty(known);
-                space.forget(known);
-                Ok(apart)
-            }
-            None => Ok(true),
+        let Some(whole) = self.ahead.layers().layer(cost) else {
+            return Ok(false);
+        };
+        if self.is_first_in(space, whole)? {
+            return Ok(true);
         }
+        self.is_ranked_in(space, whole)
     }
 
     /// Whether both sides go on after this step of the search ahead.
@@ -67,7 +86,7 @@ impl<T: Copy> CostToGo<T> {
         ensures { Stays (S.view space.old) (S.view space.new) }
     {
         match step {
-            Step::Settled { cost } => self.is_layer_apart(space, cost),
+            Step::Settled { cost } => Ok(!self.is_layer_met(space, cost)?),
             Step::Closed => Ok(false),
         }
     }

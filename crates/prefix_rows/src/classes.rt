@@ -1,34 +1,10 @@
 //! One plan of each class of rearrangements.
 
-use crate::rows::{Row, is_listed_each_way, none};
+use crate::rows::{Of, Row, are_listed, are_refused};
 use lazy_plans::Stop;
-use plan_listing::{Ending, Engine, stops_well};
-use small_tasks::{
-    Draft, EffectDraft, OperatorDraft, RuleDraft, VariableDraft, axioms, drafted, goal_at_start,
-    no_operator, no_plan, past_64_bits, switch_and_back, zero_costs,
-};
-use std::alloc::Global;
+use plan_listing::{Ending, Engine};
+use small_tasks::{Draft, EffectDraft, OperatorDraft, RuleDraft, VariableDraft};
 use std::test::Fail;
-use symk_task::{Memory, Task};
-use task_gen::switches;
-
-/// Whether the row is listed, whatever sets are made of.
-fn each_way(alloc: Global, task: Task, row: Row<'_>, count: u32) -> Result<bool, Memory> {
-    is_listed_each_way(alloc, Engine::Classes, &task, row, count)
-}
-
-/// Whether the row is listed as far as the space is not refused memory, for good.
-fn is_refused(alloc: Global, task: Task, row: Row<'_>, count: u32) -> Result<bool, Memory> {
-    stops_well(alloc, &task, Engine::Classes, row.plans, count, row.ending)
-}
-
-/// Whether the row of the task of a draft, which fits, is listed.
-fn of_draft(alloc: Global, draft: &Draft<'_>, row: Row<'_>, count: u32) -> Result<bool, Memory> {
-    match drafted(alloc, draft)? {
-        Some(task) => each_way(alloc, task, row, count),
-        None => Ok(false),
-    }
-}
 
 const LAMP: VariableDraft = VariableDraft {
     layer: None,
@@ -224,145 +200,203 @@ const NEAR_AND_PAST: Draft = Draft {
     rules: &[],
 };
 
+/// 6 plans of cost 3, and of cost 5 those that turn one switch three times, of each class 5! / 3! = 20.
+const ODD_TURNS: [Row; 1] = [Row {
+    of: Of::ThreeSwitches,
+    most: Some(5),
+    count: 9,
+    plans: &[
+        &[0, 1, 2],
+        &[0, 0, 0, 1, 2],
+        &[0, 1, 1, 1, 2],
+        &[0, 1, 2, 2, 2],
+    ],
+    costs: &[3, 5, 5, 5],
+    ending: Ending::Exhausted,
+}];
+
 #[test]
 fn each_switch_is_turned_an_odd_number_of_times(rt: HostRuntime) -> Result<(), Fail> {
-    let alloc = rt.alloc();
-    // 6 plans of cost 3, and of cost 5 those that turn one switch three times, of each class 5! / 3! = 20
-    let row = Row {
-        most: Some(5),
-        plans: &[
-            &[0, 1, 2],
-            &[0, 0, 0, 1, 2],
-            &[0, 1, 1, 1, 2],
-            &[0, 1, 2, 2, 2],
-        ],
-        costs: &[3, 5, 5, 5],
-        ending: Ending::Exhausted,
-    };
-    assert!(rt; each_way(alloc, switches(alloc, 3)?, row, 9)?);
+    assert!(rt; are_listed(rt.alloc(), Engine::Classes, &ODD_TURNS)?);
     Ok(())
 }
+
+const TWO_WRITERS: [Row; 1] = [Row {
+    of: Of::Drafted(&TWO_FOR_ONE),
+    most: None,
+    count: 5,
+    plans: &[&[0, 2], &[1, 2]],
+    costs: &[2, 2],
+    ending: Ending::Exhausted,
+}];
 
 #[test]
 fn two_writers_of_one_variable_are_two_classes(rt: HostRuntime) -> Result<(), Fail> {
-    let alloc = rt.alloc();
-    let row = Row {
-        most: None,
-        plans: &[&[0, 2], &[1, 2]],
-        costs: &[2, 2],
-        ending: Ending::Exhausted,
-    };
-    assert!(rt; of_draft(alloc, &TWO_FOR_ONE, row, 5)?);
+    assert!(rt; are_listed(rt.alloc(), Engine::Classes, &TWO_WRITERS)?);
     Ok(())
 }
+
+/// Of cost 3 before, open, after alone; of cost 4 one of the two that ask for nothing comes twice.
+const IN_ORDER: [Row; 1] = [Row {
+    of: Of::Drafted(&BEFORE_AND_AFTER),
+    most: Some(4),
+    count: 9,
+    plans: &[&[0, 1, 2], &[0, 1, 1, 2], &[0, 1, 2, 2]],
+    costs: &[3, 4, 4],
+    ending: Ending::Exhausted,
+}];
 
 #[test]
 fn a_condition_that_another_writes_tells_the_order(rt: HostRuntime) -> Result<(), Fail> {
-    let alloc = rt.alloc();
-    // of cost 3 before, open, after alone; of cost 4 one of the two that ask for nothing comes twice
-    let row = Row {
-        most: Some(4),
-        plans: &[&[0, 1, 2], &[0, 1, 1, 2], &[0, 1, 2, 2]],
-        costs: &[3, 4, 4],
-        ending: Ending::Exhausted,
-    };
-    assert!(rt; of_draft(alloc, &BEFORE_AND_AFTER, row, 9)?);
+    assert!(rt; are_listed(rt.alloc(), Engine::Classes, &IN_ORDER)?);
     Ok(())
 }
+
+/// Each lamp is enough; both orders of the two are plans too, whose first operator is one already.
+const TOLD_BY_RULES: [Row; 1] = [Row {
+    of: Of::Drafted(&EITHER),
+    most: None,
+    count: 5,
+    plans: &[&[0], &[1], &[0, 1]],
+    costs: &[1, 1, 2],
+    ending: Ending::Exhausted,
+}];
 
 #[test]
 fn a_goal_that_rules_tell_is_reached_twice(rt: HostRuntime) -> Result<(), Fail> {
-    let alloc = rt.alloc();
-    // each lamp is enough; both orders of the two are plans too, whose first operator is one already
-    let row = Row {
-        most: None,
-        plans: &[&[0], &[1], &[0, 1]],
-        costs: &[1, 1, 2],
-        ending: Ending::Exhausted,
-    };
-    assert!(rt; of_draft(alloc, &EITHER, row, 5)?);
+    assert!(rt; are_listed(rt.alloc(), Engine::Classes, &TOLD_BY_RULES)?);
     Ok(())
 }
 
-#[test]
-fn circles_of_cost_0_come_as_longer_plans(rt: HostRuntime) -> Result<(), Fail> {
-    let alloc = rt.alloc();
-    let idle = Row {
+const CIRCLES: [Row; 3] = [
+    Row {
+        of: Of::ZeroCosts,
         most: None,
+        count: 3,
         plans: &[&[0], &[0, 1], &[0, 1, 1]],
         costs: &[1, 1, 1],
         ending: Ending::Reached,
-    };
-    assert!(rt; each_way(alloc, zero_costs(alloc)?, idle, 3)?);
-    let rounds = Row {
+    },
+    Row {
+        of: Of::Drafted(&ROUND),
+        most: None,
+        count: 3,
         plans: &[&[0, 2], &[0, 0, 1, 2], &[0, 0, 0, 1, 1, 2]],
-        ..idle
-    };
-    assert!(rt; of_draft(alloc, &ROUND, rounds, 3)?);
-    assert!(rt; of_draft(alloc, &ROUND, none(Some(0), Ending::Exhausted), 3)?);
+        costs: &[1, 1, 1],
+        ending: Ending::Reached,
+    },
+    Row {
+        of: Of::Drafted(&ROUND),
+        most: Some(0),
+        count: 3,
+        plans: &[],
+        costs: &[],
+        ending: Ending::Exhausted,
+    },
+];
+
+#[test]
+fn circles_of_cost_0_come_as_longer_plans(rt: HostRuntime) -> Result<(), Fail> {
+    assert!(rt; are_listed(rt.alloc(), Engine::Classes, &CIRCLES)?);
     Ok(())
 }
+
+const OUT_OF_RANGE: Row = Row {
+    of: Of::Past64Bits,
+    most: None,
+    count: 3,
+    plans: &[],
+    costs: &[],
+    ending: Ending::Stopped(Stop::CostRange),
+};
+
+const NEAR_ALONE: [Row; 2] = [
+    Row {
+        of: Of::Drafted(&NEAR_AND_PAST),
+        most: None,
+        count: 3,
+        plans: &[&[0]],
+        costs: &[5],
+        ending: Ending::Stopped(Stop::CostRange),
+    },
+    Row {
+        of: Of::Drafted(&NEAR_AND_PAST),
+        most: Some(u64::MAX),
+        count: 3,
+        plans: &[&[0]],
+        costs: &[5],
+        ending: Ending::Exhausted,
+    },
+];
 
 #[test]
 fn the_range_of_costs_ends_a_list(rt: HostRuntime) -> Result<(), Fail> {
-    let alloc = rt.alloc();
-    let stopped = Ending::Stopped(Stop::CostRange);
-    assert!(rt; each_way(alloc, past_64_bits(alloc)?, none(None, stopped), 3)?);
-    let near = Row {
-        most: None,
-        plans: &[&[0]],
-        costs: &[5],
-        ending: stopped,
-    };
-    assert!(rt; of_draft(alloc, &NEAR_AND_PAST, near, 3)?);
-    let bounded = Row {
-        most: Some(u64::MAX),
-        ending: Ending::Exhausted,
-        ..near
-    };
-    assert!(rt; of_draft(alloc, &NEAR_AND_PAST, bounded, 3)?);
+    assert!(rt; are_listed(rt.alloc(), Engine::Classes, &[OUT_OF_RANGE])?);
+    assert!(rt; are_listed(rt.alloc(), Engine::Classes, &NEAR_ALONE)?);
     Ok(())
 }
+
+const BOUNDED: [Row; 1] = [Row {
+    of: Of::SwitchAndBack,
+    most: Some(4),
+    count: 9,
+    plans: &[&[0], &[0, 0, 1]],
+    costs: &[1, 3],
+    ending: Ending::Exhausted,
+}];
 
 #[test]
 fn a_greatest_cost_ends_a_list(rt: HostRuntime) -> Result<(), Fail> {
-    let alloc = rt.alloc();
-    let row = Row {
-        most: Some(4),
-        plans: &[&[0], &[0, 0, 1]],
-        costs: &[1, 3],
-        ending: Ending::Exhausted,
-    };
-    assert!(rt; each_way(alloc, switch_and_back(alloc)?, row, 9)?);
+    assert!(rt; are_listed(rt.alloc(), Engine::Classes, &BOUNDED)?);
     Ok(())
 }
 
-#[test]
-fn lists_end_where_no_plan_is(rt: HostRuntime) -> Result<(), Fail> {
-    let alloc = rt.alloc();
-    assert!(rt; each_way(alloc, no_plan(alloc)?, none(None, Ending::Exhausted), 3)?);
-    assert!(rt; each_way(alloc, no_operator(alloc)?, none(None, Ending::Exhausted), 3)?);
-    let one = Row {
+/// No plan, and one that is empty.
+const ENDS: [Row; 3] = [
+    Row {
+        of: Of::NoPlan,
         most: None,
+        count: 3,
+        plans: &[],
+        costs: &[],
+        ending: Ending::Exhausted,
+    },
+    Row {
+        of: Of::NoOperator,
+        most: None,
+        count: 3,
+        plans: &[],
+        costs: &[],
+        ending: Ending::Exhausted,
+    },
+    Row {
+        of: Of::GoalAtStart,
+        most: None,
+        count: 3,
         plans: &[&[]],
         costs: &[0],
         ending: Ending::Exhausted,
-    };
-    assert!(rt; each_way(alloc, goal_at_start(alloc)?, one, 3)?);
+    },
+];
+
+#[test]
+fn lists_end_where_no_plan_is(rt: HostRuntime) -> Result<(), Fail> {
+    assert!(rt; are_listed(rt.alloc(), Engine::Classes, &ENDS)?);
     Ok(())
 }
 
+const LAMPS: [Row; 1] = [Row {
+    of: Of::Axioms,
+    most: None,
+    count: 5,
+    plans: &[&[0], &[0, 1]],
+    costs: &[1, 2],
+    ending: Ending::Exhausted,
+}];
+
 #[test]
 fn each_call_of_the_space_is_refused_once(rt: HostRuntime) -> Result<(), Fail> {
-    let alloc = rt.alloc();
-    let all = Row {
-        most: None,
-        plans: &[&[0], &[0, 1]],
-        costs: &[1, 2],
-        ending: Ending::Exhausted,
-    };
-    assert!(rt; is_refused(alloc, axioms(alloc)?, all, 5)?);
-    let stopped = Ending::Stopped(Stop::CostRange);
-    assert!(rt; is_refused(alloc, past_64_bits(alloc)?, none(None, stopped), 3)?);
+    assert!(rt; are_refused(rt.alloc(), Engine::Classes, &LAMPS)?);
+    assert!(rt; are_refused(rt.alloc(), Engine::Classes, &[OUT_OF_RANGE])?);
     Ok(())
 }

@@ -1,25 +1,10 @@
 //! All plans.
 
-use crate::rows::{Row, is_listed_each_way, none};
+use crate::rows::{Of, Row, are_listed, are_refused};
 use lazy_plans::Stop;
-use plan_listing::{Ending, Engine, stops_well};
-use small_tasks::{
-    Draft, EffectDraft, OperatorDraft, VariableDraft, drafted, goal_at_start, near_and_far,
-    no_operator, no_plan, past_64_bits, switch_and_back, two_switches, zero_costs,
-};
-use std::alloc::Global;
+use plan_listing::{Ending, Engine};
+use small_tasks::{Draft, EffectDraft, OperatorDraft, VariableDraft};
 use std::test::Fail;
-use symk_task::{Memory, Task};
-
-/// Whether the row is listed, whatever sets are made of.
-fn each_way(alloc: Global, task: Task, row: Row<'_>, count: u32) -> Result<bool, Memory> {
-    is_listed_each_way(alloc, Engine::Prefixes, &task, row, count)
-}
-
-/// Whether the row is listed as far as the space is not refused memory, for good.
-fn is_refused(alloc: Global, task: Task, row: Row<'_>, count: u32) -> Result<bool, Memory> {
-    stops_well(alloc, &task, Engine::Prefixes, row.plans, count, row.ending)
-}
 
 /// A place that is left at cost 1 and come back to at cost 2, and a far way on to the goal.
 const WIDE: Draft = Draft {
@@ -65,125 +50,162 @@ const WIDE: Draft = Draft {
     rules: &[],
 };
 
+const CIRCLES: [Row; 1] = [Row {
+    of: Of::ZeroCosts,
+    most: None,
+    count: 3,
+    plans: &[&[0], &[0, 1], &[0, 1, 1]],
+    costs: &[1, 1, 1],
+    ending: Ending::Reached,
+}];
+
 #[test]
 fn circles_of_cost_0_come_as_longer_plans(rt: HostRuntime) -> Result<(), Fail> {
-    let alloc = rt.alloc();
-    let row = Row {
-        most: None,
-        plans: &[&[0], &[0, 1], &[0, 1, 1]],
-        costs: &[1, 1, 1],
-        ending: Ending::Reached,
-    };
-    assert!(rt; each_way(alloc, zero_costs(alloc)?, row, 3)?);
+    assert!(rt; are_listed(rt.alloc(), Engine::Prefixes, &CIRCLES)?);
     Ok(())
 }
+
+const COMING_BACK: [Row; 1] = [Row {
+    of: Of::SwitchAndBack,
+    most: None,
+    count: 3,
+    plans: &[&[0], &[0, 1, 0], &[0, 1, 0, 1, 0]],
+    costs: &[1, 3, 5],
+    ending: Ending::Reached,
+}];
 
 #[test]
 fn plans_that_come_back_are_listed(rt: HostRuntime) -> Result<(), Fail> {
-    let alloc = rt.alloc();
-    let row = Row {
-        most: None,
-        plans: &[&[0], &[0, 1, 0], &[0, 1, 0, 1, 0]],
-        costs: &[1, 3, 5],
-        ending: Ending::Reached,
-    };
-    assert!(rt; each_way(alloc, switch_and_back(alloc)?, row, 3)?);
+    assert!(rt; are_listed(rt.alloc(), Engine::Prefixes, &COMING_BACK)?);
     Ok(())
 }
+
+const BOTH_ORDERS: [Row; 1] = [Row {
+    of: Of::TwoSwitches,
+    most: None,
+    count: 5,
+    plans: &[&[1, 0], &[0, 1]],
+    costs: &[2, 2],
+    ending: Ending::Exhausted,
+}];
 
 #[test]
 fn both_orders_are_listed(rt: HostRuntime) -> Result<(), Fail> {
-    let alloc = rt.alloc();
-    let row = Row {
-        most: None,
-        plans: &[&[1, 0], &[0, 1]],
-        costs: &[2, 2],
-        ending: Ending::Exhausted,
-    };
-    assert!(rt; each_way(alloc, two_switches(alloc)?, row, 5)?);
+    assert!(rt; are_listed(rt.alloc(), Engine::Prefixes, &BOTH_ORDERS)?);
     Ok(())
 }
 
-#[test]
-fn costs_may_be_far_apart(rt: HostRuntime) -> Result<(), Fail> {
-    let alloc = rt.alloc();
-    let row = Row {
+const FAR_APART: [Row; 2] = [
+    Row {
+        of: Of::NearAndFar,
         most: None,
+        count: 5,
         plans: &[&[2], &[0, 1]],
         costs: &[1_000_000_000_000, 1_000_000_000_001],
         ending: Ending::Exhausted,
-    };
-    assert!(rt; each_way(alloc, near_and_far(alloc)?, row, 5)?);
-    let rounds = Row {
+    },
+    Row {
+        of: Of::Drafted(&WIDE),
         most: None,
+        count: 3,
         plans: &[&[0, 2], &[0, 1, 0, 2], &[0, 1, 0, 1, 0, 2]],
         costs: &[1_000_000_000_001, 1_000_000_000_004, 1_000_000_000_007],
         ending: Ending::Reached,
-    };
-    match drafted(alloc, &WIDE)? {
-        None => assert!(rt; false),
-        Some(task) => assert!(rt; each_way(alloc, task, rounds, 3)?),
-    }
+    },
+];
+
+#[test]
+fn costs_may_be_far_apart(rt: HostRuntime) -> Result<(), Fail> {
+    assert!(rt; are_listed(rt.alloc(), Engine::Prefixes, &FAR_APART)?);
     Ok(())
 }
 
-#[test]
-fn lists_end_where_no_plan_is(rt: HostRuntime) -> Result<(), Fail> {
-    let alloc = rt.alloc();
-    assert!(rt; each_way(alloc, no_plan(alloc)?, none(None, Ending::Exhausted), 3)?);
-    assert!(rt; each_way(alloc, no_operator(alloc)?, none(None, Ending::Exhausted), 3)?);
-    let one = Row {
+/// No plan, and one that is empty.
+const ENDS: [Row; 3] = [
+    Row {
+        of: Of::NoPlan,
         most: None,
+        count: 3,
+        plans: &[],
+        costs: &[],
+        ending: Ending::Exhausted,
+    },
+    Row {
+        of: Of::NoOperator,
+        most: None,
+        count: 3,
+        plans: &[],
+        costs: &[],
+        ending: Ending::Exhausted,
+    },
+    Row {
+        of: Of::GoalAtStart,
+        most: None,
+        count: 3,
         plans: &[&[]],
         costs: &[0],
         ending: Ending::Exhausted,
-    };
-    assert!(rt; each_way(alloc, goal_at_start(alloc)?, one, 3)?);
+    },
+];
+
+#[test]
+fn lists_end_where_no_plan_is(rt: HostRuntime) -> Result<(), Fail> {
+    assert!(rt; are_listed(rt.alloc(), Engine::Prefixes, &ENDS)?);
     Ok(())
 }
+
+const OUT_OF_RANGE: Row = Row {
+    of: Of::Past64Bits,
+    most: None,
+    count: 3,
+    plans: &[],
+    costs: &[],
+    ending: Ending::Stopped(Stop::CostRange),
+};
+
+const IN_RANGE: Row = Row {
+    of: Of::Past64Bits,
+    most: Some(u64::MAX),
+    count: 3,
+    plans: &[],
+    costs: &[],
+    ending: Ending::Exhausted,
+};
 
 #[test]
 fn the_range_of_costs_ends_a_list(rt: HostRuntime) -> Result<(), Fail> {
-    let alloc = rt.alloc();
-    let stopped = none(None, Ending::Stopped(Stop::CostRange));
-    assert!(rt; each_way(alloc, past_64_bits(alloc)?, stopped, 3)?);
-    let bounded = none(Some(u64::MAX), Ending::Exhausted);
-    assert!(rt; each_way(alloc, past_64_bits(alloc)?, bounded, 3)?);
+    assert!(rt; are_listed(rt.alloc(), Engine::Prefixes, &[OUT_OF_RANGE, IN_RANGE])?);
     Ok(())
 }
 
-#[test]
-fn a_greatest_cost_ends_a_list(rt: HostRuntime) -> Result<(), Fail> {
-    let alloc = rt.alloc();
-    let row = Row {
+const BOUNDED: [Row; 2] = [
+    Row {
+        of: Of::SwitchAndBack,
         most: Some(4),
+        count: 9,
         plans: &[&[0], &[0, 1, 0]],
         costs: &[1, 3],
         ending: Ending::Exhausted,
-    };
-    assert!(rt; each_way(alloc, switch_and_back(alloc)?, row, 9)?);
-    assert!(rt;
-        each_way(
-            alloc,
-            zero_costs(alloc)?,
-            none(Some(0), Ending::Exhausted),
-            9
-        )?
-    );
+    },
+    Row {
+        of: Of::ZeroCosts,
+        most: Some(0),
+        count: 9,
+        plans: &[],
+        costs: &[],
+        ending: Ending::Exhausted,
+    },
+];
+
+#[test]
+fn a_greatest_cost_ends_a_list(rt: HostRuntime) -> Result<(), Fail> {
+    assert!(rt; are_listed(rt.alloc(), Engine::Prefixes, &BOUNDED)?);
     Ok(())
 }
 
 #[test]
 fn each_call_of_the_space_is_refused_once(rt: HostRuntime) -> Result<(), Fail> {
-    let alloc = rt.alloc();
-    let all = Row {
-        most: None,
-        plans: &[&[1, 0], &[0, 1]],
-        costs: &[2, 2],
-        ending: Ending::Exhausted,
-    };
-    assert!(rt; is_refused(alloc, two_switches(alloc)?, all, 5)?);
-    let stopped = Ending::Stopped(Stop::CostRange);
-    assert!(rt; is_refused(alloc, past_64_bits(alloc)?, none(None, stopped), 3)?);
+    assert!(rt; are_refused(rt.alloc(), Engine::Prefixes, &BOTH_ORDERS)?);
+    assert!(rt; are_refused(rt.alloc(), Engine::Prefixes, &[OUT_OF_RANGE])?);
     Ok(())
 }

@@ -2,6 +2,8 @@
 
 mod refusals;
 
+ghost use Rattle.std.specs.Prelude.{◌≤◌};
+
 use crate::plans::{PlanCut, plan_cuts_of};
 use crate::telling::{
     Costs, Cutting, Settled, cuts_once_settled, list_answers, list_costs, list_cuts,
@@ -13,7 +15,7 @@ use small_tasks::{
     near_and_far, no_plan, one_switch, past_64_bits, same_name_twice, switch_and_back,
     two_switches, zero_costs,
 };
-use space_api::SpaceFault;
+use space_api::{Space, SpaceFault};
 use std::alloc::Global;
 use std::test::Fail;
 use symk_task::{Memory, Task};
@@ -27,6 +29,20 @@ const CHOICES: [Choice; 4] = [
     Choice::Lighter(Lighter { ahead: 0, back: 0 }),
 ];
 
+/// Settles and lists over the space.
+fn settled_over<S: Space + Drop>(
+    alloc: Global,
+    space: S,
+    choose: Choice,
+    most: u64,
+    cost: u64,
+) -> Result<Settled, SpaceFault>
+    requires { cost ≤ most }
+{
+    let mut space = space;
+    cuts_once_settled(alloc, &mut space, choose, most, cost)
+}
+
 /// Settles and lists over the space of ordered sets, or over that of diagrams; the cost is at most the greatest one.
 fn settles(
     alloc: Global,
@@ -38,12 +54,21 @@ fn settles(
 ) -> Result<Settled, SpaceFault> {
     let cost = cost.min(most);
     if diagrams {
-        let mut space = BddSpace::of(alloc, task)?;
-        cuts_once_settled(alloc, &mut space, choose, most, cost)
+        settled_over(alloc, BddSpace::of(alloc, task)?, choose, most, cost)
     } else {
-        let mut space = ExplicitSpace::of(alloc, task)?;
-        cuts_once_settled(alloc, &mut space, choose, most, cost)
+        settled_over(alloc, ExplicitSpace::of(alloc, task)?, choose, most, cost)
     }
+}
+
+/// Lists the costs of plans over the space.
+fn costs_over<S: Space + Drop>(
+    alloc: Global,
+    space: S,
+    choose: Choice,
+    most: u64,
+) -> Result<Costs, SpaceFault> {
+    let mut space = space;
+    list_costs(alloc, &mut space, choose, most)
 }
 
 /// Lists the costs of plans over either space.
@@ -55,10 +80,9 @@ fn costs_in(
     most: u64,
 ) -> Result<Costs, SpaceFault> {
     if diagrams {
-        let mut space = BddSpace::of(alloc, task)?;
-        list_costs(alloc, &mut space, choose, most)
+        costs_over(alloc, BddSpace::of(alloc, task)?, choose, most)
     } else {
-        list_costs(alloc, &mut ExplicitSpace::of(alloc, task)?, choose, most)
+        costs_over(alloc, ExplicitSpace::of(alloc, task)?, choose, most)
     }
 }
 
@@ -208,6 +232,17 @@ fn the_chosen_side_goes_on(rt: HostRuntime) -> Result<(), Fail> {
     Ok(())
 }
 
+/// What comes after each cost of a plan over the space, at most so many answers.
+fn answers_over<S: Space + Drop>(
+    alloc: Global,
+    space: S,
+    choose: Choice,
+    count: u32,
+) -> Result<Vec<Next>, SpaceFault> {
+    let mut space = space;
+    list_answers(alloc, &mut space, choose, count)
+}
+
 /// What comes after each cost of a plan over either space, at most so many answers.
 fn answers_in(
     alloc: Global,
@@ -217,25 +252,38 @@ fn answers_in(
     count: u32,
 ) -> Result<Vec<Next>, SpaceFault> {
     if diagrams {
-        let mut space = BddSpace::of(alloc, task)?;
-        list_answers(alloc, &mut space, choose, count)
+        answers_over(alloc, BddSpace::of(alloc, task)?, choose, count)
     } else {
-        let mut space = ExplicitSpace::of(alloc, task)?;
-        list_answers(alloc, &mut space, choose, count)
+        answers_over(alloc, ExplicitSpace::of(alloc, task)?, choose, count)
     }
 }
 
-/// Whether these are the first three answers, or all, over each space with each choice.
-fn answers_are(alloc: Global, task: Task, want: &[Next]) -> Result<bool, Memory> {
+/// Whether these are the first three answers, or all, over each space.
+fn both_answer(
+    alloc: Global,
+    task: &Task,
+    choose: Choice,
+    want: &[Next],
+) -> Result<bool, SpaceFault> {
+    let by_states = answers_in(alloc, false, task, choose, 3)?;
+    let by_diagrams = answers_in(alloc, true, task, choose, 3)?;
+    Ok(by_states.as_slice() == want && by_diagrams.as_slice() == want)
+}
+
+/// The same with each choice.
+fn all_answer(alloc: Global, task: &Task, want: &[Next]) -> Result<bool, SpaceFault> {
     for choose in CHOICES {
-        for diagrams in [false, true] {
-            let found = answers_in(alloc, diagrams, &task, choose, 3)?;
-            if found.as_slice() != want {
-                return Ok(false);
-            }
+        if !both_answer(alloc, task, choose, want)? {
+            return Ok(false);
         }
     }
     Ok(true)
+}
+
+/// The same of the task of this number.
+fn answers_are(alloc: Global, task: u32, want: &[Next]) -> Result<bool, Memory> {
+    let task = task_of(alloc, task)?;
+    all_answer(alloc, &task, want)
 }
 
 #[test]
@@ -246,14 +294,14 @@ fn each_cost_of_a_plan_follows_the_one_before(rt: HostRuntime) -> Result<(), Fai
         Next::Plans { cost: FAR + 1 },
         Next::Never,
     ];
-    assert!(rt; answers_are(alloc, near_and_far(alloc)?, &far)?);
-    assert!(rt; answers_are(alloc, past_64_bits(alloc)?, &[Next::Beyond])?);
+    assert!(rt; answers_are(alloc, 5, &far)?);
+    assert!(rt; answers_are(alloc, 6, &[Next::Beyond])?);
     let odd = [
         Next::Plans { cost: 1 },
         Next::Plans { cost: 3 },
         Next::Plans { cost: 5 },
     ];
-    assert!(rt; answers_are(alloc, switch_and_back(alloc)?, &odd)?);
+    assert!(rt; answers_are(alloc, 0, &odd)?);
     Ok(())
 }
 
@@ -369,6 +417,17 @@ fn are_those(listed: &[PlanCut], cuts: &[PlanCut]) -> bool {
     listed.len() == cuts.len()
 }
 
+/// Settles a cost and lists the cuts of each up to it, over the space.
+fn cuts_over<S: Space + Drop>(
+    alloc: Global,
+    space: S,
+    choose: Choice,
+    most: u64,
+) -> Result<Cutting, SpaceFault> {
+    let mut space = space;
+    list_cuts(alloc, &mut space, choose, most)
+}
+
 /// Settles a cost and lists the cuts of each up to it, over either space.
 fn cuts_in(
     alloc: Global,
@@ -378,11 +437,9 @@ fn cuts_in(
     most: u64,
 ) -> Result<Cutting, SpaceFault> {
     if diagrams {
-        let mut space = BddSpace::of(alloc, task)?;
-        list_cuts(alloc, &mut space, choose, most)
+        cuts_over(alloc, BddSpace::of(alloc, task)?, choose, most)
     } else {
-        let mut space = ExplicitSpace::of(alloc, task)?;
-        list_cuts(alloc, &mut space, choose, most)
+        cuts_over(alloc, ExplicitSpace::of(alloc, task)?, choose, most)
     }
 }
 
@@ -410,27 +467,29 @@ fn compare(
     }))
 }
 
+/// The same of the task that the seed draws, over a space and with a choice by the seed; None also where it draws none.
+fn compare_drawn(alloc: Global, seed: u64) -> Result<Option<Compared>, Memory> {
+    match random_task(alloc, seed)? {
+        Some(task) => {
+            let choose = CHOICES[(seed / 2 % 4) as usize];
+            compare(alloc, seed % 2 == 0, &task, choose)
+        }
+        None => Ok(None),
+    }
+}
+
 #[test]
 fn the_cuts_of_drawn_tasks_are_those_of_their_plans(rt: HostRuntime) -> Result<(), Fail> {
-    let alloc = rt.alloc();
     let mut tried = 0_u32;
     let mut cuts = 0_usize;
     for seed in 0..1000 {
         if tried == 200 {
             break;
         }
-        if let Some(task) = random_task(alloc, seed)? {
-            let diagrams = seed % 2 == 0;
-            if let Some(found) = compare(
-                alloc,
-                diagrams,
-                &task,
-                CHOICES[(seed / 2 % 4) as usize],
-            )? {
-                assert!(rt; found.agree, "seed {seed}");
-                tried = tried.saturating_add(1);
-                cuts = cuts.saturating_add(found.cuts);
-            }
+        if let Some(found) = compare_drawn(rt.alloc(), seed)? {
+            assert!(rt; found.agree, "seed {seed}");
+            tried = tried.saturating_add(1);
+            cuts = cuts.saturating_add(found.cuts);
         }
     }
     assert_eq!(rt; tried, 200);

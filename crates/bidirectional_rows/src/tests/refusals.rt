@@ -243,10 +243,25 @@ fn fused_over<S: Space>(
     }
 }
 
+/// The same over a space that is handed over.
+fn fused_by<S: Space + Drop>(
+    alloc: Global,
+    space: FuseSpace<S>,
+    task: &Task,
+    choose: Choice,
+) -> Result<Outcome, Memory> {
+    let mut space = space;
+    fused_over(alloc, &mut space, task, choose)
+}
+
 /// The same over a space of the task that passes on `n` calls.
 fn fused(alloc: Global, task: &Task, choose: Choice, n: u64) -> Result<Outcome, Memory> {
-    let mut space = FuseSpace::new(ExplicitSpace::of(alloc, task)?, n);
-    fused_over(alloc, &mut space, task, choose)
+    fused_by(
+        alloc,
+        FuseSpace::new(ExplicitSpace::of(alloc, task)?, n),
+        task,
+        choose,
+    )
 }
 
 /// How many counts of calls end in a refusal, up to the first that needs none; None where something isn't as it
@@ -262,12 +277,16 @@ fn refusals(alloc: Global, task: &Task, choose: Choice) -> Result<Option<u64>, M
     Ok(None)
 }
 
+/// Whether there is such a count, of the switch.
+fn is_refused_by_each_call(alloc: Global, choose: Choice) -> Result<bool, Memory> {
+    let task = switch_and_back(alloc)?;
+    Ok(refusals(alloc, &task, choose)?.is_some())
+}
+
 #[test]
 fn each_call_of_the_space_is_refused_once(rt: HostRuntime) -> Result<(), Fail> {
-    let task = switch_and_back(rt.alloc())?;
     for choose in CHOICES {
-        let count = refusals(rt.alloc(), &task, choose)?;
-        assert!(rt; count.is_some(), "{choose:?}");
+        assert!(rt; is_refused_by_each_call(rt.alloc(), choose)?, "{choose:?}");
     }
     Ok(())
 }

@@ -5,7 +5,7 @@
 //! state, whichever the other levels are, the root of a variable is true exactly where the rules of the task raise
 //! the variable in the state (`specs/Roots.antt`), and so that `Derived::fact_set` and `Derived::facts_set` are true
 //! exactly where the facts hold. After every call, refused or not, each Id that was known means the same and the
-//! table is reduced; want of memory is the only refusal. It stands on `task_run`, whose rules and values in one state
+//! table is reduced; out of memory is the only refusal. It stands on `task_run`, whose rules and values in one state
 //! its proof lifts to all states at once, and on `bdd_sets`.
 #![tactic(auto)]
 

@@ -118,7 +118,7 @@ module _ (e old : Symbolic) (start : List ℕ) (i : IsSpace e start) (same : e �
           (λ id in_new m. subst (λ (x : Symbolic). Makes (over e new) (CostPreimage (seen x) cost a within) id) same
           (cost_preimage_made e start i a f here within g inside mid new found id k in_new m cost (record { known = at; names = names })))
 
--- a set is added, or memory is wanting
+-- a set is added, or it is out of memory
 
 module _ {E : Type 0} (e old : Symbolic) (start : List ℕ) (i : IsSpace e start) (same : e ≡ old) (id : ℕ) (new : List Slot) (r : Result ℕ E) (ok : IfOk r (Puts e.sets id new)) (err : OnErr r (new ≡ e.sets)) where
   known_inside : IsKnownSet old.order old.nodes id → IsKnownSet e.order e.nodes id

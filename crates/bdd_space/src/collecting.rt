@@ -22,7 +22,7 @@ const MANY: usize = 1_000_000;
 /// How many Ids a space keeps for itself.
 const OWN: usize = 3;
 
-/// Collects for these roots, and gives where they are then. Where memory is wanting, the table is as before.
+/// Collects for these roots, and gives where they are then. When out of memory, the table is as before.
 fn moved(ops: &mut Ops, roots: Vec<Id>) -> Result<Vec<Id>, Memory>
     requires { EachIndex roots.items (λ i. slice_index roots.items i < length ops.old) }
     ensures as_long { IfOk result (λ places. length places.items ≡ length roots.items) }
@@ -67,7 +67,7 @@ impl<'a> BddSpace<'a> {
         Ok(roots)
     }
 
-    /// Throws away the nodes that neither a valid set nor the space itself needs. Where memory is wanting, all is as
+    /// Throws away the nodes that neither a valid set nor the space itself needs. When out of memory, all is as
     /// before.
     pub(crate) fn collect(&mut self) -> Result<(), Memory>
         ensures stays { Stays (seen self.old) (seen self.new) }

@@ -5,7 +5,7 @@
 //! costs one comparison; images are by the operators' relations, those of one cost joined up to a bound of nodes. A
 //! set is the number of a place that keeps its Id: `forget` empties the place, and a later set takes it. `held`
 //! counts the nodes of the table, and `tidy` throws away those that neither a valid set nor the space itself needs,
-//! by a rule that the trait states. Want of memory is the one refusal, and then each valid set has the states that it
+//! by a rule that the trait states. Out of memory is the one refusal, and then each valid set has the states that it
 //! had. The operators that may lead into a set, or apply in it, are found by the values that occur in it. For who
 //! writes a set down, `id` tells the root of its diagram, and `task`, `order` and `ops` lend what the diagram is
 //! over. Sources: Bryant, "Graph-Based Algorithms for Boolean Function Manipulation" (1986); for search by sets of

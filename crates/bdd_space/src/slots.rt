@@ -78,7 +78,7 @@ impl Slots {
         }
     }
 
-    /// A number for the set, which held none before. Where memory is wanting, all is as before.
+    /// A number for the set, which held none before. When out of memory, all is as before.
     pub(crate) fn put(&mut self, id: Id) -> Result<usize, AllocError>
         ensures ok { IfOk result (Puts self.old.slots.items id self.new.slots.items) }
         ensures err { OnErr result (self.new.slots.items ≡ self.old.slots.items) }

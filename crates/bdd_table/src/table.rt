@@ -14,7 +14,7 @@ use std::marker::Model;
 /// The name of a diagram in its table: a place. 0 is false, 1 is true, and nodes count on from 2.
 pub type Id = usize;
 
-/// Want of memory, the one fault of a table.
+/// Out of memory, the one fault of a table.
 pub type TableFault = AllocError;
 
 /// The Id of the function that is never true.
@@ -184,7 +184,7 @@ impl Table {
             → length self.new ≡ length ids + 2) }
         ensures reduced { IsReduced self.new }
 
-        // Where memory is wanting, all is as before.
+        // When out of memory, all is as before.
         ensures err { OnErr result (self.new ≡ self.old) }
         ensures roots_err { OnErr result (roots.new ≡ roots.old) }
     {

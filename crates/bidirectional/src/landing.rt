@@ -65,7 +65,7 @@ fn land_from<S: Space>(
     }
 }
 
-/// The same in place of the set, which is given back, also where want of memory refuses it.
+/// The same in place of the set, which is given back, also when out of memory.
 fn add_from<S: Space>(
     space: &mut S,
     from: S::Set,

@@ -36,7 +36,7 @@ pub trait LazyMembers {
     /// where none is; afterwards it pends no more. Nothing pends that didn't before, and of each other class of which
     /// a plan pended, one does, too dear or not. `None` where no plan pends, or with a greatest cost none up to it.
     /// `CostRange`, without a greatest cost alone, where plans pend and each costs more than 18446744073709551615.
-    /// `Memory` for want of memory. After these each class of which a plan pended keeps one that does, and each later
+    /// `Memory` when out of memory. After these each class of which a plan pended keeps one that does, and each later
     /// call answers the same.
     /// Each turn adds one to `steps`.
     fn next_member<L: Ledger>(

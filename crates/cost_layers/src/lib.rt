@@ -5,7 +5,7 @@
 //! and whether a cost past the range was left out. It takes each ring over from its caller and gives back the
 //! unions that it replaces; a layer of one ring is that ring itself. A `Layer` is one layer by itself, which is
 //! made elsewhere and taken over whole. A refused call leaves the layers as they were. It stands on `space_api`
-//! for sets, on `task_system` for states, and on `symk_task` for want of memory.
+//! for sets, on `task_system` for states, and on `symk_task` for `Memory`.
 #![tactic(auto)]
 
 mod layers;

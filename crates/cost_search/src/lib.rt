@@ -7,8 +7,7 @@
 //! layers may be cut to the useful states. A call that is refused leaves layers, bound and open costs as they
 //! were, and makes no set valid; from then on the search answers that fault. A search can give all sets that it
 //! made back. It stands on `layer_steps` for one layer, on `cost_layers` for the layers, on `run_graph` for
-//! what right layers are, on `space_api` for sets, on `task_system` for states, and on `symk_task` for want of
-//! memory.
+//! what right layers are, on `space_api` for sets, on `task_system` for states, and on `symk_task` for `Memory`.
 //!
 //! The search by cost is that of E. W. Dijkstra (1959), over sets of states.
 #![tactic(auto)]

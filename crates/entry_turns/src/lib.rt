@@ -7,7 +7,7 @@
 //! the state to which one leads. What leads on from a state, and whether a plan ends there, is remembered for the
 //! suffixes that come to it later (`Expansions`). Every operator that leads on into a right layer makes a child, so no
 //! entry is a dead end; a child of less cost or a lower ring is taken first, so a plan comes within two turns more
-//! than it has operators. Want of memory leaves what the queue owes, and no set is lost.
+//! than it has operators. Out of memory, it leaves what the queue owes, and no set is lost.
 //!
 //! It stands on the layers of `cost_layers` and the laws of `entry_laws`.
 #![tactic(auto)]

@@ -93,7 +93,7 @@ fn open_cross<S: Space>(
     }
 }
 
-/// The first entry of a cut of plans of this cost. Want of memory leaves all sets as they were.
+/// The first entry of a cut of plans of this cost. Out of memory, it leaves all sets as they were.
 pub fn open_cut<S: Space>(
     alloc: Global,
     space: &mut S,

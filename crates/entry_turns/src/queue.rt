@@ -41,7 +41,7 @@ impl<T> Queue<T> {
         self.entries.is_empty()
     }
 
-    /// Puts the entry last. Want of memory leaves the queue, and the entry comes back.
+    /// Puts the entry last. Out of memory, it leaves the queue, and the entry comes back.
     pub fn push(&mut self, entry: Entry<T>) -> Result<(), AllocFailed<Entry<T>>>
         ensures ok { OnOk result (self.new ≡ self.old ++ entry ∷ []) }
         ensures err { OnErr result (self.new ≡ self.old) }
@@ -60,7 +60,7 @@ impl<T> Queue<T> {
 
     /// One turn: takes the last entry, and puts what follows it in its place. It is counted: `steps` has one more.
     ///
-    /// Want of memory takes nothing and counts nothing.
+    /// Out of memory, it takes nothing and counts nothing.
     pub(crate) fn take<L: Ledger>(
         &mut self,
         next: &mut Vec<Entry<T>>,

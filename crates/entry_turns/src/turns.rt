@@ -185,7 +185,7 @@ fn plan_of(done: bool, operators: Vec<u32>) -> Option<Vec<u32>>
     if done { Some(operators) } else { None }
 }
 
-/// Takes the last entry, puts what follows in its place, and gives its set back. Want of memory takes nothing, and
+/// Takes the last entry, puts what follows in its place, and gives its set back. Out of memory, it takes nothing, and
 /// gives back what was made.
 fn replace_last<S: Space, L: Ledger>(
     space: &mut S,
@@ -220,7 +220,7 @@ fn replace_last<S: Space, L: Ledger>(
 
 /// One turn: takes the last entry, and puts what follows it in its place. Gives its operators where they are a plan.
 ///
-/// The set of the entry is given back, and `steps` has one more. Want of memory leaves the queue, all sets and the
+/// The set of the entry is given back, and `steps` has one more. Out of memory, it leaves the queue, all sets and the
 /// count as they were.
 pub fn turn<S: Space, L: Ledger>(
     alloc: Global,

@@ -21,7 +21,7 @@ use std::sync::ledger::Ledger;
 
 /// Turns until a plan is given: at least one, and at most as many as it has operators, and two.
 ///
-/// Want of memory leaves a queue that owes what it owed; no set is lost.
+/// Out of memory, it leaves a queue that owes what it owed; no set is lost.
 pub fn walk<S: Space, L: Ledger>(
     alloc: Global,
     space: &mut S,

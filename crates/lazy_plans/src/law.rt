@@ -38,7 +38,7 @@ pub trait LazyPlans {
     /// A cheapest plan that pends, of the greatest cost that is wanted at most, or of 18446744073709551615 at
     /// most where none is; afterwards neither it nor what counts as one with it pends. `None` where no plan
     /// pends, or with a greatest cost none up to it. `CostRange`, without a greatest cost alone, where plans
-    /// pend and each costs more than 18446744073709551615. `Memory` for want of memory. After these what pends
+    /// pend and each costs more than 18446744073709551615. `Memory` when out of memory. After these what pends
     /// stays, and each later call answers the same.
     /// Each turn adds one to `steps`.
     fn next_plan<L: Ledger>(

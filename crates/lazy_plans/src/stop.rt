@@ -8,7 +8,7 @@ use std::alloc::AllocError;
 /// Why an engine gives no more plans though some may be left.
 #[derive(Clone, Copy, Debug, PartialEq, Eq, thiserror::Error)]
 pub enum Stop {
-    /// Want of memory.
+    /// Out of memory.
     #[error("out of memory")]
     Memory,
     /// Each plan that is left costs more than 18446744073709551615.

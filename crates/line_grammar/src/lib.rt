@@ -34,7 +34,7 @@ impl<S> Offence<S> {
 /// Why reading ended early.
 #[derive(Debug, Drop)]
 pub enum Stopped<S> {
-    /// Want of memory.
+    /// Out of memory.
     Memory,
     /// A line is not what is wanted there, or is missing.
     Offence(Offence<S>),

@@ -58,7 +58,7 @@ again_none y most a h = (h, keeps_self a)
 pub again_stop : (y : System) (most : Option ℕ) (a : List ℕ → Type 0) (stop : Stop) → Ended y most a (Some (Some stop)) → TurnedMembers y most a a (Err stop)
 again_stop y most a stop h = (h, keeps_self a)
 
--- want of memory says nothing of what pends
+-- out of memory says nothing of what pends
 memory_stops : (y : System) (most : Option ℕ) (before : List ℕ → Type 0) → Stops y most before Memory
 memory_stops y None before = tt
 memory_stops y (Some c) before = tt

@@ -164,7 +164,7 @@ follows_on v w f h most x z same ready k = record {
   more = k.more;
 }
 
--- want of memory says nothing of what pends
+-- out of memory says nothing of what pends
 pub memory_stops : (y : System) (most : Option ℕ) (pends : List ℕ → Type 0) → Stops y most pends Memory
 memory_stops y None pends = tt
 memory_stops y (Some c) pends = tt

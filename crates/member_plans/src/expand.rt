@@ -22,7 +22,7 @@ use space_api::{Space, SpaceFault};
 use std::alloc::Global;
 
 /// Adds the children by the moves from the end of the entry's prefix whose operators are marked, or by those whose operators
-/// aren't, to the tree and tells them. Want of memory leaves what came so far.
+/// aren't, to the tree and tells them. Out of memory, it leaves what came so far.
 fn add_some<S: Space>(
     alloc: Global,
     space: &S,

@@ -54,7 +54,7 @@ impl Given {
         }
     }
 
-    /// This plan was given too. Want of memory leaves it noted in part.
+    /// This plan was given too. Out of memory, it leaves it noted in part.
     pub(crate) fn note(&mut self, operators: &[u32]) -> Result<(), AllocError> {
         let bit = 1u64 << (self.many % LOOKED_AT);
         self.forget_oldest(bit);

@@ -34,7 +34,7 @@ pub(crate) fn has_at(kept: &[Option<Marked>], number: usize, state: &State) -> b
     }
 }
 
-/// Keeps the marks at this number. Want of memory leaves what is kept.
+/// Keeps the marks at this number. Out of memory, it leaves what is kept.
 pub(crate) fn keep(
     kept: &mut Vec<Option<Marked>>,
     number: usize,

@@ -81,7 +81,7 @@ impl Opened {
         self.plans.contains(key)
     }
 
-    /// Notes the key of the prefix, which is a plan. Want of memory leaves the keys as they were.
+    /// Notes the key of the prefix, which is a plan. Out of memory, it leaves the keys as they were.
     fn note(&mut self, alloc: Global, tree: &[Node], node: usize) -> Result<(), AllocError>
         requires linked { AreLinked tree.now }
         requires node { node < length tree.now }
@@ -94,7 +94,7 @@ impl Opened {
         Ok(())
     }
 
-    /// Puts the prefix at this place in, which is a plan or isn't. Want of memory leaves what was opened as it was.
+    /// Puts the prefix at this place in, which is a plan or isn't. Out of memory, it leaves what was opened as it was.
     pub(crate) fn put(
         &mut self,
         alloc: Global,

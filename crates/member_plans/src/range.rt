@@ -68,7 +68,7 @@ fn some_goes_on<S: Space, L: Ledger>(
 }
 
 /// Whether a plan is left, where each entry is too dear. The states that lead to the goal at all are found, whatever that
-/// costs, and given back. First entries from which no plan goes on are taken out, also where memory is wanting.
+/// costs, and given back. First entries from which no plan goes on are taken out, also when out of memory.
 pub(crate) fn is_left<S: Space, L: Ledger>(
     alloc: Global,
     space: &mut S,

@@ -22,7 +22,7 @@ use std::sync::ledger::Ledger;
 use symk_task::Plan;
 
 /// A turn that learns more of the first entry's bound, which puts it where it then belongs, or takes it out where no
-/// plan goes on from it. Want of memory leaves the entries.
+/// plan goes on from it. Out of memory, it leaves the entries.
 ///
 /// The search has gone on since the bound was told.
 pub(crate) fn learn<S: Space, L: Ledger>(
@@ -56,7 +56,7 @@ pub(crate) fn learn<S: Space, L: Ledger>(
     )
 }
 
-/// A turn that takes the first entry out, whose prefix joins one that was opened. Want of memory leaves the entries.
+/// A turn that takes the first entry out, whose prefix joins one that was opened. Out of memory, it leaves the entries.
 pub(crate) fn drop_joined<S: Space, L: Ledger>(
     alloc: Global,
     space: &S,
@@ -80,8 +80,8 @@ pub(crate) fn drop_joined<S: Space, L: Ledger>(
     Ok(())
 }
 
-/// A turn that opens the first entry: takes it out, and puts its children in. Want of memory leaves what was opened, and
-/// the entries.
+/// A turn that opens the first entry: takes it out, and puts its children in. Out of memory, it leaves what was opened,
+/// and the entries.
 fn open<S: Space, L: Ledger>(
     alloc: Global,
     space: &S,
@@ -137,7 +137,8 @@ pub(crate) fn pass<S: Space, L: Ledger>(
     open(alloc, space, search, most, front, entry, steps)
 }
 
-/// A turn that opens the first entry, whose prefix is a plan that pends, and gives it. Want of memory leaves what pends.
+/// A turn that opens the first entry, whose prefix is a plan that pends, and gives it. Out of memory, it leaves what
+/// pends.
 pub(crate) fn give<S: Space, L: Ledger>(
     alloc: Global,
     space: &S,

@@ -123,7 +123,7 @@ fn counts_more<S: Space>(
     next
 }
 
-/// The same in place of the counts, which are given back, also where want of memory refuses new ones.
+/// The same in place of the counts, which are given back, also when out of memory.
 fn count_fact<S: Space>(
     space: &mut S,
     within: S::Set,

@@ -113,7 +113,7 @@ fn join_one<S: Space>(
     }
 }
 
-/// The same in place of `kept`, or `kept` itself, which is given back where the space wants memory. The space may
+/// The same in place of `kept`, or `kept` itself, which is given back when the space is out of memory. The space may
 /// collect.
 fn joined<S: Space>(
     alloc: Global,
@@ -229,7 +229,7 @@ fn join_each<S: Space>(
 ///
 /// So an engine's search backward may be kept to it. Groups that hold each by itself are found one by one, and joined
 /// from the smallest on. One with which the set would take many nodes more is left out, and so are those that are left
-/// when some work is done: the set costs little beside a search. The task is the space's. Want of memory is the one
+/// when some work is done: the set costs little beside a search. The task is the space's. Out of memory is the one
 /// refusal, and leaves no new set. Backward layers cut by mutex groups: Torralba and Alcázar 2013.
 pub fn within<S: Space>(alloc: Global, space: &mut S, task: &Task) -> Result<S::Set, SpaceFault>
     requires { (S.view space.old).task ≡ task.now }

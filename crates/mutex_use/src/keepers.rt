@@ -55,7 +55,7 @@ pub(crate) fn tidied<S: Space>(space: &mut S, set: S::Set) -> Result<S::Set, Spa
     }
 }
 
-/// The same in place of `kept`, which is given back, also where want of memory refuses the new set. The space may
+/// The same in place of `kept`, which is given back, also when out of memory. The space may
 /// collect.
 fn keep_one<S: Space>(
     alloc: Global,
@@ -109,7 +109,7 @@ pub(crate) fn keep_each<S: Space>(
 /// group holds. No groups give all states.
 ///
 /// The groups go by their numbers, from 0 in the order of the file. The caller knows that each is one of the task's,
-/// over base variables alone. Want of memory is the one refusal, and leaves no new set.
+/// over base variables alone. Out of memory is the one refusal, and leaves no new set.
 pub fn keeping<S: Space>(
     alloc: Global,
     space: &mut S,

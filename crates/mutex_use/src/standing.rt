@@ -201,7 +201,7 @@ fn greatest<S: Space>(
 /// The greatest set of mutex groups of the space's task that hold, by their numbers, rising.
 ///
 /// Groups hold where they are over base variables alone, the initial state keeps each, and each operator leads from a
-/// state that keeps all of them to one that does. The numbers count from 0 in the order of the file. Want of memory is
+/// state that keeps all of them to one that does. The numbers count from 0 in the order of the file. Out of memory is
 /// the one refusal. The valid sets are those from before.
 ///
 /// Invariants by throwing out what fails, until nothing does: Rintanen 2000. Mutex groups, and balanced operators:

@@ -11,7 +11,7 @@
 //! `push_roots` and `take_roots` are for a collection of the table: whoever collects puts the roots into its list and
 //! takes them back from there, moved, and then the relations are those of the same task over the new nodes. They stay
 //! so as the table grows. After every call, refused or not, each Id that was known means the same and the table is
-//! reduced; want of memory is the only refusal. Source of parting the steps by cost: Torralba, Alcázar, Kissmann and
+//! reduced; out of memory is the only refusal. Source of parting the steps by cost: Torralba, Alcázar, Kissmann and
 //! Edelkamp, "Efficient Symbolic Search for Cost-optimal Planning" (2017). It stands on `transitions` for one
 //! operator, on `trans_merge` for joining, and on `space_api` for the list of costs.
 #![tactic(auto)]

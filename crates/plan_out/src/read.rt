@@ -24,7 +24,7 @@ pub enum PlansFault {
     /// the last.
     #[error("no plan text goes on so at line {line}")]
     Offence { line: u64 },
-    /// Want of memory.
+    /// Out of memory.
     #[error("out of memory")]
     Memory,
 }

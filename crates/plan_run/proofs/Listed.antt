@@ -64,7 +64,7 @@ stopped_is_part : (a : Aim) (result : Status) (out : Sent) → (result ≡ statu
 stopped_is_part a result out (inl e) p = subst (λ s. OrPart a s out) (sym e) p
 stopped_is_part a result out (inr e) p = subst (λ s. OrPart a s out) (sym e) p
 
--- nothing goes out, where memory was wanting
+-- nothing goes out, when out of memory
 pub memory_lists : (a : Aim) (old : SinkView) → Puts (OrPart a) old old status.Memory
 memory_lists a old = (nothing, took_nothing old, inl (inl refl))
 

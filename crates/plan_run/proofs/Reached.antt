@@ -73,7 +73,7 @@ limited_lists task mode wanted reach limit old new result is p = (
       (λ result pieces l. inl (limit, is, no_gap task mode wanted limit result pieces l)) (λ out l. (limit, is, l)) result p.0 p.2,
 )
 
--- want of memory, before anything is put
+-- out of memory, before anything is put
 pub memory_reaches : (task : TaskParts) (mode : Mode) (wanted : Wanted) (reach : Reach) (old : SinkView) → Puts (OrReached task mode wanted reach) old old status.Memory
 memory_reaches task mode wanted reach old = (nothing, took_nothing old, inl (inl refl))
 

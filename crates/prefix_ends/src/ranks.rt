@@ -37,7 +37,7 @@ impl Ranks {
         }
     }
 
-    /// Keeps the rank at this number. Want of memory only means that it is looked for again.
+    /// Keeps the rank at this number. To be out of memory only means that it is looked for again.
     fn keep(&mut self, number: usize, rank: Rank) {
         'places: for _ in self.kept.len()..=number {
             if self.kept.push(None).is_err() {

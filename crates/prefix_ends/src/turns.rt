@@ -32,7 +32,7 @@ fn one_or_none(alloc: Global, entry: Option<Entry>) -> Result<Vec<Entry>, AllocE
 
 impl Ranks {
     /// A turn that learns more of the first entry's bound, which puts it where it then belongs, or takes it out where no
-    /// plan goes on from it. Want of memory leaves the entries.
+    /// plan goes on from it. Out of memory, it leaves the entries.
     pub fn learn<S: Space, L: Ledger>(
         &mut self,
         alloc: Global,

@@ -52,7 +52,7 @@ none_held y m (Some p) h = absurd (none_some h.1)
     none_some : None ≡ Some (Some Memory) → ⊥
     none_some e = cc
 
--- want of memory says nothing of what pends
+-- out of memory says nothing of what pends
 pub memory_stops : (y : System) (most : Option ℕ) (before : List ℕ → Type 0) → Stops y most before Memory
 memory_stops y None before = tt
 memory_stops y (Some c) before = tt

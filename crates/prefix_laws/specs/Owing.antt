@@ -18,7 +18,7 @@ tells_held (Some q) p = are_equal q p
 abbrev pub tells_owed : System → Mode → List (List ℕ) → Option (List ℕ) → List ℕ → Bool
 tells_owed y m es held p = pending y m es p || tells_held held p
 
--- a plan is held only where want of memory ended the engine
+-- a plan is held only where out of memory ended the engine
 abbrev pub IsHeld : System → Mode → Option (List ℕ) → Last → Type 0
 IsHeld y m None ended = Unit {0}
 IsHeld y m (Some p) ended = IsPlanOf y m p × (ended ≡ Some (Some Memory))

@@ -19,7 +19,7 @@ use std::sync::ledger::Ledger;
 use symk_task::Plan;
 
 /// A turn that takes the first entry out, whose last state is ranked, and puts its children in, and gives the plan that
-/// it is, if it is one. Want of memory leaves the entries.
+/// it is, if it is one. Out of memory, it leaves the entries.
 pub(crate) fn open<S: Space, L: Ledger>(
     alloc: Global,
     space: &S,

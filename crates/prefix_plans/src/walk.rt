@@ -189,7 +189,7 @@ fn take_turns<S: Space, L: Ledger>(
     }
 }
 
-/// The next plan out of the queue. Each entry that is taken is one step. Want of memory leaves what pends.
+/// The next plan out of the queue. Each entry that is taken is one step. Out of memory, it leaves what pends.
 pub(crate) fn walk<S: Space, L: Ledger>(
     alloc: Global,
     space: &mut S,

@@ -76,8 +76,8 @@ pub fn operators_to(alloc: Global, tree: &[Node], node: usize) -> Result<Vec<u32
     Ok(operators)
 }
 
-/// Adds the prefix that is longer by the operator and ends in the state of this number, and tells its place. Want of
-/// memory leaves the tree as it was.
+/// Adds the prefix that is longer by the operator and ends in the state of this number, and tells its place. Out of
+/// memory, it leaves the tree as it was.
 pub fn add(tree: &mut Vec<Node>, parent: usize, op: u32, state: usize) -> Result<usize, AllocError>
     ensures place { IfOk result (λ place. place ≡ length tree.old.items) }
     ensures child { IfOk result (λ place. tree.new.items ≡ tree.old.items

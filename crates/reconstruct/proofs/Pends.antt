@@ -19,7 +19,7 @@ use Rattle.reconstruct.specs.Pending.{Pending}
 equal_told : (p q : List ℕ) → Decides (are_equal p q) (p ≡ q)
 equal_told p q = (equal_is p q, λ e. subst (λ (z : List ℕ). are_equal p z ≡ true) e (equal_self p))
 
--- want of memory says nothing of what pends
+-- out of memory says nothing of what pends
 pub memory_stops : (y : System) (most : Option ℕ) (before : List ℕ → Type 0) → Stops y most before Memory
 memory_stops y None before = tt
 memory_stops y (Some c) before = tt

@@ -40,7 +40,7 @@ tells_pending v back listed queue held p = tells_owed v back listed queue p || t
 abbrev pub IsTidy : {Set : Type 0} → View Set → Type 0
 IsTidy v = v.held ≤ 2 * v.last + 1000
 
--- a plan is held only where want of memory ended it
+-- a plan is held only where out of memory ended it
 abbrev pub IsHeld : System → Option (List ℕ) → Last → Type 0
 IsHeld y None ended = Unit {0}
 IsHeld y (Some p) ended = IsPlan y p × (ended ≡ Some (Some Memory))

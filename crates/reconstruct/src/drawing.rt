@@ -35,7 +35,7 @@ use entry_turns::{Queue, give_back, open_cut};
 use space_api::{Space, SpaceFault};
 use std::alloc::{AllocError, Global};
 
-/// Finds the cuts that come next, where none is ready. Want of memory leaves those that are.
+/// Finds the cuts that come next, where none is ready. Out of memory, it leaves those that are.
 fn find_cuts<S: Space, P: Choose>(
     alloc: Global,
     space: &mut S,
@@ -93,8 +93,8 @@ fn next_entry<S: Space, P: Choose>(
     }
 }
 
-/// Puts the first entry of the first cut that is ready into the empty queue. Want of memory gives its set back, if it
-/// has one, and leaves all as it was.
+/// Puts the first entry of the first cut that is ready into the empty queue. Out of memory, it gives its set back, if
+/// it has one, and leaves all as it was.
 fn put<S: Space>(
     space: &mut S,
     place: &mut Place,
@@ -121,7 +121,7 @@ fn put<S: Space>(
     }
 }
 
-/// Draws the next cut into the empty queue, or marks that none is left. Want of memory leaves what is owed.
+/// Draws the next cut into the empty queue, or marks that none is left. Out of memory, it leaves what is owed.
 pub(crate) fn draw<S: Space, P: Choose>(
     alloc: Global,
     space: &mut S,

@@ -59,7 +59,7 @@ fn next_cost<S: Space, P: Choose>(
 
 /// Goes on to the next cost at which a plan exists, and draws its first cut into the queue.
 ///
-/// Want of memory leaves the cost that is listed and the empty queue.
+/// Out of memory, it leaves the cost that is listed and the empty queue.
 pub(crate) fn go_on<S: Space, P: Choose>(
     alloc: Global,
     space: &mut S,

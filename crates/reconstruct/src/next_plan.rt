@@ -50,7 +50,7 @@ fn draw_next<S: Space, P: Choose>(
 }
 
 /// Sees to it that an entry stands in the queue: draws the next cut, or goes on to the next cost, of which nothing is
-/// remembered. Want of memory leaves what is owed.
+/// remembered. Out of memory, it leaves what is owed.
 fn fill<S: Space, P: Choose>(
     alloc: Global,
     space: &mut S,
@@ -125,7 +125,7 @@ fn walk_on<S: Space, P: Choose, L: Ledger>(
     }
 }
 
-/// The next plan. Want of memory leaves what is owed; no set is lost.
+/// The next plan. Out of memory, it leaves what is owed; no set is lost.
 pub(crate) fn give<S: Space, P: Choose, L: Ledger>(
     alloc: Global,
     space: &mut S,

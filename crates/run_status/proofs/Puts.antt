@@ -55,7 +55,7 @@ or_fronts May Other also TooLong out m = (also TooLong out.pieces m.0, m.1)
 or_fronts May Other also Unreadable out m = (also Unreadable out.pieces m.0, m.1)
 or_fronts May Other also CostRange out m = (also CostRange out.pieces m.0, m.1)
 
--- a front of it, where the sink failed or memory was wanting
+-- a front of it, where the sink failed or memory ran out
 pub broken : (May : Status → Bytes → Type 0) (result : Status) (out : Sent) → (result ≡ WriteFault) ⊎ (result ≡ Memory) → FrontOf (AsOne May) out → OrFront May result out
 broken May result out (inl e) f = subst (λ s. OrFront May s out) (sym e) f
 broken May result out (inr e) f = subst (λ s. OrFront May s out) (sym e) f
@@ -72,7 +72,7 @@ end_puts May status text old new result m (inl h) = (all_of (text ∷ []), took_
 end_puts May status text old new result m (inr (inl h)) = part_puts May status text old new result m (inl h.0) h.1
 end_puts May status text old new result m (inr (inr h)) = part_puts May status text old new result m (inr h.0) h.1
 
--- nothing, where memory was wanting
+-- nothing, when out of memory
 pub nothing_puts : (May : Status → Bytes → Type 0) (old : SinkView) → Puts (OrFront May) old old Memory
 nothing_puts May old = (nothing, took_nothing old, inl refl)
 

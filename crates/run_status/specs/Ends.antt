@@ -13,7 +13,7 @@ Ends status text old new result =
     ⊎ ((result ≡ WriteFault) × TookFront text old new × Rose old.faults new.faults)
     ⊎ ((result ≡ Memory) × TookFront text old new × (new.faults ≡ old.faults))
 
--- The causes of a status: unreadable and write fault only where the count of faults rose, and any other status but want of
+-- The causes of a status: unreadable and write fault only where the count of faults rose, and any other status but out of
 -- memory only where no count did. The counts are those of the files and the sink, each at entry and at exit.
 pub record HasCauses (status : Status) (files files' sink sink' : ℕ) : Type 0 where
   pub unreadable : status ≡ Unreadable → Rose files files'
@@ -28,7 +28,7 @@ FrontOf MayCome out = (out ≡ nothing) ⊎ ((status : Status) × (whole : List 
 abbrev pub AsOne : (Status → Bytes → Type 0) → Status → List Bytes → Type 0
 AsOne MayCome status pieces = IsOne (MayCome status) pieces
 
--- a text that the status may come with, as one piece, or a front of one where the sink failed or memory was wanting
+-- a text that the status may come with, as one piece, or a front of one where the sink failed or memory ran out
 abbrev pub OrFront : (Status → Bytes → Type 0) → Status → Sent → Type 0
 OrFront MayCome WriteFault out = FrontOf (AsOne MayCome) out
 OrFront MayCome Memory out = FrontOf (AsOne MayCome) out

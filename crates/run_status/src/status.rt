@@ -44,7 +44,7 @@ pub enum Status {
     /// All plans of at most 64-bit cost were listed, fewer than were asked for or, where one more was looked
     /// for, no more, and there is a dearer one.
     CostRange,
-    /// Memory is wanting.
+    /// Out of memory.
     Memory,
 }
 

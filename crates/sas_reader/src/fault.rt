@@ -84,7 +84,7 @@ pub enum ReadFault {
     /// the last line where the text ends too early.
     #[error("line {line} offends")]
     Offence { line: u64, wanted: Shape },
-    /// Want of memory.
+    /// Out of memory.
     #[error("want of memory")]
     Memory,
 }

@@ -57,7 +57,7 @@ pub fn write_task(alloc: Global, task: &Task) -> Result<Vec<u8>, Memory>
     Ok(text.into_vec())
 }
 
-/// The lines of a task's file are refused for want of memory alone.
+/// The lines of a task's file are refused only when out of memory.
 pub fn file_is_not_refused()
     ensures { (lines : List (List ℕ)) (task : TaskParts) (fault : ReadFault) → IsFileOf lines task
         → RefusedAt lines fault → fault ≡ ReadFault.Memory }

@@ -46,7 +46,7 @@ abbrev pub last_by : Bool → Last
 last_by true = Some (Some Memory)
 last_by false = None
 
--- what a call answers: one of those that are left, or want of memory, from which on nothing changes
+-- what a call answers: one of those that are left, or out of memory, from which on nothing changes
 abbrev pub Answered : List (List ℕ) → List (List ℕ) → List (List ℕ) → List (List ℕ) → Bool → Bool → Result (Option (List ℕ)) Stop → Type 0
 Answered left later given more before after (Ok (Some p)) = Took left later given more p × IsFalse before × IsFalse after
 Answered left later given more before after (Ok None) = ⊥

@@ -18,7 +18,7 @@ fn write_plan(text: &mut Vec<u8>, plan: &Plan) -> Result<(), Memory> {
     Ok(())
 }
 
-/// The first `k` plans of the engine, by the digits of their operators, each in brackets; `memory` where it is wanting,
+/// The first `k` plans of the engine, by the digits of their operators, each in brackets; `memory` when out of memory,
 /// and how many plans were counted. Nothing comes after the last item.
 fn listed<I: LazyPlans + Drop>(alloc: Global, engine: I, k: u64) -> Result<(Vec<u8>, u64), Memory>
     requires { I.lawful engine }

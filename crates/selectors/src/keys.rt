@@ -41,7 +41,7 @@ impl Keys {
         self.set.contains(key)
     }
 
-    /// Adds the key, and tells whether it is new. Want of memory leaves the keys as they were.
+    /// Adds the key, and tells whether it is new. Out of memory, it leaves the keys as they were.
     pub fn note(&mut self, key: Vec<u32>) -> Result<bool, Memory>
         ensures noted { IfOk result (λ fresh. MatchBool fresh (self.new ≡ self.old ++ key.items ∷ [])
             (self.new ≡ self.old)) }
@@ -76,7 +76,7 @@ fn sorted(mut numbers: Vec<u32>) -> Vec<u32>
 }
 
 /// Notes the class of the plan, by its key in `Unordered`, and tells whether the plan is a rearrangement of none whose
-/// class was noted before. Want of memory leaves the keys as they were.
+/// class was noted before. Out of memory, it leaves the keys as they were.
 pub fn note_class(alloc: Global, seen: &mut Keys, plan: &Plan) -> Result<bool, Memory>
     requires { All (λ key. (p : List ℕ) × IsKey unordered p key) seen.old }
     ensures ok { IfOk result (λ fresh. MatchBool fresh

@@ -77,7 +77,7 @@ pub fn forget_pair<A: Space, B: Space>(a: &mut A, b: &mut B, pair: Pair<A::Set, 
     b.forget(pair.right);
 }
 
-/// Puts a pair at the end of those that are kept. Where memory is wanting, both its sets are given back.
+/// Puts a pair at the end of those that are kept. When out of memory, both its sets are given back.
 pub fn keep<A: Space, B: Space>(
     a: &mut A,
     b: &mut B,

@@ -4,7 +4,7 @@
 //! set, those where a fact holds, unions, images and preimages by an operator or by all operators of a cost. It tells
 //! its task and the task's transition system, which sets are valid and which states each valid set has; each call
 //! says exactly which states its answer has. A set is valid from the call that gives it until it is forgotten, and no
-//! other call, refused or not, changes it. Want of memory is the one refusal, and then no set became valid. A space
+//! other call, refused or not, changes it. Out of memory is the one refusal, and then no set became valid. A space
 //! also tells which operators may lead into a set, and which may apply in it, so that a caller need not try each; and
 //! whether a set has a state, for those who look at single states, with the task and its rules. `operator_costs`
 //! lists the different costs of a task's operators, and `all_operators` the operators. It stands on `task_system` for

@@ -16,7 +16,7 @@ use std::alloc::Global;
 use symk_task::{Fact, Memory, State, Task};
 use task_run::Rules;
 
-/// Why a call of a space is refused: want of memory alone.
+/// Why a call of a space is refused: out of memory alone.
 pub type SpaceFault = Memory;
 
 /// Sets of states of one task.

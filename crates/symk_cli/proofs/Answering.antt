@@ -135,7 +135,7 @@ module _ (rose : Type 0) where
   pub front_answered : (wish : Option Wish) (told : Option Told) (F P : Option Bytes) (May : Status → Bytes → Type 0) (old new : SinkView) (result : Status) → ((result : Status) (pieces : List Bytes) → AsOne May result pieces → Whole rose wish F P result pieces) → AreTexts told wish F P → Puts (OrFront May) old new result → Answered rose wish told old new result
   front_answered wish told F P May old new result whole texts p = record { F = F; P = P; texts = texts; out = p.0; taken = p.1; answer = front_answers wish F P May whole result p.0 p.2 }
 
-  -- want of memory, before anything is put
+  -- out of memory, before anything is put
   pub memory_answered : (wish : Option Wish) (told : Option Told) (old : SinkView) → Answered rose wish told old old status.Memory
   memory_answered wish told old = record { F = None; P = None; texts = nothing_read told wish; out = nothing; taken = took_nothing old; answer = inl refl }
 

@@ -88,7 +88,7 @@ module _ (task : TaskParts) (mode : Mode) (blocks : List ReadBlock) where
     pub bad_goes : (old new : SinkView) (result : Status) → Puts (OrFront (IsBad task mode blocks)) old new result → Puts (OrGoesOn task mode wanted blocks) old new result
     bad_goes old new result p = (p.0, p.1, as_goes result p.0 p.2)
 
-    -- nothing, where memory was wanting
+    -- nothing, when out of memory
     pub memory_goes : (old : SinkView) → Puts (OrGoesOn task mode wanted blocks) old old status.Memory
     memory_goes old = (nothing, took_nothing old, inl (inl refl))
 

@@ -36,7 +36,7 @@ not_unreadable T stop is e = let bad : stops.TooLong ≡ stops.Unreadable = cc i
 pub not_memory : (T : Type 0) (stop : ReadStop) → stop ≡ stops.TooLong → IsErrOf {T = T} (Err stop) stops.Memory → ⊥
 not_memory T stop is e = let bad : stops.TooLong ≡ stops.Memory = cc in absurd (cc)
 
--- want of memory, after a sink that wasn't touched
+-- out of memory, after a sink that wasn't touched
 pub memory_after : (May : Option Bytes → Status → Bytes → Type 0) (told : Option Told) (name : Bytes) (old new : SinkView) → new ≡ old → HasRead told name (λ read. Puts (OrFront (May read)) old new status.Memory)
 memory_after May told name old new same = (None, tt, subst (λ (v : SinkView). Puts (OrFront (May None)) old v status.Memory) (sym same) (nothing_puts (May None) old))
 
@@ -50,7 +50,7 @@ module _ (rose : Type 0) where
       → HasRead told name (λ read. Puts (OrFront (TextRefused rose named read)) old new result)
   long_refused told name named text old new result F has e ends = (Some F.0, told_text told name F.0 F.2 has, end_puts (TextRefused rose named (Some F.0)) status.TooLong text old new result (F.1, e) ends)
 
-  -- want of memory
+  -- out of memory
   pub memory_refused : (told : Option Told) (name : Bytes) (named : Named) (old : SinkView) → HasRead told name (λ read. Puts (OrFront (TextRefused rose named read)) old old status.Memory)
   memory_refused told name named old = (None, tt, nothing_puts (TextRefused rose named None) old)
 

@@ -98,7 +98,7 @@ abbrev pub Part : Type 0 → Option Wish → Option Bytes → Option Bytes → S
 Part rose wish F P out = (out ≡ nothing) ⊎ ((result : Status) × (whole : List Bytes) × Whole rose wish F P result whole × IsFront out whole) ⊎ PartLists wish F P out
 
 -- What the sink took under a status, given what is asked for and the texts that were read of FILE and of PLANS or CERT: whole
--- pieces, or a part of them where the sink failed or memory was wanting.
+-- pieces, or a part of them where the sink failed or memory ran out.
 abbrev pub Answer : Type 0 → Option Wish → Option Bytes → Option Bytes → Status → Sent → Type 0
 Answer rose wish F P status.WriteFault out = Part rose wish F P out
 Answer rose wish F P status.Memory out = Part rose wish F P out

@@ -38,7 +38,7 @@ Finishes (refutes file cert) result = (result ≡ Refuted) ⊎ (result ≡ NotSh
 abbrev pub IsQuiet : ℕ → ℕ → Type 0
 IsQuiet old new = (new ≡ old) × (old < 2 ^ 64 - 1)
 
--- What is asked for over texts that are told and lawful, where no count of faults rose, comes, unless memory is wanting.
+-- What is asked for over texts that are told and lawful, where no count of faults rose, comes, unless out of memory.
 abbrev pub Complete : Option Wish → FilesView → FilesView → SinkView → SinkView → Status → Type 0
 Complete asked files files' sink sink' result =
     (wish : Wish) → asked ≡ Some wish → TellsTexts files.told wish → IsQuiet files.faults files'.faults → IsQuiet sink.faults sink'.faults

@@ -35,7 +35,7 @@ pub const USAGE: &[u8] =
 ///
 /// The first word is the program's name and isn't looked at. What is read comes from `files`, and every byte goes to
 /// `sink`, each block of a plan as one piece, which is flushed before the next plan is asked for. A refusal writes
-/// its text, as one piece, and nothing else; want of memory and a fault of the sink end the run where they come, and
+/// its text, as one piece, and nothing else; out of memory and a fault of the sink end the run where they come, and
 /// nothing more is written then.
 pub fn run<F: Files, K: Sink>(
     alloc: Global,
@@ -47,7 +47,7 @@ pub fn run<F: Files, K: Sink>(
     ensures answer { Answered (Rose (F.view files.old).faults (F.view files.new).faults)
         (wish_of (map (λ w. string_bytes w) words.now)) (F.view files.old).told
         (K.view sink.old) (K.view sink.new) result }
-    // A fault is answered only where one was counted, and where one was, no other status comes but want of memory.
+    // A fault is answered only where one was counted, and where one was, no other status comes but out of memory.
     ensures causes { HasCauses result (F.view files.old).faults (F.view files.new).faults
         (K.view sink.old).faults (K.view sink.new).faults }
     // The files are opened in their order, and none but those asked for, each at most once.
@@ -61,7 +61,7 @@ pub fn run<F: Files, K: Sink>(
         (F.view files.old).told }
     ensures refuted { result ≡ Status.Refuted → IsSettled (wish_of (map (λ w. string_bytes w) words.now))
         (F.view files.old).told }
-    // Where nothing stands against it, what is asked for comes, unless memory is wanting.
+    // Where nothing stands against it, what is asked for comes, unless out of memory.
     ensures complete { Complete (wish_of (map (λ w. string_bytes w) words.now)) (F.view files.old)
         (F.view files.new) (K.view sink.old) (K.view sink.new) result }
 {

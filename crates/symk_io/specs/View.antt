@@ -42,7 +42,7 @@ abbrev pub failed_open : List Bytes → Bytes → IoFault → List Bytes
 failed_open before name Failed = before ++ (name ∷ [])
 failed_open before name Memory = before
 
--- after an open: the texts stay; the name has a text and all of it is left, or what was left still is; the name is added, unless memory was wanting
+-- after an open: the texts stay; the name has a text and all of it is left, or what was left still is; the name is added, unless out of memory
 pub record Opens (name : Bytes) (result : Result (Unit {0}) IoFault) (old new : Told) : Type 0 where
   pub texts : new.text ≡ old.text
   pub ok : OnOk result (old.text name ≡ Some new.left)

@@ -10,7 +10,7 @@ pub enum IoFault {
     /// The device failed, and counted it.
     #[error("the device failed")]
     Failed,
-    /// Want of memory, which isn't counted as a failure.
+    /// Out of memory, which isn't counted as a failure.
     #[error("out of memory")]
     Memory,
 }
@@ -24,7 +24,7 @@ pub enum ReadStop {
     /// More bytes came than the limit allows.
     #[error("too long")]
     TooLong,
-    /// Want of memory.
+    /// Out of memory.
     #[error("out of memory")]
     Memory,
 }

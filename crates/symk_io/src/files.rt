@@ -56,7 +56,7 @@ pub fn read_all<F: Files>(
     ensures unreadable { IsErrOf result ReadStop.Unreadable → Rose (F.view files.old).faults (F.view files.new).faults }
     ensures later { (F.view files.old).faults ≤ (F.view files.new).faults }
     ensures quiet { (IsErrOf result ReadStop.Unreadable → ⊥) → (F.view files.new).faults ≡ (F.view files.old).faults }
-    // The name is the only one opened, and is opened unless memory was wanting.
+    // The name is the only one opened, and is opened unless out of memory.
     ensures opened { (IsErrOf result ReadStop.Memory → ⊥) → Tells (Opened name.now) (F.view files.old).told
         (F.view files.new).told }
     ensures names { Tells (MayOpen name.now) (F.view files.old).told (F.view files.new).told }

@@ -9,7 +9,7 @@ use crate::{Files, IoFault, Sink};
 use std::io::{Error, ErrorKind, Read, Write};
 use std::rt::Files as System;
 
-// A failure is counted, and want of memory, which is std's own kind of that name and no other, is not.
+// A failure is counted, and out of memory, which is std's own kind of that name and no other, is not.
 fn fault_of(error: Error, faults: &mut u64) -> IoFault
     ensures kind { (result ≡ IoFault.Memory) ↔ (error_kind error ≡ OutOfMemory) }
     ensures counted { Counted faults.old faults.new result }
@@ -23,7 +23,7 @@ fn fault_of(error: Error, faults: &mut u64) -> IoFault
 
 /// The files of the system, under their paths. No clause says which bytes they hold.
 ///
-/// Each failure of the system is counted, but for want of memory. Before any `open_file` there is nothing to read.
+/// Each failure of the system is counted, but out of memory. Before any `open_file` there is nothing to read.
 #[derive(Drop)]
 pub struct HostFiles<R: System + Drop> {
     system: R,
@@ -87,7 +87,7 @@ impl<R: System + Drop> Files for HostFiles<R> {
 /// A writer of the system, as standard output. It tells nothing of its bytes and flushes: no clause says which reach
 /// the system.
 ///
-/// Each failure of the writer is counted, but for want of memory; to take nothing of a piece is a failure.
+/// Each failure of the writer is counted, but out of memory; to take nothing of a piece is a failure.
 #[derive(Drop)]
 pub struct HostSink<W: Write + Drop> {
     out: W,

@@ -5,7 +5,7 @@ ghost use Rattle.std.specs.Prelude.{◌≡◌, ◌==◌, ◌<◌, ℕ, List, [],
 use std::alloc::{AllocError, Global};
 use std::marker::Model;
 
-/// Want of memory.
+/// Out of memory.
 pub type Memory = AllocError;
 
 /// A list.
@@ -56,7 +56,7 @@ impl<T> List<T> {
         self.items.is_empty()
     }
 
-    /// Adds the item at the end. Want of memory leaves the list as it was.
+    /// Adds the item at the end. Out of memory, it leaves the list as it was.
     pub fn push(&mut self, item: T) -> Result<(), Memory>
     where
         T: Drop,
@@ -177,7 +177,7 @@ impl Plan {
         &self.operators
     }
 
-    /// Adds the operator at the end. Want of memory leaves the plan as it was.
+    /// Adds the operator at the end. Out of memory, it leaves the plan as it was.
     pub fn push(&mut self, operator: u32) -> Result<(), Memory>
         ensures ok { OnOk result (self.new ≡ self.old ++ operator ∷ []) }
         ensures err { OnErr result (self.new ≡ self.old) }

@@ -13,5 +13,5 @@ pub use lines::{Line, Lines, lines_of};
 pub use numbers::number;
 pub use text::{Text, push_bytes, push_number};
 
-/// Want of memory.
+/// Out of memory.
 pub type Memory = std::alloc::AllocError;

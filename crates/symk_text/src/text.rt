@@ -44,7 +44,7 @@ impl Text {
     }
 }
 
-/// Appends bytes. On want of memory the text is as before.
+/// Appends bytes. When out of memory the text is as before.
 pub fn push_bytes(text: &mut Text, bytes: &[u8]) -> Result<(), Memory>
     ensures ok { OnOk result (text.new ≡ text.old ++ bytes.now) }
     ensures err { OnErr result (text.new ≡ text.old) }
@@ -52,7 +52,7 @@ pub fn push_bytes(text: &mut Text, bytes: &[u8]) -> Result<(), Memory>
     text.bytes.extend_from_slice(bytes)
 }
 
-/// Appends a number in decimal digits, without leading zeros. On want of memory the text is as before.
+/// Appends a number in decimal digits, without leading zeros. When out of memory the text is as before.
 pub fn push_number(text: &mut Text, number: u64) -> Result<(), Memory>
     ensures ok { OnOk result (text.new ≡ text.old ++ decimal number) }
     ensures err { OnErr result (text.new ≡ text.old) }

@@ -194,7 +194,7 @@ pub enum Asked<'a> {
 pub enum WordsFault {
     /// The words are none of the forms of the command.
     Usage,
-    /// Want of memory.
+    /// Out of memory.
     Memory,
 }
 

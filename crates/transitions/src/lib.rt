@@ -6,7 +6,7 @@
 //! to the other; bits that the effects don't touch stay, and are left out of it; `same_bit` holds exactly where one
 //! bit stays. `image` names exactly the states to which steps lead from the members of a set, and `preimage` exactly
 //! those from which a step leads to a member; both name bits of states alone (`specs/Relations.antt`). After every
-//! call, refused or not, each Id that was known means the same and the table is reduced; want of memory is the only
+//! call, refused or not, each Id that was known means the same and the table is reduced; out of memory is the only
 //! refusal. A relation keeps its levels, and an image or a preimage is one operation on diagrams, so that it makes
 //! nothing but nodes. Sources: for images by relational products, Burch, Clarke, McMillan, Dill and Hwang, "Symbolic
 //! Model Checking: 10^20 States and Beyond" (1992); in planning, Torralba, Alcázar, Kissmann and Edelkamp, "Efficient

@@ -78,7 +78,7 @@ impl Queue {
         let _ = self.heap.append(&mut others);
     }
 
-    /// Puts all entries of the other queue in, which has none then. Want of memory leaves both.
+    /// Puts all entries of the other queue in, which has none then. Out of memory, it leaves both.
     pub fn join(&mut self, other: &mut Queue) -> Result<(), AllocError>
         ensures ok { OnOk result (IsPermutation (entries_of self.old ++ entries_of other.old) (entries_of self.new)) }
         ensures none { OnOk result (entries_of other.new ≡ []) }

@@ -1,4 +1,4 @@
-//! An allocation fails, whichever it is: whole pieces were put, and the status says that memory is wanting.
+//! An allocation fails, whichever it is: whole pieces were put, and the status says that it is out of memory.
 //!
 //! With ample memory the whole answer comes; `rt try --test --fail-alloc N` lets the Nth allocation of each test fail.
 
@@ -20,7 +20,7 @@ struct Pieces<'a> {
     ends: &'a [usize],
 }
 
-// The answer comes whole, or is cut between two pieces for want of memory.
+// The answer comes whole, or is cut between two pieces when out of memory.
 fn comes_in_pieces(
     rt: &impl Abort,
     alloc: Global,

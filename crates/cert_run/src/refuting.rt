@@ -39,7 +39,7 @@ fn no_plan() -> &'static [u8]
     b"no plan\n"
 }
 
-// `not shown: PART`
+/// `not shown: PART`
 #[tactic(auto, unfolding(crate::specs::Proofs::not_shown_text))]
 fn not_shown(alloc: Global, part: CertPart) -> Result<Text, Memory>
     ensures { IfOk result (λ text. text ≡ not_shown_text part) }
@@ -65,7 +65,7 @@ fn push_part(text: &mut Text, part: CertPart) -> Result<(), Memory>
     }
 }
 
-// `cert line N`
+/// `cert line N`
 #[tactic(auto, unfolding(crate::specs::Proofs::cert_offence_text))]
 fn cert_offence(alloc: Global, line: u64) -> Result<Text, Memory>
     ensures { IfOk result (λ text. text ≡ cert_offence_text line) }

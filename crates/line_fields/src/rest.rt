@@ -21,6 +21,7 @@ impl<'a> Model for Rest<'a> {
 }
 
 impl<'a> Rest<'a> {
+    /// All of these lines, from the first on.
     pub fn of(lines: &'a [Line<'a>]) -> Rest<'a>
         ensures { result ≡ lines.now }
     {

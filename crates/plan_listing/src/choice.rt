@@ -2,12 +2,16 @@
 
 use bidirectional::{Choice, Lighter};
 
+/// The side from the initial state alone.
 pub const FORWARD: Choice = Choice::Forward;
 
+/// The side from the goal alone.
 pub const BACKWARD: Choice = Choice::Backward;
 
+/// The side that is known below the lower cost.
 pub const LOWER: Choice = Choice::Lower;
 
+/// The side whose last step was less work; no step was made yet.
 pub const LIGHTER: Choice = Choice::Lighter(Lighter { ahead: 0, back: 0 });
 
 /// Each of them.

@@ -20,6 +20,7 @@ pub struct Seen {
 }
 
 impl Seen {
+    /// No plan was looked at yet.
     pub fn new(alloc: Global) -> Seen
         ensures { (mode : Mode) → IsSeen mode [] result }
     {

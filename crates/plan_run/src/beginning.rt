@@ -19,15 +19,15 @@ use space_api::Space;
 use std::alloc::Global;
 use symk_task::{Memory, Task};
 
-// Whether the mutex groups of the task cut the search backward: where they are asked for, and where the program
-// chooses the side that goes on. Their set costs little beside a search, by what `within` tries.
+/// Whether the mutex groups of the task cut the search backward: where they are asked for, and where the program
+/// chooses the side that goes on. Their set costs little beside a search, by what `within` tries.
 fn is_cut(search: Search) -> bool {
     search.mutex || search.direction == Direction::Auto
 }
 
-// The set to which the search backward is kept: where it is to be cut and the task states mutex groups, the states
-// that keep some of those that are shown inductive, and else none. Each useful state is one of them. It alone is valid
-// then.
+/// The set to which the search backward is kept: where it is to be cut and the task states mutex groups, the states
+/// that keep some of those that are shown inductive, and else none. Each useful state is one of them. It alone is valid
+/// then.
 fn kept_to<S: Space>(
     alloc: Global,
     task: &Task,

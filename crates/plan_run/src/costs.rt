@@ -15,7 +15,7 @@ use symk_task::{Memory, Task};
 /// How many plans are shown.
 pub const SHOWN: u64 = 20;
 
-// How plans are searched for where nothing is asked for.
+/// How plans are searched for where nothing is asked for.
 const UNASKED: Search = Search {
     direction: Direction::Auto,
     mutex: false,
@@ -33,7 +33,7 @@ pub struct Costs {
 }
 
 impl Costs {
-    // Those of one plan more.
+    /// Those of one plan more.
     fn with(self, cost: u64) -> Costs
         requires { self.total + cost < 2 ^ 128 }
         ensures cheapest { result.cheapest ≡ min self.cheapest cost }
@@ -48,7 +48,7 @@ impl Costs {
     }
 }
 
-// What 20 plans cost of an engine that owes all plans of the task.
+/// What 20 plans cost of an engine that owes all plans of the task.
 fn costs_of<I: LazyPlans + Drop>(alloc: Global, task: &Task, engine: I) -> Result<Costs, Memory>
     requires owes { OwesAll I.system I.mode I.most I.pends I.lawful task.now TopK None engine }
     requires many { HasMore task.now 20 }

@@ -54,7 +54,7 @@ pub fn list_found<K: Sink>(
     }
 }
 
-// Lists loopless plans, over a space of the task that has no valid set.
+/// Lists loopless plans, over a space of the task that has no valid set.
 fn list_loopless<S: Space + Drop, K: Sink>(
     alloc: Global,
     task: &Task,
@@ -91,7 +91,7 @@ fn list_loopless<S: Space + Drop, K: Sink>(
     }
 }
 
-// Lists all plans, over such a space.
+/// Lists all plans, over such a space.
 fn list_all<S: Space + Drop, K: Sink>(
     alloc: Global,
     task: &Task,
@@ -126,7 +126,7 @@ fn list_all<S: Space + Drop, K: Sink>(
     }
 }
 
-// Lists one plan of each class of rearrangements, over such a space.
+/// Lists one plan of each class of rearrangements, over such a space.
 fn list_classes<S: Space + Drop, K: Sink>(
     alloc: Global,
     task: &Task,
@@ -163,7 +163,7 @@ fn list_classes<S: Space + Drop, K: Sink>(
     }
 }
 
-// Lists those plans of an engine that owes all which count as one with no earlier plan.
+/// Lists those plans of an engine that owes all which count as one with no earlier plan.
 fn list_rest<I: LazyPlans + Drop, K: Sink>(
     alloc: Global,
     task: &Task,

@@ -80,7 +80,7 @@ pub fn list_plans<I: LazyPlans + Drop, K: Sink>(
     }
 }
 
-// How a list ends that has all plans that are wanted.
+/// How a list ends that has all plans that are wanted.
 fn all_listed(limit: Option<u64>, n: u64) -> End
     ensures { result ≡ all_end limit n }
 {
@@ -90,7 +90,7 @@ fn all_listed(limit: Option<u64>, n: u64) -> End
     }
 }
 
-// `plans miss a plan of cost C`
+/// `plans miss a plan of cost C`
 #[tactic(auto, unfolding(crate::specs::Lists::gap_text))]
 fn gap_text(alloc: Global, cost: u64) -> Result<Text, Memory>
     ensures { IfOk result (λ text. text ≡ gap_text cost) }
@@ -102,8 +102,8 @@ fn gap_text(alloc: Global, cost: u64) -> Result<Text, Memory>
     Ok(text)
 }
 
-// Puts the block of a plan, which is the one of this number in its list, as one piece, or ends the run. What is
-// known already is what the plan costs, and whether each operator of the task costs 1.
+/// Puts the block of a plan, which is the one of this number in its list, as one piece, or ends the run. What is
+/// known already is what the plan costs, and whether each operator of the task costs 1.
 fn put_block<K: Sink>(
     alloc: Global,
     task: &Task,

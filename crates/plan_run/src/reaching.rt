@@ -63,7 +63,7 @@ pub fn list_reached<K: Sink>(
     }
 }
 
-// Lists plans with no earlier list, up to a greatest cost where there is one.
+/// Lists plans with no earlier list, up to a greatest cost where there is one.
 fn list_first<K: Sink>(
     alloc: Global,
     task: &Task,
@@ -83,7 +83,7 @@ fn list_first<K: Sink>(
     list_found(alloc, task, mode, search, wanted, limit, &earlier, sink)
 }
 
-// So many percent of a cost, the whole part, or the greatest cost, if that is less.
+/// So many percent of a cost, the whole part, or the greatest cost, if that is less.
 fn share(cost: u64, percent: u64) -> u64
     requires { percent ≤ 10000 }
     ensures { result ≡ share cost percent }
@@ -92,8 +92,8 @@ fn share(cost: u64, percent: u64) -> u64
     most.min(u128::from(u64::MAX)) as u64
 }
 
-// What the cheapest plan of the task costs. In each mode that is what the cheapest plan of the mode costs:
-// leaving out a circle makes no plan dearer, so that a cheapest one may be taken to be loopless.
+/// What the cheapest plan of the task costs. In each mode that is what the cheapest plan of the mode costs:
+/// leaving out a circle makes no plan dearer, so that a cheapest one may be taken to be loopless.
 fn least_cost(alloc: Global, task: &Task, search: Search) -> Result<Least, Memory>
     ensures { IfOk result (HasLeast task.now) }
 {
@@ -107,7 +107,7 @@ fn least_cost(alloc: Global, task: &Task, search: Search) -> Result<Least, Memor
     }
 }
 
-// What the first plan of an engine costs that owes all plans of the task.
+/// What the first plan of an engine costs that owes all plans of the task.
 fn cheapest_of<I: LazyPlans + Drop>(alloc: Global, task: &Task, engine: I) -> Result<Least, Memory>
     requires { OwesAll I.system I.mode I.most I.pends I.lawful task.now TopK None engine }
     ensures { IfOk result (HasLeast task.now) }

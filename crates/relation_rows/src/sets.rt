@@ -18,6 +18,7 @@ pub fn task_of(rt: &impl Abort, alloc: Global, draft: &Draft<'_>) -> Result<Task
     Ok(drafted(alloc, draft)?.expect(rt, "the draft fits"))
 }
 
+/// Operations over a table of no nodes, with room for 100 results.
 pub fn no_diagrams(alloc: Global) -> Result<Ops, Memory> {
     Ops::new(Table::new(alloc)?, 100)
 }

@@ -106,6 +106,7 @@ pub fn triple(
     base(alloc, called, values)
 }
 
+/// The variable has the value; both count from 0.
 pub fn fact(var: u32, val: u32) -> Fact
     ensures { result ≡ fact var val }
 {

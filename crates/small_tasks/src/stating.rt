@@ -37,6 +37,7 @@ fn a_or_b(alloc: Global) -> Result<Variable, Memory>
     pair(alloc, b"var0", b"a", b"b")
 }
 
+/// One switch, which can be turned on.
 pub fn one_switch(alloc: Global) -> Result<TaskParts, Memory>
     ensures { IfOk result (λ task. task ≡ one_switch) }
 {
@@ -47,6 +48,7 @@ pub fn one_switch(alloc: Global) -> Result<TaskParts, Memory>
     Ok(plain(alloc, 0, variables, initial, goal, operators))
 }
 
+/// One switch, which can be turned on and off again: plans without end.
 pub fn switch_and_back(alloc: Global) -> Result<TaskParts, Memory>
     ensures { IfOk result (λ task. task ≡ switch_and_back) }
 {
@@ -59,6 +61,7 @@ pub fn switch_and_back(alloc: Global) -> Result<TaskParts, Memory>
     Ok(plain(alloc, 0, variables, initial, goal, operators))
 }
 
+/// Two switches, which can be turned on in either order.
 pub fn two_switches(alloc: Global) -> Result<TaskParts, Memory>
     ensures { IfOk result (λ task. task ≡ two_switches) }
 {
@@ -95,6 +98,7 @@ fn place_and_done(alloc: Global) -> Result<List<Variable>, Memory>
     two(alloc, place, done)
 }
 
+/// A walk along three places, and a rule that calls it done from the second on.
 pub fn axioms(alloc: Global) -> Result<TaskParts, Memory>
     ensures { IfOk result (λ task. task ≡ axioms) }
 {
@@ -111,6 +115,7 @@ pub fn axioms(alloc: Global) -> Result<TaskParts, Memory>
     })
 }
 
+/// The goal holds at the start, and there is no operator.
 pub fn goal_at_start(alloc: Global) -> Result<TaskParts, Memory>
     ensures { IfOk result (λ task. task ≡ goal_at_start) }
 {
@@ -120,6 +125,7 @@ pub fn goal_at_start(alloc: Global) -> Result<TaskParts, Memory>
     Ok(plain(alloc, 1, variables, initial, goal, none(alloc)))
 }
 
+/// The goal fails at the start, and there is no operator.
 pub fn no_operator(alloc: Global) -> Result<TaskParts, Memory>
     ensures { IfOk result (λ task. task ≡ no_operator) }
 {
@@ -129,6 +135,7 @@ pub fn no_operator(alloc: Global) -> Result<TaskParts, Memory>
     Ok(plain(alloc, 1, variables, initial, goal, none(alloc)))
 }
 
+/// A lamp goes up and down, and nothing changes the aim.
 pub fn no_plan(alloc: Global) -> Result<TaskParts, Memory>
     ensures { IfOk result (λ task. task ≡ no_plan) }
 {
@@ -141,6 +148,7 @@ pub fn no_plan(alloc: Global) -> Result<TaskParts, Memory>
     Ok(plain(alloc, 0, variables, initial, goal, operators))
 }
 
+/// One step to the goal, and an operator of cost 0 that changes nothing: plans without end of cost 1.
 pub fn zero_costs(alloc: Global) -> Result<TaskParts, Memory>
     ensures { IfOk result (λ task. task ≡ zero_costs) }
 {
@@ -175,6 +183,7 @@ fn swap(alloc: Global) -> Result<Operator, Memory>
     })
 }
 
+/// A swap of two values by four conditional effects, which all see the old state.
 pub fn conditional_effects(alloc: Global) -> Result<TaskParts, Memory>
     ensures { IfOk result (λ task. task ≡ conditional_effects) }
 {
@@ -209,18 +218,21 @@ fn one_way(alloc: Global, operator: Operator) -> Result<TaskParts, Memory>
     Ok(plain(alloc, 0, variables, initial, goal, one(alloc, operator)?))
 }
 
+/// Two effects on one variable, of which the later leads away from the goal.
 pub fn later_effect_undoes(alloc: Global) -> Result<TaskParts, Memory>
     ensures { IfOk result (λ task. task ≡ later_effect_undoes) }
 {
     one_way(alloc, two_effects(alloc, 1, 0)?)
 }
 
+/// Two effects on one variable, of which the later reaches the goal.
 pub fn later_effect_reaches(alloc: Global) -> Result<TaskParts, Memory>
     ensures { IfOk result (λ task. task ≡ later_effect_reaches) }
 {
     one_way(alloc, two_effects(alloc, 0, 1)?)
 }
 
+/// The one plan costs 2^64.
 pub fn past_64_bits(alloc: Global) -> Result<TaskParts, Memory>
     ensures { IfOk result (λ task. task ≡ past_64_bits) }
 {
@@ -233,6 +245,7 @@ pub fn past_64_bits(alloc: Global) -> Result<TaskParts, Memory>
     Ok(plain(alloc, 1, variables, initial, goal, operators))
 }
 
+/// A near step and a far one, or one jump that costs as much as the far one.
 pub fn near_and_far(alloc: Global) -> Result<TaskParts, Memory>
     ensures { IfOk result (λ task. task ≡ near_and_far) }
 {
@@ -246,6 +259,7 @@ pub fn near_and_far(alloc: Global) -> Result<TaskParts, Memory>
     Ok(plain(alloc, 1, variables, initial, goal, operators))
 }
 
+/// Two operators of one name and one effect.
 pub fn same_name_twice(alloc: Global) -> Result<TaskParts, Memory>
     ensures { IfOk result (λ task. task ≡ same_name_twice) }
 {

@@ -34,7 +34,7 @@ pub fn judge<K: Sink>(
     }
 }
 
-// `good N`
+/// `good N`
 #[tactic(auto, unfolding(crate::specs::Verdicts::verdict_text))]
 fn good_text(alloc: Global, n: u64) -> Result<Text, Memory>
     ensures { IfOk result (λ text. text ≡ verdict_text (Checked.Good n)) }

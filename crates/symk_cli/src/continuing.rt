@@ -44,7 +44,7 @@ pub fn go_on<K: Sink>(
     }
 }
 
-// The plans of the blocks, and what the last one states to cost.
+/// The plans of the blocks, and what the last one states to cost.
 fn earlier_of(alloc: Global, blocks: &Blocks) -> Result<Earlier, Memory>
     ensures plans { IfOk result (λ earlier. earlier.plans ≡ plans_of blocks.now.list) }
     ensures dearest { IfOk result (λ earlier. earlier.dearest ≡ last_stated blocks.now.list) }

@@ -26,7 +26,7 @@ pub fn show<K: Sink>(alloc: Global, number: u32, sink: &mut K) -> Status
     end_with(sink, summary(alloc, number), Status::Shown)
 }
 
-// The task, as it is read back from its own text.
+/// The task, as it is read back from its own text.
 fn task_read_back(alloc: Global, number: u32) -> Result<Task, Memory>
     requires least { 1 ≤ number }
     requires most { number ≤ 64 }
@@ -50,8 +50,8 @@ fn summary(alloc: Global, number: u32) -> Result<Text, Memory>
     lines(alloc, number, &task, costs)
 }
 
-// The three lines of the task and of what was found for it. The task is lent: where a function owns it, its proof takes
-// far longer.
+/// The three lines of the task and of what was found for it. The task is lent: where a function owns it, its proof takes
+/// far longer.
 fn lines(alloc: Global, number: u32, task: &Task, costs: Costs) -> Result<Text, Memory>
     ensures { IfOk result (λ text. text ≡ lines_of number task.now costs.cheapest costs.dearest costs.total) }
 {
@@ -69,7 +69,7 @@ fn lines(alloc: Global, number: u32, task: &Task, costs: Costs) -> Result<Text, 
     Ok(text)
 }
 
-// `switches N: variables V operators O rules R`
+/// `switches N: variables V operators O rules R`
 #[tactic(auto, unfolding(crate::specs::Shown::counts_line))]
 fn push_counts(
     text: &mut Text,
@@ -87,7 +87,7 @@ fn push_counts(
     push_bytes(text, b"\n")
 }
 
-// `plans M: cheapest C dearest D total T`
+/// `plans M: cheapest C dearest D total T`
 #[tactic(auto, unfolding(crate::specs::Shown::costs_line))]
 fn push_costs(text: &mut Text, costs: Costs) -> Result<(), Memory>
     ensures { OnOk result (text.new ≡ text.old ++ costs_line 20 costs.cheapest costs.dearest costs.total) }
@@ -99,7 +99,7 @@ fn push_costs(text: &mut Text, costs: Costs) -> Result<(), Memory>
     push_bytes(text, b"\n")
 }
 
-// `end reached M`
+/// `end reached M`
 #[tactic(auto, unfolding(crate::specs::Shown::reached_line))]
 fn push_reached(text: &mut Text) -> Result<(), Memory>
     ensures { OnOk result (text.new ≡ text.old ++ reached_line 20) }

@@ -33,14 +33,14 @@ fn main(rt: HostRuntime) -> ExitCode {
     exit_of(answer(rt))
 }
 
-// What the program ends with: the number of the status.
+/// What the program ends with: the number of the status.
 fn exit_of(status: Status) -> ExitCode
     ensures { pos (exit_status result) ≡ code_of status }
 {
     ExitCode::from(u8::try_from(status.code()).unwrap_or(u8::MAX))
 }
 
-// The status of a run over the system's words, files and output.
+/// The status of a run over the system's words, files and output.
 fn answer(rt: HostRuntime) -> Status {
     let Ok(words) = env::args(&rt) else {
         return Status::Memory;

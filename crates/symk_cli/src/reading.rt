@@ -146,7 +146,7 @@ pub fn plans_of<F: Files, K: Sink>(
     }
 }
 
-// `line N: wanted SHAPE`
+/// `line N: wanted SHAPE`
 #[tactic(auto, unfolding(crate::specs::Refusals::offence_text))]
 fn offence_text(alloc: Global, line: u64, wanted: Shape) -> Result<Text, Memory>
     ensures { IfOk result (λ text. text ≡ offence_text line wanted) }
@@ -160,7 +160,7 @@ fn offence_text(alloc: Global, line: u64, wanted: Shape) -> Result<Text, Memory>
     Ok(text)
 }
 
-// `plans line N`
+/// `plans line N`
 #[tactic(auto, unfolding(crate::specs::Refusals::plans_offence_text))]
 fn plans_offence_text(alloc: Global, line: u64) -> Result<Text, Memory>
     ensures { IfOk result (λ text. text ≡ plans_offence_text line) }

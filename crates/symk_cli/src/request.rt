@@ -96,7 +96,7 @@ pub fn request_of<'a>(asked: &Asked<'a>) -> Option<Request<'a>>
     }
 }
 
-// A list, or one that goes on from that in a file that is named; it has no greatest cost then.
+/// A list, or one that goes on from that in a file that is named; it has no greatest cost then.
 fn list_request<'a>(
     file: &'a str,
     after: Option<&'a str>,
@@ -131,7 +131,7 @@ fn list_request<'a>(
     }
 }
 
-// The greatest cost that is wanted, named by itself or in percent of the least one, but not by both.
+/// The greatest cost that is wanted, named by itself or in percent of the least one, but not by both.
 fn reach_of(bound: Option<&str>, quality: Option<&str>) -> Option<Reach>
     ensures reach { result ≡ reach_of (option_map (λ s. s.now) bound.entry) (option_map (λ s. s.now) quality.entry) }
     ensures within { IfSome result IsNear }
@@ -144,7 +144,7 @@ fn reach_of(bound: Option<&str>, quality: Option<&str>) -> Option<Reach>
     }
 }
 
-// The number that is the whole word, within the bounds.
+/// The number that is the whole word, within the bounds.
 fn number_within(word: &str, least: u64, most: u64) -> Option<u64>
     ensures number { result ≡ number_within least most word.now }
     ensures bounds { IfSome result (λ n. (least ≤ n) × (n ≤ most)) }
@@ -157,7 +157,7 @@ fn number_within(word: &str, least: u64, most: u64) -> Option<u64>
     }
 }
 
-// The mode that a word names, top-k plans where there is none.
+/// The mode that a word names, top-k plans where there is none.
 fn mode_of(word: Option<&str>) -> Option<Mode>
     ensures { result ≡ mode_of (option_map (λ s. s.now) word.entry) }
 {
@@ -179,7 +179,7 @@ fn mode_named(word: &str) -> Option<Mode>
     }
 }
 
-// The direction that a word names, the program's own choice where there is none.
+/// The direction that a word names, the program's own choice where there is none.
 fn direction_of(word: Option<&str>) -> Option<Direction>
     ensures { result ≡ direction_of (option_map (λ s. s.now) word.entry) }
 {
@@ -202,7 +202,7 @@ fn direction_named(word: &str) -> Option<Direction>
     }
 }
 
-// Loopless plans are found backward alone.
+/// Loopless plans are found backward alone.
 fn is_served(mode: Mode, direction: Direction) -> bool
     ensures { result ≡ serves mode direction }
 {

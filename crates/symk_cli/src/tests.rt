@@ -22,15 +22,15 @@ use crate::{Status, run};
 use std::alloc::{AllocError, Global};
 use symk_io::{MemFile, MemFiles, MemSink, MemText};
 
-// What a run answers, and the bytes that it put.
+/// What a run answers, and the bytes that it put.
 #[derive(Drop)]
 struct Outcome {
     status: Status,
     bytes: Vec<u8>,
 }
 
-// The files of a run, and which of its calls fail. PLANS and CERT are two names of one text. A count of blanks
-// stands in the place of a text.
+/// The files of a run, and which of its calls fail. PLANS and CERT are two names of one text. A count of blanks
+/// stands in the place of a text.
 #[derive(Clone, Copy)]
 struct World<'a> {
     file: &'a [u8],
@@ -71,7 +71,7 @@ fn file(
     })
 }
 
-// Runs the words, which stand in one text with a space between two of them, over FILE, PLANS and CERT.
+/// Runs the words, which stand in one text with a space between two of them, over FILE, PLANS and CERT.
 fn answer(alloc: Global, world: &World, words: &str) -> Result<Outcome, AllocError> {
     let mut given = Vec::new(alloc);
     given.push(String::from_str(alloc, "symk")?)?;

@@ -94,7 +94,7 @@ pub fn run_in_memory(
     run(alloc, words, files, sink)
 }
 
-// Answers the words.
+/// Answers the words.
 fn answer<F: Files, K: Sink>(alloc: Global, words: &[String], files: &mut F, sink: &mut K) -> Status
     ensures answer { Answered (Rose (F.view files.old).faults (F.view files.new).faults)
         (wish_of (map (λ w. string_bytes w) words.now)) (F.view files.old).told
@@ -111,7 +111,7 @@ fn answer<F: Files, K: Sink>(alloc: Global, words: &[String], files: &mut F, sin
     }
 }
 
-// What the words ask for.
+/// What the words ask for.
 fn request_in<'a>(alloc: Global, words: &'a [String]) -> Result<Request<'a>, WordsFault>
     ensures ok { IfOk result (λ request. wish_of (map (λ w. string_bytes w) words.now) ≡ Some (wished request)) }
     ensures within { IfOk result IsWithin }
@@ -126,7 +126,7 @@ fn request_in<'a>(alloc: Global, words: &'a [String]) -> Result<Request<'a>, Wor
     }
 }
 
-// Does what is asked for.
+/// Does what is asked for.
 fn serve<F: Files, K: Sink>(
     alloc: Global,
     request: Request<'_>,
@@ -164,7 +164,7 @@ fn serve<F: Files, K: Sink>(
     }
 }
 
-// `plan`
+/// `plan`
 fn plan<F: Files, K: Sink>(
     alloc: Global,
     files: &mut F,
@@ -193,7 +193,7 @@ fn plan<F: Files, K: Sink>(
     }
 }
 
-// `plan` after an earlier list
+/// `plan` after an earlier list
 fn further<F: Files, K: Sink>(
     alloc: Global,
     files: &mut F,
@@ -230,7 +230,7 @@ fn further<F: Files, K: Sink>(
     }
 }
 
-// `check`
+/// `check`
 fn check<F: Files, K: Sink>(
     alloc: Global,
     files: &mut F,
@@ -257,7 +257,7 @@ fn check<F: Files, K: Sink>(
     }
 }
 
-// `prove`
+/// `prove`
 fn prove<F: Files, K: Sink>(alloc: Global, files: &mut F, sink: &mut K, file: &str) -> Status
     ensures answer { Answered (Rose (F.view files.old).faults (F.view files.new).faults)
         (Some (proves file.now)) (F.view files.old).told (K.view sink.old)
@@ -273,7 +273,7 @@ fn prove<F: Files, K: Sink>(alloc: Global, files: &mut F, sink: &mut K, file: &s
     }
 }
 
-// `refute`
+/// `refute`
 fn refute<F: Files, K: Sink>(
     alloc: Global,
     files: &mut F,

@@ -1,4 +1,5 @@
-// Why the outside, or a reader of it, gives up.
+//! Why the outside, or a reader of it, gives up.
+
 ghost use Rattle.std.specs.Prelude.{◌≡◌};
 ghost use Rattle.symk_io.specs.declared.fault.ReadStop.TheVariants.{Memory, Unreadable};
 

@@ -1,4 +1,5 @@
-// Files by name, and reading one whole.
+//! Files by name, and reading one whole.
+
 ghost use Rattle.std.specs.Prelude.{◌≡◌, ◌<◌, ◌≤◌, length, IfOk, IsErrOf};
 ghost use Rattle.symk_io.specs.Causes.{HasCause, Rose};
 ghost use Rattle.symk_io.specs.View.{FilesView, Tells, Opens, Reads, Bytes};
@@ -76,7 +77,7 @@ pub fn read_all<F: Files>(
     Err(ReadStop::TooLong)
 }
 
-// A failed call makes a text unreadable.
+/// A failed call makes a text unreadable.
 fn stop_of(fault: IoFault) -> ReadStop
     ensures failed { result ≡ ReadStop.Unreadable → fault ≡ IoFault.Failed }
     ensures memory { result ≡ ReadStop.Memory → fault ≡ IoFault.Memory }

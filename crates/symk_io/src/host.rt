@@ -1,4 +1,5 @@
-// The trusted edge: the files and the output of the system, of which nothing is told.
+//! The trusted edge: the files and the output of the system, of which nothing is told.
+
 ghost use Rattle.std.specs.Prelude.{◌≡◌, ◌↔◌, ◌<◌, ◌≤◌, length, option_and_then, IfOk, IsSome, None, OnErr, OnOk, Ok};
 ghost use Rattle.std.specs.IoError.{error_kind};
 ghost use Rattle.std.specs.declared.io.ErrorKind.TheVariants.{OutOfMemory};
@@ -9,7 +10,7 @@ use crate::{Files, IoFault, Sink};
 use std::io::{Error, ErrorKind, Read, Write};
 use std::rt::Files as System;
 
-// A failure is counted, and out of memory, which is std's own kind of that name and no other, is not.
+/// A failure is counted, and out of memory, which is std's own kind of that name and no other, is not.
 fn fault_of(error: Error, faults: &mut u64) -> IoFault
     ensures kind { (result ≡ IoFault.Memory) ↔ (error_kind error ≡ OutOfMemory) }
     ensures counted { Counted faults.old faults.new result }

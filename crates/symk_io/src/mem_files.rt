@@ -1,4 +1,5 @@
-// Texts kept in memory under their names, and the place reached in the one that was opened last.
+//! Texts kept in memory under their names, and the place reached in the one that was opened last.
+
 ghost use Rattle.std.specs.Prelude.{◌≡◌, ◌^◌, ◌-◌, ◌<◌, ◌≤◌, ◌+◌, ◌++◌, [], ◌∷◌, length, take, drop, IsTrue, IsFalse, IfSome, IfNone, OnOk, OnErr, Some, None, slice_get};
 ghost use Rattle.symk_io.specs.Memory.{bytes_of, text_in, left_of, shelf_left, names_of};
 
@@ -22,7 +23,7 @@ pub struct MemFile {
     pub text: MemText,
 }
 
-// The files, the names that were opened, and the place in the file that is open.
+/// The files, the names that were opened, and the place in the file that is open.
 #[derive(Drop)]
 pub struct Shelf {
     files: Vec<MemFile>,
@@ -31,7 +32,7 @@ pub struct Shelf {
     at: usize,
 }
 
-// The place of the first file of that name.
+/// The place of the first file of that name.
 fn place_of(files: &[MemFile], name: &str) -> Option<usize>
     ensures some { IfSome result (λ i. text_in files.now name.now ≡ Some (left_of (slice_get files.now i) 0)) }
     ensures none { IfNone result (text_in files.now name.now ≡ None) }
@@ -44,7 +45,7 @@ fn place_of(files: &[MemFile], name: &str) -> Option<usize>
     None
 }
 
-// Copies from a place of a text on into the buffer, as much as there is and fits.
+/// Copies from a place of a text on into the buffer, as much as there is and fits.
 fn give(text: &MemText, at: usize, buf: &mut [u8]) -> usize
     ensures bound { result ≤ length buf.new }
     ensures bytes { drop at (bytes_of text.now) ≡ take result buf.new ++ drop (at + result) (bytes_of text.now) }
@@ -75,7 +76,7 @@ fn give_bytes(bytes: &[u8], at: usize, buf: &mut [u8]) -> usize
 }
 
 impl Shelf {
-    // Nothing is opened yet.
+    /// Nothing is opened yet.
     pub fn new(files: Vec<MemFile>) -> Shelf
         ensures files { result.files.items ≡ files.items }
         ensures left { shelf_left result ≡ [] }
@@ -90,7 +91,7 @@ impl Shelf {
         }
     }
 
-    // Leaves nothing to read.
+    /// Leaves nothing to read.
     pub fn close(&mut self)
         ensures files { self.new.files ≡ self.old.files }
         ensures left { shelf_left self.new ≡ [] }
@@ -99,7 +100,7 @@ impl Shelf {
         self.open = None;
     }
 
-    // Adds a name to those that were opened.
+    /// Adds a name to those that were opened.
     pub fn note(&mut self, name: &str) -> Result<(), AllocError>
         ensures files { self.new.files ≡ self.old.files }
         ensures left { shelf_left self.new ≡ shelf_left self.old }
@@ -111,7 +112,7 @@ impl Shelf {
         Ok(())
     }
 
-    // Opens the first file of that name, if there is one.
+    /// Opens the first file of that name, if there is one.
     pub fn open(&mut self, name: &str) -> bool
         ensures files { self.new.files ≡ self.old.files }
         ensures names { names_of self.new ≡ names_of self.old }
@@ -129,7 +130,7 @@ impl Shelf {
         }
     }
 
-    // Gives from the front of what is left.
+    /// Gives from the front of what is left.
     pub fn read(&mut self, buf: &mut [u8]) -> usize
         ensures files { self.new.files ≡ self.old.files }
         ensures names { names_of self.new ≡ names_of self.old }

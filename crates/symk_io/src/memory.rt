@@ -1,4 +1,5 @@
-// Files and a sink in memory, which fail at the calls that they are told to.
+//! Files and a sink in memory, which fail at the calls that they are told to.
+
 ghost use Rattle.std.specs.Prelude.{◌≡◌, ◌^◌, ◌-◌, ◌<◌, ◌≤◌, ◌+◌, length, min, max, IfOk, OnErr, OnOk, [], Some};
 ghost use Rattle.symk_io.specs.Causes.{Counted};
 ghost use Rattle.symk_io.specs.Failing.{fails_next, next_call, HasMade, Meets, NeverOtherwise};
@@ -7,7 +8,7 @@ use crate::mem_files::Shelf;
 use crate::{Files, IoFault, MemFile, Sink};
 use std::alloc::Global;
 
-// Which calls fail, by their numbers from 1, how many were made, and how many failed.
+/// Which calls fail, by their numbers from 1, how many were made, and how many failed.
 #[derive(Drop)]
 struct Failing {
     calls: Vec<u64>,
@@ -16,7 +17,7 @@ struct Failing {
 }
 
 impl Failing {
-    // No call was made yet.
+    /// No call was made yet.
     fn new(calls: Vec<u64>) -> Failing
         ensures { result ≡ record { calls = calls; made = 0; faults = 0 } }
     {
@@ -27,7 +28,7 @@ impl Failing {
         }
     }
 
-    // Counts a call, and says whether it is to fail.
+    /// Counts a call, and says whether it is to fail.
     fn count_call(&mut self) -> bool
         ensures fails { result ≡ fails_next self.old }
         ensures counted { self.new ≡ record self.old { made = next_call self.old.made } }
@@ -36,7 +37,7 @@ impl Failing {
         self.calls.contains(&self.made)
     }
 
-    // Counts a failure, and answers it.
+    /// Counts a failure, and answers it.
     fn fail(&mut self) -> IoFault
         ensures fault { result ≡ IoFault.Failed }
         ensures cause { Counted self.old.faults self.new.faults result }

@@ -1,4 +1,5 @@
-// Files and a sink in memory that never fail.
+//! Files and a sink in memory that never fail.
+
 ghost use Rattle.std.specs.Prelude.{◌≡◌, [], Some};
 
 use crate::mem_files::Shelf;

@@ -1,4 +1,5 @@
-// Where the bytes go, and writing a whole piece.
+//! Where the bytes go, and writing a whole piece.
+
 ghost use Rattle.std.specs.Prelude.{◌≡◌, ◌<◌, ◌≤◌, length, IfOk, OnErr, OnOk};
 ghost use Rattle.symk_io.specs.Causes.{HasCause};
 ghost use Rattle.symk_io.specs.View.{IsFlushed, FlushesOnce, SinkView, Tells, Writes, Grew, GrewByPart, Bytes};

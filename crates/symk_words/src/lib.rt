@@ -24,7 +24,7 @@ use clap::error::ErrorKind;
 use clap::{Arg, ArgAction, ArgMatches, Command};
 use std::alloc::{AllocError, Global};
 
-// A text in its place, which has to be there.
+/// A text in its place, which has to be there.
 fn place<'a>(alloc: Global, name: &'a str) -> Arg<'a>
     ensures rule { rule_of result ≡ place_rule name.now }
     ensures local { result.global ≡ false }
@@ -32,7 +32,7 @@ fn place<'a>(alloc: Global, name: &'a str) -> Arg<'a>
     Arg::new(alloc, name).required(true)
 }
 
-// An option with a value, which has to be there.
+/// An option with a value, which has to be there.
 fn wanted<'a>(alloc: Global, name: &'a str) -> Arg<'a>
     ensures rule { rule_of result ≡ wanted_rule name.now }
     ensures local { result.global ≡ false }
@@ -40,7 +40,7 @@ fn wanted<'a>(alloc: Global, name: &'a str) -> Arg<'a>
     Arg::new(alloc, name).long(name).required(true)
 }
 
-// An option with a value, which may be left out.
+/// An option with a value, which may be left out.
 fn wished<'a>(alloc: Global, name: &'a str) -> Arg<'a>
     ensures rule { rule_of result ≡ wished_rule name.now }
     ensures local { result.global ≡ false }
@@ -48,7 +48,7 @@ fn wished<'a>(alloc: Global, name: &'a str) -> Arg<'a>
     Arg::new(alloc, name).long(name)
 }
 
-// An option without a value.
+/// An option without a value.
 fn flag<'a>(alloc: Global, name: &'a str) -> Arg<'a>
     ensures rule { rule_of result ≡ flag_rule name.now }
     ensures local { result.global ≡ false }
@@ -56,7 +56,7 @@ fn flag<'a>(alloc: Global, name: &'a str) -> Arg<'a>
     Arg::new(alloc, name).long(name).action(ArgAction::SetTrue)
 }
 
-// `plan` with what says which plans are listed, and how they are found.
+/// `plan` with what says which plans are listed, and how they are found.
 fn found_command<'a>(alloc: Global) -> Result<Command<'a>, AllocError>
     ensures app { IfOk result (λ c. app_of c ≡ found_app) }
     ensures local { IfOk result (λ c. (out-Command c).has_globals ≡ false) }
@@ -68,7 +68,7 @@ fn found_command<'a>(alloc: Global) -> Result<Command<'a>, AllocError>
     command.arg(wished(alloc, "search"))
 }
 
-// And with what says how far the list goes.
+/// And with what says how far the list goes.
 fn reach_command<'a>(alloc: Global) -> Result<Command<'a>, AllocError>
     ensures app { IfOk result (λ c. app_of c ≡ reach_app) }
     ensures local { IfOk result (λ c. (out-Command c).has_globals ≡ false) }
@@ -79,7 +79,7 @@ fn reach_command<'a>(alloc: Global) -> Result<Command<'a>, AllocError>
     command.arg(wished(alloc, "quality"))
 }
 
-// And with what says from where on, and whether groups may cut the search.
+/// And with what says from where on, and whether groups may cut the search.
 fn plan_command<'a>(alloc: Global) -> Result<Command<'a>, AllocError>
     ensures app { IfOk result (λ c. app_of c ≡ plan_app) }
     ensures local { IfOk result (λ c. (out-Command c).has_globals ≡ false) }
@@ -122,7 +122,7 @@ fn refute_command<'a>(alloc: Global) -> Result<Command<'a>, AllocError>
     command.arg(place(alloc, "cert"))
 }
 
-// The command of the program.
+/// The command of the program.
 fn symk_command<'a>(alloc: Global) -> Result<Command<'a>, AllocError>
     ensures { IfOk result (λ c. app_of c ≡ symk_app) }
 {
@@ -198,7 +198,7 @@ pub enum WordsFault {
     Memory,
 }
 
-// Whether an option without a value is given. It has the text `true` there, and else the text `false`.
+/// Whether an option without a value is given. It has the text `true` there, and else the text `false`.
 #[tactic(auto, using(crate::proofs::Getters::read_first))]
 fn is_given(matches: &ArgMatches<'_>, name: &str) -> bool
     ensures { result ≡ is_set (first_of name.now (rows_of (found_of matches.now))) }
@@ -209,7 +209,7 @@ fn is_given(matches: &ArgMatches<'_>, name: &str) -> bool
     }
 }
 
-// The texts of a `plan`.
+/// The texts of a `plan`.
 #[tactic(auto, using(crate::proofs::Getters::read_first))]
 fn plan_of<'a>(matches: &ArgMatches<'a>) -> Option<Asked<'a>>
     ensures { option_map view_of result ≡ plan_texts (rows_of (found_of matches.now)) }
@@ -229,7 +229,7 @@ fn plan_of<'a>(matches: &ArgMatches<'a>) -> Option<Asked<'a>>
     })
 }
 
-// The texts of a `check`.
+/// The texts of a `check`.
 #[tactic(auto, using(crate::proofs::Getters::read_first))]
 fn check_of<'a>(matches: &ArgMatches<'a>) -> Option<Asked<'a>>
     ensures { option_map view_of result ≡ check_texts (rows_of (found_of matches.now)) }
@@ -243,7 +243,7 @@ fn check_of<'a>(matches: &ArgMatches<'a>) -> Option<Asked<'a>>
     })
 }
 
-// The texts of a `demo`.
+/// The texts of a `demo`.
 #[tactic(auto, using(crate::proofs::Getters::read_first))]
 fn demo_of<'a>(matches: &ArgMatches<'a>) -> Option<Asked<'a>>
     ensures { option_map view_of result ≡ demo_texts (rows_of (found_of matches.now)) }
@@ -252,7 +252,7 @@ fn demo_of<'a>(matches: &ArgMatches<'a>) -> Option<Asked<'a>>
     Some(Asked::Demo { n })
 }
 
-// The text of a `prove`.
+/// The text of a `prove`.
 #[tactic(auto, using(crate::proofs::Getters::read_first))]
 fn prove_of<'a>(matches: &ArgMatches<'a>) -> Option<Asked<'a>>
     ensures { option_map view_of result ≡ prove_texts (rows_of (found_of matches.now)) }
@@ -261,7 +261,7 @@ fn prove_of<'a>(matches: &ArgMatches<'a>) -> Option<Asked<'a>>
     Some(Asked::Prove { file })
 }
 
-// The texts of a `refute`.
+/// The texts of a `refute`.
 #[tactic(auto, using(crate::proofs::Getters::read_first))]
 fn refute_of<'a>(matches: &ArgMatches<'a>) -> Option<Asked<'a>>
     ensures { option_map view_of result ≡ refute_texts (rows_of (found_of matches.now)) }
@@ -271,7 +271,7 @@ fn refute_of<'a>(matches: &ArgMatches<'a>) -> Option<Asked<'a>>
     Some(Asked::Refute { file, cert })
 }
 
-// The texts of whichever subcommand was given.
+/// The texts of whichever subcommand was given.
 fn asked_of<'a>(matches: &ArgMatches<'a>) -> Option<Asked<'a>>
     ensures { option_map view_of result ≡ texts_of (subcommand_rows_of matches.now) }
 {

@@ -28,6 +28,7 @@ impl Closed {
         Closed { values }
     }
 
+    /// The value of each variable, in the order of the task.
     pub fn as_slice(&self) -> &[u32]
         ensures { result.now ≡ self.now }
     {

@@ -132,7 +132,7 @@ fn never_fails(rt: HostRuntime) {
     assert!(rt; sink.bytes() == b"hello".as_slice() && sink.flushes() == 1);
 }
 
-// A writer with one answer.
+/// A writer with one answer.
 #[derive(Drop)]
 struct Fixed {
     answer: Result<usize, ErrorKind>,

@@ -4,7 +4,7 @@ use std::alloc::{AllocError, Global};
 use std::process::Abort;
 use symk_words::{Asked, WordsFault, read_words};
 
-// The program's name and the words of a line, cut at each space.
+/// The program's name and the words of a line, cut at each space.
 fn words(alloc: Global, line: &str) -> Result<Vec<String>, AllocError> {
     let mut words = Vec::new(alloc);
     words.push(String::from_str(alloc, "symk")?)?;

@@ -42,7 +42,7 @@ fn takes_what_was_written(rt: HostRuntime) -> Result<(), Fail> {
     Ok(())
 }
 
-// A task, a text that may be a certificate for it, and what is answered.
+/// A task, a text that may be a certificate for it, and what is answered.
 type Row<'a> = (&'a [u8], &'a [u8], Status, &'a [u8]);
 
 const JUDGED: [Row<'static>; 8] = [

@@ -6,7 +6,7 @@ use super::rows::{ask, ask_check, holds};
 use crate::Status;
 use std::test::Fail;
 
-// Three plans, of which the first two are exchanged.
+/// Three plans, of which the first two are exchanged.
 pub const EXCHANGED: &[u8] =
     b"; plan 1\n; ops 0 1 0\n(switch-on)\n(switch-off)\n(switch-on)\n; cost = 3 (unit cost)\n; plan 2\n; ops 0\n(switch-on)\n; cost = 1 (unit cost)\n; plan 3\n; ops 0 1 0 1 0\n(switch-on)\n(switch-off)\n(switch-on)\n(switch-off)\n(switch-on)\n; cost = 5 (unit cost)\n; reached 3\n";
 

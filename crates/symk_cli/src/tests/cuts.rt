@@ -7,7 +7,7 @@ use super::rows::gives;
 use crate::Status;
 use std::test::Fail;
 
-// What a task file of one switch lacks where it is cut before each of its lines.
+/// What a task file of one switch lacks where it is cut before each of its lines.
 const WANTED: [&str; 31] = [
     "line 1: wanted begin_version\n",
     "line 2: wanted 3\n",
@@ -64,7 +64,7 @@ fn names_the_line_where_a_file_is_cut(rt: HostRuntime) -> Result<(), Fail> {
     Ok(())
 }
 
-// The verdict on a list of three plans that is cut before each of its lines.
+/// The verdict on a list of three plans that is cut before each of its lines.
 const VERDICTS: [&str; 19] = [
     "good 0\n",
     "plans line 2\n",

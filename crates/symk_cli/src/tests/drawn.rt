@@ -8,7 +8,7 @@ use std::process::Abort;
 use std::test::Fail;
 use task_draws::random_task;
 
-// The words that list a few plans of a mode, those that go on from them, and those that check both lists as one.
+/// The words that list a few plans of a mode, those that go on from them, and those that check both lists as one.
 const ALL: (&str, &str, &str) = (
     "plan FILE --k 3",
     "plan FILE --k 4 --after PLANS",
@@ -27,7 +27,7 @@ const UNORDERED: (&str, &str, &str) = (
     "check FILE PLANS --mode unordered",
 );
 
-// A text without its last line, and then another.
+/// A text without its last line, and then another.
 fn joined(alloc: Global, text: &[u8], other: &[u8]) -> Result<Vec<u8>, AllocError> {
     let mut whole = Vec::new(alloc);
     let mut last = b"".as_slice();
@@ -39,7 +39,7 @@ fn joined(alloc: Global, text: &[u8], other: &[u8]) -> Result<Vec<u8>, AllocErro
     Ok(whole)
 }
 
-// A list of the task and the one that goes on from it are good together.
+/// A list of the task and the one that goes on from it are good together.
 fn goes_on_well(rt: &impl Abort, alloc: Global, file: &[u8], seed: u64) -> Result<(), Fail> {
     let (plan, further, check) = match seed % 3 {
         0 => ALL,

@@ -79,6 +79,7 @@ fn goes_on_from_a_list(rt: HostRuntime) -> Result<(), Fail> {
     holds(&rt, rt.alloc(), &rows)
 }
 
+/// The list of a task of one switch: its plan, and the end.
 pub const FIRST_AND_END: &[u8] =
     b"; plan 1\n; ops 0\n(switch-on)\n; cost = 1 (unit cost)\n; exhausted 1\n";
 

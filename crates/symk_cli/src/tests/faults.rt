@@ -6,11 +6,11 @@ use super::{World, answer};
 use crate::Status;
 use std::test::Fail;
 
-// The whole answer for three plans, block by block one piece.
+/// The whole answer for three plans, block by block one piece.
 pub const LISTED: &[u8] =
     b"; plan 1\n; ops 0\n(switch-on)\n; cost = 1 (unit cost)\n; plan 2\n; ops 0 1 0\n(switch-on)\n(switch-off)\n(switch-on)\n; cost = 3 (unit cost)\n; plan 3\n; ops 0 1 0 1 0\n(switch-on)\n(switch-off)\n(switch-on)\n(switch-off)\n(switch-on)\n; cost = 5 (unit cost)\n; reached 3\n";
 
-// The sink's call that fails, and how many bytes were taken before it. Each piece is one write and one flush.
+/// The sink's call that fails, and how many bytes were taken before it. Each piece is one write and one flush.
 const TAKEN: [(u64, usize); 8] = [
     (1, 0),
     (2, 52),
@@ -80,7 +80,7 @@ fn stops_at_each_call_of_the_files(rt: HostRuntime) -> Result<(), Fail> {
     Ok(())
 }
 
-// What is asked of the task without an operator, the sink's call that fails, and how many bytes were taken before it.
+/// What is asked of the task without an operator, the sink's call that fails, and how many bytes were taken before it.
 const TAKEN_OF_ONE: [(&str, u64, usize); 5] = [
     ("prove FILE", 1, 0),
     ("prove FILE", 2, 44),

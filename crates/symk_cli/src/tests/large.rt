@@ -11,7 +11,7 @@ use std::process::Abort;
 use std::test::Fail;
 use symk_text::Text;
 
-// So many blanks in the place of FILE or of PLANS and CERT are answered by the status and the text.
+/// So many blanks in the place of FILE or of PLANS and CERT are answered by the status and the text.
 fn refuses_blanks(
     rt: &impl Abort,
     alloc: Global,
@@ -65,7 +65,7 @@ fn reads_the_longest_text(rt: HostRuntime) -> Result<(), Fail> {
 
 const GO: &[u8] = b"; plan 1\n; ops 0\n(go)\n; cost = 1 (unit cost)\n; exhausted 1\n";
 
-// Two plans are asked for, and the text answers.
+/// Two plans are asked for, and the text answers.
 fn answers(
     rt: &impl Abort,
     alloc: Global,

@@ -11,7 +11,7 @@ use std::alloc::Global;
 use std::process::Abort;
 use std::test::Fail;
 
-// An answer: its status, the two texts that it may have, and how long the pieces before the last are together.
+/// An answer: its status, the two texts that it may have, and how long the pieces before the last are together.
 #[derive(Clone, Copy)]
 struct Pieces<'a> {
     status: Status,
@@ -20,7 +20,7 @@ struct Pieces<'a> {
     ends: &'a [usize],
 }
 
-// The answer comes whole, or is cut between two pieces when out of memory.
+/// The answer comes whole, or is cut between two pieces when out of memory.
 fn comes_in_pieces(
     rt: &impl Abort,
     alloc: Global,

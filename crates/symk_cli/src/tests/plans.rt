@@ -323,7 +323,7 @@ fn plans_of_each_mode(rt: HostRuntime) -> Result<(), Fail> {
     holds(&rt, rt.alloc(), &rows)
 }
 
-// Any three plans with one `go` and any number of `idle` are right, so the list is given back to the check.
+/// Any three plans with one `go` and any number of `idle` are right, so the list is given back to the check.
 #[test]
 fn lists_past_idle_steps(rt: HostRuntime) -> Result<(), Fail> {
     for words in ["--k 3", "--k 3 --mode unordered"] {

@@ -86,7 +86,7 @@ fn refuses_texts(rt: HostRuntime) -> Result<(), Fail> {
     holds(&rt, rt.alloc(), &rows)
 }
 
-// A task file, the number of one of its lines, what stands there instead, and what is wanted then.
+/// A task file, the number of one of its lines, what stands there instead, and what is wanted then.
 const OFFENCES: [(&[u8], u64, &[u8], &[u8]); 9] = [
     (ONE_SWITCH, 7, b"65537\n", b"line 7: wanted count\n"),
     (
@@ -109,7 +109,7 @@ const OFFENCES: [(&[u8], u64, &[u8], &[u8]); 9] = [
     (LAYERS, 58, b"1 0\n", b"line 59: wanted head\n"),
 ];
 
-// The file with another line of that number, counted from 1.
+/// The file with another line of that number, counted from 1.
 fn push_with_line(
     text: &mut Vec<u8>,
     file: &[u8],
@@ -140,7 +140,7 @@ fn names_the_first_line_that_offends(rt: HostRuntime) -> Result<(), Fail> {
     Ok(())
 }
 
-// A text in the place of plans of the switch that can be turned off again, and what a check of it says.
+/// A text in the place of plans of the switch that can be turned off again, and what a check of it says.
 const PLAN_TEXTS: [(&str, &str); 15] = [
     ("; cost range\n", "good 0\n"),
     ("; more 0", "good 0\n"),

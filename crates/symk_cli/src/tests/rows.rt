@@ -70,7 +70,7 @@ pub fn gives(
     gives_either(rt, alloc, world, words, status, text, text)
 }
 
-// The words are answered over these files by the status and one of the texts.
+/// The words are answered over these files by the status and one of the texts.
 fn gives_either(
     rt: &impl Abort,
     alloc: Global,

@@ -10,7 +10,7 @@ use std::process::Abort;
 use std::test::Fail;
 use symk_text::Text;
 
-// Each of these requests is answered by the text, which has as many plans as were asked for.
+/// Each of these requests is answered by the text, which has as many plans as were asked for.
 fn reach(
     rt: &impl Abort,
     alloc: Global,

@@ -3,7 +3,7 @@
 use std::alloc::AllocError;
 use symk_text::{Text, push_bytes, push_number};
 
-// The same piece so many times.
+/// The same piece so many times.
 fn push_times(text: &mut Text, piece: &[u8], times: u64) -> Result<(), AllocError> {
     for _ in 0..times {
         push_bytes(text, piece)?;
@@ -11,7 +11,7 @@ fn push_times(text: &mut Text, piece: &[u8], times: u64) -> Result<(), AllocErro
     Ok(())
 }
 
-// The block of the plan that turns the switch on, and then off and on so many times.
+/// The block of the plan that turns the switch on, and then off and on so many times.
 fn push_plan(text: &mut Text, times: u64) -> Result<(), AllocError> {
     push_bytes(text, b"; plan ")?;
     push_number(text, times.saturating_add(1))?;
@@ -34,7 +34,7 @@ pub fn push_plans(text: &mut Text, count: u64) -> Result<(), AllocError> {
     push_bytes(text, b"\n")
 }
 
-// An effect that turns a bit over where those below it are on, of which `below` tells.
+/// An effect that turns a bit over where those below it are on, of which `below` tells.
 fn push_effect(
     text: &mut Text,
     below: &[u8],
@@ -51,7 +51,7 @@ fn push_effect(
     push_bytes(text, to)
 }
 
-// Two effects on each of 40 bits.
+/// Two effects on each of 40 bits.
 fn push_effects(text: &mut Text, below: &mut Text) -> Result<(), AllocError> {
     for bit in 0..40 {
         push_effect(text, below.as_slice(), bit, b" 0 ", b" -1 1\n")?;

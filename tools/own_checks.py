@@ -1,9 +1,10 @@
 #!/usr/bin/env python3
 """own_checks.py: what no proof says of the tools and the pages. The last line is `N passed, N failed`; the status is 0 where none failed.
 
-Tests of python/symk.py (test_symk.py), of tools/to_list.py (test_to_list.py) and of tools/table.py (test_table.py), and the names that the
-pages give (check_docs.py). Tests that run the planner take the program of SYMK_PROGRAM, else .symk/symk, else what a check of one's own
-left in crates/symk_cli/out, else what `./symk` compiles of the sources as they stand; where there is none they are skipped, which is said.
+Tests of python/symk.py (test_symk.py), of tools/to_list.py (test_to_list.py), of tools/table.py (test_table.py) and of tools/docstrings.py
+(test_docstrings.py); the names that the pages give (check_docs.py), and the docstrings of the sources (docstrings.py). Tests that run the
+planner take the program of SYMK_PROGRAM, else .symk/symk, else what a check of one's own left in crates/symk_cli/out, else what `./symk`
+compiles of the sources as they stand; where there is none they are skipped, which is said.
 """
 import os
 import subprocess
@@ -27,18 +28,24 @@ if not os.environ.get("SYMK_PROGRAM"):
     os.environ.update({"SYMK_PROGRAM": it for it in program()})
 sys.path[:0] = [str(TOP / "tools"), str(TOP / "python")]
 import check_docs  # noqa: E402
+import docstrings  # noqa: E402
+import test_docstrings  # noqa: E402
 import test_symk  # noqa: E402
 import test_table  # noqa: E402
 import test_to_list  # noqa: E402
 
 
 def main():
-    tests = unittest.TestSuite(map(unittest.defaultTestLoader.loadTestsFromModule, (test_symk, test_to_list, test_table)))
+    tests = unittest.TestSuite(map(unittest.defaultTestLoader.loadTestsFromModule, (test_symk, test_to_list, test_table, test_docstrings)))
     ran = unittest.TextTestRunner(stream=sys.stdout).run(tests)
     bad = len(ran.failures) + len(ran.errors)
     if ran.skipped:
         print("%d tests skipped: %s" % (len(ran.skipped), "; ".join(sorted({why for _, why in ran.skipped}))))
     passed, failed = check_docs.counts()
+    for name, fault in docstrings.faults():
+        passed, failed = passed + (fault is None), failed + (fault is not None)
+        if fault:
+            print("%s: %s" % (name, fault))
     passed, failed = passed + ran.testsRun - len(ran.skipped) - bad, failed + bad
     print("%d passed, %d failed" % (passed, failed))
     return 1 if failed else 0

@@ -17,7 +17,7 @@ import statement
 
 TOP = Path(__file__).resolve().parent.parent
 PAGES = [TOP / "README.md", TOP / "CONTRIBUTING.md", *sorted((TOP / "docs").glob("*.md")),
-         TOP / "examples" / "README.md", TOP / "bench" / "README.md"]
+         TOP / "examples" / "README.md", TOP / "bench" / "README.md", TOP / "bench" / "HISTORY.md"]
 CALL = re.compile(r"`([a-z]\w*)::([A-Za-z]\w*(?:::\w+)?)`(?: \(([\w, ]+)\))?")
 DEFINITION = re.compile(r"`([a-z]\w*/specs/[A-Z][a-z]\w*\.antt)`(?:\s\(([\w,\s]+)\))?")
 EDIT = re.compile(r"`([a-z]\w*)/(?!specs`|src`|proofs`|must-fail`)([a-z0-9_]+)`")

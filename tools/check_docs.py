@@ -3,10 +3,13 @@
 
 In the tables of docs/PROVED.md a call is written `crate::name` or `crate::Type::name`, with the labels of its clauses in brackets
 after it; in every page a definition is written `crate/specs/File.antt`, with the names that are meant in brackets after it, and a
-must-fail edit `crate/name`. Links and other paths in backticks must lead to files. The picture and the table of crates in
+must-fail edit `crate/name`. Links and other paths in backticks must lead to files, and where a page says "`name` in `crate/src/file.rt`"
+that file has such a function. A block of Rust below a line that ends with a file of a crate and a colon is a quotation: its lines stand in
+that file, one after the other (a line `..` stands for some that are left out). The picture and the table of crates in
 docs/ARCHITECTURE.md are compared with crates.txt: each has all crates, none stands on a higher floor, and what a row says that its crates
-stand on is there; and each crate that crates.txt says that a crate stands on is named in one of its files. The list of what one reads to believe the program, at the end of docs/PROVED.md, is compared with what statement.py reaches.
-Each thing that is named counts once; what isn't found is printed. The last line is `N passed, N failed`, and the status is 0 where none failed.
+stand on is there; and each crate that crates.txt says that a crate stands on is named in one of its files. The list of what one reads to
+believe the program, at the end of docs/PROVED.md, is compared with what statement.py reaches. Each thing that is named counts once; what
+isn't found is printed. The last line is `N passed, N failed`, and the status is 0 where none failed.
 """
 import re
 import sys
@@ -17,11 +20,15 @@ import statement
 
 TOP = Path(__file__).resolve().parent.parent
 PAGES = [TOP / "README.md", TOP / "CONTRIBUTING.md", *sorted((TOP / "docs").glob("*.md")),
-         TOP / "examples" / "README.md", TOP / "bench" / "README.md", TOP / "bench" / "HISTORY.md"]
+         TOP / "examples" / "README.md", TOP / "bench" / "README.md", TOP / "bench" / "HISTORY.md",
+         *sorted((TOP / "crates").glob("*/README.md"))]
 CALL = re.compile(r"`([a-z]\w*)::([A-Za-z]\w*(?:::\w+)?)`(?: \(([\w, ]+)\))?")
 DEFINITION = re.compile(r"`([a-z]\w*/specs/[A-Z][a-z]\w*\.antt)`(?:\s\(([\w,\s]+)\))?")
 EDIT = re.compile(r"`([a-z]\w*)/(?!specs`|src`|proofs`|must-fail`)([a-z0-9_]+)`")
 FILE = re.compile(r"`((?:crates|docs|examples|bench|tools|python|\.ci)/[\w./-]*)`")
+PLACE = re.compile(r"`(?:\w+::)?(\w+)`\s+in\s+`(\w+/src/[\w/]+\.rt)`")
+SOURCE = re.compile(r"`(?:crates/)?(\w+/src/[\w/]+\.rt)`")
+QUOTATION = re.compile(r"`crates/(\w+/src/[\w/]+\.rt)`:\n\n?```rust\n(.*?)```", re.DOTALL)
 LINK = re.compile(r"\]\(([^)#:]+)(?:#[\w-]+)?\)")
 
 
@@ -68,6 +75,24 @@ def definition_fault(path, wanted):
     return "no definition " + ", ".join(missing) if missing else None
 
 
+def place_fault(name, path):
+    file = TOP / "crates" / path
+    if not file.is_file():
+        return "no such file"
+    return None if re.search(r"\bfn " + name + r"\b", file.read_text(encoding="utf-8")) else "no such function there"
+
+
+def quotation_fault(path, block):
+    """Whether the pieces of a quotation stand in the file, but for how far they are indented."""
+    file = TOP / "crates" / path
+    if not file.is_file():
+        return "no such file"
+    text = "\n".join(line.strip() for line in file.read_text(encoding="utf-8").splitlines())
+    pieces = "\n".join(line.strip() for line in block.splitlines()).split("\n..\n")
+    missing = [piece.strip() for piece in pieces if piece.strip() not in text]
+    return "isn't there: " + missing[0].split("\n")[0] if missing else None
+
+
 def page_faults(page):
     """Each thing that the page names, with what is wrong with it or None."""
     text = page.read_text(encoding="utf-8")
@@ -82,6 +107,12 @@ def page_faults(page):
             yield f"{crate}/{name}", None if edit.is_file() else "no such edit"
     for path in FILE.findall(text):
         yield path, None if (TOP / path).exists() else "no such file"
+    for name, path in PLACE.findall(text):
+        yield f"{name} in {path}", place_fault(name, path)
+    for path in SOURCE.findall(text):
+        yield path, None if (TOP / "crates" / path).is_file() else "no such file"
+    for path, block in QUOTATION.findall(text):
+        yield f"a quotation of {path}", quotation_fault(path, block)
     for path in LINK.findall(text):
         yield path, None if (page.parent / path).exists() else "a link to nothing"
 

@@ -22,8 +22,8 @@ TOP = Path(__file__).resolve().parent.parent
 PAGES = [TOP / "README.md", TOP / "CONTRIBUTING.md", *sorted((TOP / "docs").glob("*.md")),
          TOP / "examples" / "README.md", TOP / "bench" / "README.md", TOP / "bench" / "HISTORY.md",
          *sorted((TOP / "crates").glob("*/README.md"))]
-CALL = re.compile(r"`([a-z]\w*)::([A-Za-z]\w*(?:::\w+)?)`(?: \(([\w, ]+)\))?")
-DEFINITION = re.compile(r"`([a-z]\w*/specs/[A-Z][a-z]\w*\.antt)`(?:\s\(([\w,\s]+)\))?")
+CALL = re.compile(r"`([a-z]\w*)::([A-Za-z]\w*(?:::\w+)?)`(?:\s+\(([\w,\s]+)\))?")
+DEFINITION = re.compile(r"`([a-z]\w*/specs/[A-Z][a-z]\w*\.antt)`(?:\s+\(([\w,\s]+)\))?")
 EDIT = re.compile(r"`([a-z]\w*)/(?!specs`|src`|proofs`|must-fail`)([a-z0-9_]+)`")
 FILE = re.compile(r"`((?:crates|docs|examples|bench|tools|python|\.ci)/[\w./-]*)`")
 PLACE = re.compile(r"`(?:\w+::)?(\w+)`\s+in\s+`(\w+/src/[\w/]+\.rt)`")

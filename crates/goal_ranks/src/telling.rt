@@ -165,7 +165,7 @@ fn in_layer<S: Space>(
 
 /// What comes of a set that waits, whose states that are left have no rank: by what the search ahead tells of these.
 ///
-/// What it makes besides is given back, and all of it where memory is wanting.
+/// What it makes besides is given back, and all of it when out of memory.
 pub fn divide<S: Space>(
     space: &mut S,
     ahead: &LeastCosts<S::Set>,

@@ -1,5 +1,5 @@
--- Sets of operators that grow.
-use Rattle.std.proofs.Common.{◌≡◌, ◌≢◌, ℕ, ◌+◌, ◌<◌, ◌≤◌, ◌⊎◌, inl, inr, Bool, true, false, IsTrue, List, [], ◌∷◌, ◌++◌, length, get_or, Option, Some, IsSomeAnd, Result, Ok, Err, OnOk, IfOk, slice_get, replicate, refl, sym, ap, subst, ◌∙◌, arith}
+-- Sets that grow.
+use Rattle.std.proofs.Common.{◌≡◌, ◌≢◌, ℕ, ◌<◌, ◌⊎◌, inl, inr, Bool, true, false, IsTrue, List, [], ◌∷◌, ◌++◌, length, get_or, Option, Some, IsSomeAnd, Result, Ok, Err, OnOk, IfOk, slice_get, replicate, refl, sym, ap, subst, ◌∙◌, arith}
 use Rattle.std.specs.List.{All, Contains}
 use Rattle.std.proofs.Math.ListN.{set, length-set, length-append, length-replicate}
 use Rattle.std.proofs.lemmas.List.{get_or-set_other}
@@ -15,7 +15,7 @@ use Rattle.stubborn_sets.specs.Closing.{is_in, HasMakers, StaysFalse, HasConflic
 use Rattle.stubborn_sets.specs.Kept.{LeavesOut, AreMakers, AreConflicts}
 use Rattle.stubborn_sets.specs.Growing.{left, Adds, IsGrowing, IsPopped, IsClosed}
 use Rattle.stubborn_sets.proofs.ListsLaw.{none_in}
-use Rattle.stubborn_sets.proofs.Marks.{here, still, further, one_fewer, left_none, none_marked, is_there}
+use Rattle.stubborn_sets.proofs.Marks.{here, still, further, one_fewer, none_marked, is_there}
 use Rattle.stubborn_sets.proofs.Needs.{Needs, needs_grow}
 
 -- An operator that is in the set or not.
@@ -40,7 +40,7 @@ has_conflicts task one ops marks conflicts all a lt = elim (either (is_in marks 
 -- What an addition keeps.
 
 pub adds_refl : (set : Growing) → Adds set set
-adds_refl s = record { grows = λ a h. h; each = refl; keeps = λ a h. h; waits = λ a h. inl h; marked = λ a h. inl h; room = refl; applying = refl }
+adds_refl s = record { grows = λ a h. h; each = refl; keeps = λ a h. h; waits = λ a h. inl h; marked = λ a h. inl h; room = refl }
 
 pub adds_trans : (a b c : Growing) → Adds a b → Adds b c → Adds a c
 adds_trans a b c to on = record {
@@ -56,14 +56,13 @@ adds_trans a b c to on = record {
     | inr marked ↦ inr marked
   ];
   room = on.room ∙ to.room;
-  applying = on.applying ∙ to.applying;
 }
 
--- one operator, which was not in the set
+-- one number, which was not in the set
 pub adds_new : (old new : Growing) (op : ℕ) → op < length old.marks.items → ¬ IsTrue (is_in old.marks.items op)
-    → new.marks.items ≡ set old.marks.items op true → new.waiting.items ≡ old.waiting.items ++ op ∷ [] → new.applying ≡ old.applying
+    → new.marks.items ≡ set old.marks.items op true → new.waiting.items ≡ old.waiting.items ++ op ∷ []
     → Adds old new
-adds_new old new op lt off marks last applying = record {
+adds_new old new op lt off marks last = record {
   grows = λ a h. subst (λ (z : List Bool). IsTrue (is_in z a)) (sym marks) (still old.marks.items op lt a h);
   each = ap (λ (z : List Bool). length z) marks ∙ simp length-set;
   keeps = λ a h. subst (λ (z : List ℕ). Contains z a) (sym last) (Contains-append_left old.waiting.items (op ∷ []) a h);
@@ -78,7 +77,6 @@ adds_new old new op lt off marks last applying = record {
       let o = ap (λ (z : List ℕ). length z) last in
       let l = length-append old.waiting.items (op ∷ []) in
       omega (arith, f, m, o, l));
-  applying = applying;
 }
   where
     waits : (a : ℕ) → IsTrue (is_in new.marks.items a) → IsTrue (is_in old.marks.items a) ⊎ Contains new.waiting.items a
@@ -87,18 +85,13 @@ adds_new old new op lt off marks last applying = record {
       | inr off ↦ (let ne : a ≢ op = off in inl (sym (get_or-set_other old.marks.items op a true false ne) ∙ subst (λ (z : List Bool). IsTrue (is_in z a)) marks h))
     ]
 
--- The set before its growth, and after each step.
+-- A set of operators before its growth, and after each step.
 
-pub growing_begins : (task : TaskParts) (values : List ℕ) (set : Growing) (n : ℕ) → n ≡ length task.operators → set.marks.items ≡ replicate n false → set.waiting.items ≡ [] → set.applying ≡ 0 → IsGrowing task values set
-growing_begins task values s n each marks last applying = record {
+pub growing_begins : (task : TaskParts) (values : List ℕ) (set : Growing) (n : ℕ) → n ≡ length task.operators → set.marks.items ≡ replicate n false → set.waiting.items ≡ [] → IsGrowing task values set
+growing_begins task values s n each marks last = record {
   each = ap (λ (z : List Bool). length z) marks ∙ length-replicate n false ∙ each;
   marked = λ a h. absurd (none_in a (subst (λ (z : List ℕ). Contains z a) last h));
   needs = λ a h. absurd (none_marked n a (subst (λ (z : List Bool). IsTrue (is_in z a)) marks h));
-  count = (
-      let m = ap left marks in
-      let l = left_none n in
-      let o = ap (λ (z : List ℕ). length z) last in
-      omega (arith, m, l, o, applying, each));
 }
 
 pub growing_adds : (task : TaskParts) (values : List ℕ) (old new : Growing) → IsGrowing task values old → Adds old new → IsGrowing task values new
@@ -112,13 +105,11 @@ growing_adds task values old new g d = record {
     ]
     | inr new ↦ inl new
   ];
-  count = omega (arith, g.count, d.room, d.applying);
 }
 
--- one that was popped has what it needs, and is counted or not
-growing_served : (task : TaskParts) (values : List ℕ) (one at : ℕ) (old new : Growing) → at ≤ old.applying + 1 → IsPopped task values one old
-    → Adds (record { marks = old.marks; waiting = old.waiting; applying = at }) new → HasNeeds task values one new.marks.items → IsGrowing task values new
-growing_served task values one at old new le p d has = record {
+-- one that was popped has what it needs
+growing_served : (task : TaskParts) (values : List ℕ) (one : ℕ) (old new : Growing) → IsPopped task values one old → Adds old new → HasNeeds task values one new.marks.items → IsGrowing task values new
+growing_served task values one old new p d has = record {
   each = d.each ∙ p.each;
   marked = λ a h. elim (d.marked a h) [ inl was ↦ d.grows a (p.marked a was) | inr it_is ↦ it_is ];
   needs = λ a h. elim (d.waits a h) [
@@ -129,7 +120,6 @@ growing_served task values one at old new le p d has = record {
     ]
     | inr new ↦ inl new
   ];
-  count = omega (arith, p.count, d.room, d.applying, le);
 }
 
 -- by what a missing precondition waits for
@@ -137,15 +127,15 @@ pub served_false : (task : TaskParts) (values : List ℕ) (one : ℕ) (operator 
     → slice_get task.operators one ≡ Some operator → IsMissing values operator fact → IsPopped task values one old
     → Adds old new → StaysFalse task values new.marks.items fact → IsGrowing task values new
 served_false task values one operator fact old new is lacks p d stays =
-    growing_served task values one old.applying old new (omega arith) p d
+    growing_served task values one old new p d
     (subst (λ (o : Option Operator). IsSomeAnd o (Needs task values one new.marks.items)) (sym is) (inr (fact, lacks, stays)))
 
 -- by those that don't commute with it
 pub served_conflicts : (task : TaskParts) (values : List ℕ) (one : ℕ) (operator : Operator) (ops : List ℕ) (old new : Growing)
     → slice_get task.operators one ≡ Some operator → AppliesBy values operator → AreConflicts task one ops → IsPopped task values one old
-    → Adds (record { marks = old.marks; waiting = old.waiting; applying = old.applying + 1 }) new → All (λ op. IsTrue (is_in new.marks.items op)) ops → IsGrowing task values new
+    → Adds old new → All (λ op. IsTrue (is_in new.marks.items op)) ops → IsGrowing task values new
 served_conflicts task values one operator ops old new is applies conflicts p d all =
-    growing_served task values one (old.applying + 1) old new (omega arith) p d
+    growing_served task values one old new p d
     (subst (λ (o : Option Operator). IsSomeAnd o (Needs task values one new.marks.items)) (sym is) (inl (applies, has_conflicts task one ops new.marks.items conflicts all)))
 
 -- both of what is said of a value
@@ -163,8 +153,8 @@ pub all_within : {Fine : ℕ → Type 0} (n m : ℕ) (ops : List ℕ) → Leaves
 all_within n m ops h same k d lt = (let within = h.within (get_or ops k d) (Contains-get_or ops k d lt) in omega (arith, within, same))
 
 -- one is popped
-pub popped : (task : TaskParts) (values : List ℕ) (old new : Growing) (one : ℕ) → IsGrowing task values old → old.waiting.items ≡ new.waiting.items ++ one ∷ [] → new.marks.items ≡ old.marks.items → new.applying ≡ old.applying → IsPopped task values one new
-popped task values old new one g last marks applying = record {
+pub popped : (task : TaskParts) (values : List ℕ) (old new : Growing) (one : ℕ) → IsGrowing task values old → old.waiting.items ≡ new.waiting.items ++ one ∷ [] → new.marks.items ≡ old.marks.items → IsPopped task values one new
+popped task values old new one g last marks = record {
   within = (let lt = is_there old.marks.items one member in omega (arith, lt, g.each));
   each = ap (λ (z : List Bool). length z) marks ∙ g.each;
   marked = λ a h. subst (λ (z : List Bool). IsTrue (is_in z a)) (sym marks) (g.marked a (subst (λ (z : List ℕ). Contains z a) (sym last) (Contains-append_left new.waiting.items (one ∷ []) a h)));
@@ -175,11 +165,6 @@ popped task values old new one g last marks applying = record {
     ]
     | inr needs ↦ inr (inr (subst (λ (z : List Bool). HasNeeds task values a z) (sym marks) needs))
   ];
-  count = (
-      let m = ap left marks in
-      let o = ap (λ (z : List ℕ). length z) last in
-      let l = length-append new.waiting.items (one ∷ []) in
-      omega (arith, g.count, m, o, l, applying));
 }
   where
     member : IsTrue (is_in old.marks.items one)

@@ -1,20 +1,21 @@
 -- What is kept of a task is right.
-use Rattle.std.proofs.Common.{◌≡◌, ◌≢◌, ℕ, ◌+◌, inl, inr, Bool, IsTrue, List, [], ◌∷◌, ◌++◌, length, get_or, Option, Some, None, IsSomeAnd, slice_get, sym, ap, subst, ◌∙◌, arith}
+use Rattle.std.proofs.Common.{◌≡◌, ◌≢◌, ℕ, ◌+◌, ◌<◌, inl, inr, Bool, IsTrue, List, [], ◌∷◌, ◌++◌, length, get_or, Option, Some, None, IsSomeAnd, slice_get, refl, sym, ap, subst, ◌∙◌, arith}
 use Rattle.std.specs.List.{All, Contains}
 use Rattle.std.proofs.lemmas.Bool.{cases_eq}
-use Rattle.std.proofs.lemmas.List.Elements.{Contains-append_left, Contains-push, Contains-push_cases}
+use Rattle.std.proofs.lemmas.List.Elements.{at_read, Contains-append_left, Contains-push, Contains-push_cases}
 use Rattle.symk_task.specs.declared.parts.Fact.{Fact}
 use Rattle.symk_task.specs.declared.parts.Effect.{Effect}
+use Rattle.symk_task.specs.declared.parts.Rule.{Rule}
 use Rattle.symk_task.specs.declared.parts.Operator.{Operator}
 use Rattle.symk_task.specs.declared.parts.TaskParts.{TaskParts}
 use Rattle.symk_task.specs.Variables.{IsBase}
 use Rattle.stubborn_sets.specs.declared.conflicts.Conflicts.{Conflicts}
 use Rattle.stubborn_sets.specs.Depending.{is_in, IsShut, WritesOff, LeavesAlone}
 use Rattle.stubborn_sets.specs.Making.{CannotMake}
-use Rattle.stubborn_sets.specs.Kept.{AddsOne, number_of, given_by, AreGiversBelow, AreGivers, LeavesOut, IsOff, AreChangers, AreMakers, AreConflicts, row_at, PutsRow, KnowsConflicts}
+use Rattle.stubborn_sets.specs.Kept.{AddsOne, number_of, given_by, AreGiversBelow, AreGivers, LeavesOut, IsOff, AreChangers, AreMakers, IsForOther, AreConflicts, row_at, PutsRow, KnowsConflicts}
 use Rattle.stubborn_sets.proofs.ListsLaw.{none_in}
 
--- Operators, one after the other, of which each is put last or left out.
+-- Numbers, one after the other, of which each is put last or left out.
 
 pub leaves_none : (Fine : ℕ → Type 0) (ops : List ℕ) → ops ≡ [] → LeavesOut Fine 0 ops
 leaves_none Fine ops none = record {
@@ -109,6 +110,28 @@ changers_off task var marks ops on shut g = inr (record {
   within = g.within;
   out = λ a lt off. some_and (λ (o : Operator). WritesOff marks o.effects) (λ (o : Operator). LeavesAlone task var o.effects) (λ o h. (marks, on, shut, h)) (slice_get task.operators a) (g.out a lt off);
 })
+
+-- The rules for a variable.
+
+pub rules_none : (rules : List Rule) (lists : ℕ → List ℕ) → ((i : ℕ) → lists i ≡ []) → (var : ℕ) → LeavesOut (IsForOther rules var) 0 (lists var)
+rules_none rules lists none var = leaves_none (IsForOther rules var) (lists var) (none var)
+
+-- those of one rule more
+pub rules_more : (rules : List Rule) (n : ℕ) (rule : Rule) (old new : ℕ → List ℕ) → n < length rules → rule ≡ get_or rules n rule
+    → ((var : ℕ) → LeavesOut (IsForOther rules var) n (old var)) → AddsOne old new n → Contains (new rule.var) n → (var : ℕ) → LeavesOut (IsForOther rules var) (n + 1) (new var)
+rules_more rules n rule old new within is was adds has var = record {
+  within = λ a h. elim (adds.adds var a h) [
+    | inl before ↦ (let lt = (was var).within a before in omega (arith, lt))
+    | inr same ↦ omega (arith, same)
+  ];
+  out = λ a lt off. elim (cases_eq a n) [
+    | inl same ↦ (λ d on. off (subst (λ (z : ℕ). Contains (new var) z) (sym same) (subst (λ (z : ℕ). Contains (new z) n) (here d a same ∙ on) has)))
+    | inr ne ↦ (let apart : a ≢ n = ne in (was var).out a (omega (arith, lt, apart)) (λ h. off (adds.keeps var a h)))
+  ];
+}
+  where
+    here : (d : Rule) (a : ℕ) → a ≡ n → rule.var ≡ (get_or rules a d).var
+    here d a same = at_read rules (λ (r : Rule). rule.var ≡ r.var) n rule within is refl d ∙ ap (λ (k : ℕ). (get_or rules k d).var) (sym same)
 
 -- The lists of operators that don't commute.
 

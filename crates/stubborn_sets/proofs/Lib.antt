@@ -1,4 +1,5 @@
 pub mod BarringLaw
+pub mod Asking
 pub mod DependingLaw
 pub mod GrowingLaw
 pub mod KeptLaw
@@ -6,4 +7,5 @@ pub mod ListsLaw
 pub mod Marks
 pub mod Needs
 pub mod Remaining
+pub mod Stopping
 pub mod StubbornLaw

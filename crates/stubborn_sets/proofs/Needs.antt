@@ -1,7 +1,6 @@
 -- What members need stays marked as marks grow.
-use Rattle.std.proofs.Common.{◌≡◌, ℕ, ◌+◌, ◌<◌, ◌⊎◌, inl, inr, Bool, IsTrue, List, length, get_or, below_more, Option, Some, None, IsSomeAnd, slice_get, sym, ap, subst, ◌∙◌, arith}
+use Rattle.std.proofs.Common.{◌≡◌, ℕ, ◌<◌, ◌⊎◌, inl, inr, Bool, List, length, get_or, Option, Some, None, IsSomeAnd, slice_get, sym, ap, subst, ◌∙◌, arith}
 use Rattle.std.specs.List.{All}
-use Rattle.std.proofs.lemmas.List.Elements.{at_read}
 use Rattle.symk_task.specs.declared.parts.Fact.{Fact}
 use Rattle.symk_task.specs.declared.parts.Operator.{Operator}
 use Rattle.symk_task.specs.declared.parts.TaskParts.{TaskParts}
@@ -12,8 +11,8 @@ use Rattle.task_run.proofs.Applying.{below}
 use Rattle.task_run.proofs.Stepping.{operator_at}
 use Rattle.stubborn_sets.specs.Making.{IsMissing}
 use Rattle.symk_task.specs.declared.parts.Rule.{Rule}
-use Rattle.stubborn_sets.specs.Barring.{Waits, HasBar, IsBarredRule}
-use Rattle.stubborn_sets.specs.Closing.{is_in, Grows, HasMakers, StaysFalse, HasConflicts, HasNeeds}
+use Rattle.stubborn_sets.specs.Barring.{Waits, HasBar, IsStopped}
+use Rattle.stubborn_sets.specs.Closing.{Grows, HasMakers, StaysFalse, HasConflicts, HasNeeds}
 
 pub makers_grow : (task : TaskParts) (fact : Fact) (old new : List Bool) → Grows old new → HasMakers task fact old → HasMakers task fact new
 makers_grow task fact old new grows h a lt = elim (h a lt) [ inl it_is ↦ inl (grows a it_is) | inr off ↦ inr off ]
@@ -26,15 +25,8 @@ waits_grow task fact bars more old new to on (inr makers) = inr (makers_grow tas
 pub bar_grows : (task : TaskParts) (values : List ℕ) (bars more old new : List Bool) (conds : List Fact) → Grows bars more → Grows old new → HasBar task values bars old conds → HasBar task values more new conds
 bar_grows task values bars more old new conds to on b = record { fact = b.fact; among = b.among; unmet = b.unmet; waits = waits_grow task b.fact bars more old new to on b.waits }
 
--- rules so far, and one more
-pub rules_next : (task : TaskParts) (values : List ℕ) (rules : List Rule) (n : ℕ) (rule : Rule) (bars next old new : List Bool) → n < length rules → rule ≡ get_or rules n rule → next ≡ bars → Grows old new
-    → ((k : ℕ) (d : Rule) → k < n → IsBarredRule task values bars old (get_or rules k d)) → IsBarredRule task values next new rule
-    → (k : ℕ) (d : Rule) → k < n + 1 → IsBarredRule task values next new (get_or rules k d)
-rules_next task values rules n rule bars next old new within is same grows before here k d =
-    below_more (λ k. IsBarredRule task values next new (get_or rules k d)) n
-    (λ k lt on raises. bar_grows task values bars next old new (get_or rules k d).conds (λ a h. subst (λ (z : List Bool). IsTrue (is_in z a)) (sym same) h) grows
-    (before k d lt (subst (λ (z : List Bool). IsTrue (is_in z (get_or rules k d).var)) same on) raises))
-    (at_read rules (IsBarredRule task values next new) n rule within is here d) k
+pub stopped_grows : (task : TaskParts) (values : List ℕ) (bars more old new : List Bool) (rule : Rule) → Grows bars more → Grows old new → IsStopped task values bars old rule → IsStopped task values more new rule
+stopped_grows task values bars more old new rule to on h raises = bar_grows task values bars more old new rule.conds to on (h raises)
 
 pub false_grows : (task : TaskParts) (values : List ℕ) (fact : Fact) (old new : List Bool) → Grows old new → StaysFalse task values old fact → StaysFalse task values new fact
 false_grows task values fact old new grows (inl makers) = inl (makers_grow task fact old new grows makers)

@@ -31,9 +31,17 @@ pub record HasBar (task : TaskParts) (values : List ℕ) (barred marks : List Bo
   pub unmet : ¬ HasValue values fact
   pub waits : Waits task barred marks fact
 
--- if the rule raises a barred variable, one of its conditions is so
+-- if the rule raises its variable, one of its conditions is so
+abbrev pub IsStopped : TaskParts → List ℕ → List Bool → List Bool → Rule → Type 0
+IsStopped task values barred marks rule = rule.new ≡ other_value task rule.var → HasBar task values barred marks rule.conds
+
+-- each rule for the variable is stopped
+abbrev pub AreStopped : TaskParts → List ℕ → List Bool → List Bool → ℕ → Type 0
+AreStopped task values barred marks var = All (λ rule. rule.var ≡ var → IsStopped task values barred marks rule) task.rules
+
+-- the rule is, if it is for a barred variable
 abbrev pub IsBarredRule : TaskParts → List ℕ → List Bool → List Bool → Rule → Type 0
-IsBarredRule task values barred marks rule = IsTrue (is_in barred rule.var) → rule.new ≡ other_value task rule.var → HasBar task values barred marks rule.conds
+IsBarredRule task values barred marks rule = IsTrue (is_in barred rule.var) → IsStopped task values barred marks rule
 
 abbrev pub AreBarredRules : TaskParts → List ℕ → List Bool → List Bool → List Rule → Type 0
 AreBarredRules task values barred marks rules = All (IsBarredRule task values barred marks) rules

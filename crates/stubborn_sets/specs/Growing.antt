@@ -1,15 +1,16 @@
--- Sets of operators that grow.
-use Rattle.std.specs.Prelude.{◌≡◌, ℕ, ◌+◌, ◌≤◌, ◌<◌, ◌⊎◌, IsTrue, List, length, Contains}
+-- Sets of operators, or of variables, that grow.
+use Rattle.std.specs.Prelude.{◌≡◌, ℕ, ◌+◌, ◌<◌, ◌⊎◌, IsTrue, List, length, Contains}
 use Rattle.symk_task.specs.declared.parts.TaskParts.{TaskParts}
 use Rattle.stubborn_sets.specs.declared.growing.Growing.{Growing}
 pub use Rattle.stubborn_sets.specs.Depending.{left}
+use Rattle.stubborn_sets.specs.Barring.{AreStopped}
 use Rattle.stubborn_sets.specs.Closing.{is_in, Grows, HasNeeds, HaveNeeds}
 
 -- how many are not in it, or wait
 abbrev pub room : Growing → ℕ
 room set = left set.marks.items + length set.waiting.items
 
--- Operators were added, and each that is new waits.
+-- Numbers were added, and each that is new waits.
 pub record Adds (old new : Growing) : Type 0 where
   pub grows : Grows old.marks.items new.marks.items
   pub each : length new.marks.items ≡ length old.marks.items
@@ -17,14 +18,12 @@ pub record Adds (old new : Growing) : Type 0 where
   pub waits : (a : ℕ) → IsTrue (is_in new.marks.items a) → IsTrue (is_in old.marks.items a) ⊎ Contains new.waiting.items a
   pub marked : (a : ℕ) → Contains new.waiting.items a → Contains old.waiting.items a ⊎ IsTrue (is_in new.marks.items a)
   pub room : room new ≡ room old
-  pub applying : new.applying ≡ old.applying
 
 -- Each member has what it needs, but for those that wait, which are members.
 pub record IsGrowing (task : TaskParts) (values : List ℕ) (set : Growing) : Type 0 where
   pub each : length set.marks.items ≡ length task.operators
   pub marked : (a : ℕ) → Contains set.waiting.items a → IsTrue (is_in set.marks.items a)
   pub needs : (a : ℕ) → IsTrue (is_in set.marks.items a) → Contains set.waiting.items a ⊎ HasNeeds task values a set.marks.items
-  pub count : set.applying + room set ≤ length task.operators
 
 -- The same but for one member more, which waited.
 pub record IsPopped (task : TaskParts) (values : List ℕ) (one : ℕ) (set : Growing) : Type 0 where
@@ -32,9 +31,14 @@ pub record IsPopped (task : TaskParts) (values : List ℕ) (one : ℕ) (set : Gr
   pub each : length set.marks.items ≡ length task.operators
   pub marked : (a : ℕ) → Contains set.waiting.items a → IsTrue (is_in set.marks.items a)
   pub needs : (a : ℕ) → IsTrue (is_in set.marks.items a) → (a ≡ one) ⊎ Contains set.waiting.items a ⊎ HasNeeds task values a set.marks.items
-  pub count : set.applying + room set < length task.operators
 
 -- Each member has what it needs.
 pub record IsClosed (task : TaskParts) (values : List ℕ) (set : Growing) : Type 0 where
   pub each : length set.marks.items ≡ length task.operators
   pub needs : HaveNeeds task values set.marks.items set.marks.items
+
+-- Of each barred variable the rules are stopped, but for those that wait, which are barred.
+pub record IsBarring (task : TaskParts) (values : List ℕ) (barred set : Growing) : Type 0 where
+  pub each : length barred.marks.items ≡ length task.variables
+  pub marked : (var : ℕ) → Contains barred.waiting.items var → IsTrue (is_in barred.marks.items var)
+  pub rules : (var : ℕ) → IsTrue (is_in barred.marks.items var) → Contains barred.waiting.items var ⊎ AreStopped task values barred.marks.items set.marks.items var

@@ -1,8 +1,9 @@
--- What is kept of a task: lists of operators.
-use Rattle.std.specs.Prelude.{◌≡◌, ℕ, ◌+◌, ◌<◌, ◌⊎◌, Bool, List, [], length, slice_get, slice_index, Option, Some, None, All, Contains, IsSomeAnd}
+-- What is kept of a task: lists of operators, and of rules.
+use Rattle.std.specs.Prelude.{◌≡◌, ◌≢◌, ℕ, ◌+◌, ◌<◌, ◌⊎◌, Bool, List, [], length, slice_get, slice_index, slice_index_or, Option, Some, None, All, Contains, IsSomeAnd}
 use Rattle.std.proofs.Common.{Vec, Global}
 use Rattle.symk_task.specs.declared.parts.Fact.{Fact}
 use Rattle.symk_task.specs.declared.parts.Effect.{Effect}
+use Rattle.symk_task.specs.declared.parts.Rule.{Rule}
 use Rattle.symk_task.specs.declared.parts.TaskParts.{TaskParts}
 use Rattle.symk_task.specs.Variables.{IsBase}
 use Rattle.task_system.specs.Computed.{system_of}
@@ -24,7 +25,7 @@ list_in lists i = items_in (slice_get lists i)
 abbrev pub list_at : Lists → ℕ → List ℕ
 list_at lists i = list_in lists.lists.items i
 
--- Each list has what it had, and no operator is new but this one.
+-- Each list has what it had, and nothing is new but this one number.
 pub record AddsOne (old new : ℕ → List ℕ) (op : ℕ) : Type 0 where
   pub keeps : (i a : ℕ) → Contains (old i) a → Contains (new i) a
   pub adds : (i a : ℕ) → Contains (new i) a → Contains (old i) a ⊎ (a ≡ op)
@@ -49,7 +50,7 @@ pub record AreGiversBelow (task : TaskParts) (below : ℕ) (lists : Fact → Lis
 abbrev pub AreGivers : TaskParts → (Fact → List ℕ) → Type 0
 AreGivers task lists = AreGiversBelow task (length task.operators) lists
 
--- Operators below the number, and those that are left out are as they should be.
+-- Numbers below the bound, and those that are left out are as they should be.
 pub record LeavesOut (Fine : ℕ → Type 0) (below : ℕ) (ops : List ℕ) : Type 0 where
   pub within : (a : ℕ) → Contains ops a → a < below
   pub out : (a : ℕ) → a < below → ¬ Contains ops a → Fine a
@@ -70,10 +71,19 @@ AreChangers task var ops = IsBase task var ⊎ LeavesOut (IsNoChanger task var) 
 abbrev pub AreMakers : TaskParts → Fact → List ℕ → Type 0
 AreMakers task fact ops = LeavesOut (IsNoMaker task fact) (length task.operators) ops
 
--- the operators that can make a fact true are known
+-- the rule of this number is for another variable
+abbrev pub IsForOther : List Rule → ℕ → ℕ → Type 0
+IsForOther rules var k = (d : Rule) → (slice_index_or rules k d).var ≢ var
+
+-- rules, among them each that is for the variable
+abbrev pub AreRules : List Rule → ℕ → List ℕ → Type 0
+AreRules rules var numbers = LeavesOut (IsForOther rules var) (length rules) numbers
+
+-- the operators that can make a fact true are known, and the rules for a variable
 pub record KnowsMakers (task : TaskParts) (makers : Makers) : Type 0 where
   pub given : AreGivers task (givers_of makers.firsts.items makers.given)
   pub changers : (var : ℕ) → var < length task.variables → AreChangers task var (list_in makers.changers.items var)
+  pub rules : (var : ℕ) → AreRules task.rules var (list_at makers.rules var)
 
 -- operators, among them each that doesn't commute with this one
 abbrev pub AreConflicts : TaskParts → ℕ → List ℕ → Type 0

@@ -1,15 +1,15 @@
 //! What must come before a derived fact.
 
-ghost use Rattle.std.specs.Prelude.{◌≡◌, ◌<◌, ◌↔◌, IsTrue, IsFalse, IfOk, IfSome, OnOk, length};
+ghost use Rattle.std.specs.Prelude.{◌≡◌, ◌<◌, ◌↔◌, IsTrue, IfOk, OnOk, length};
 ghost use Rattle.symk_task.specs.Fits.{Fits};
 ghost use Rattle.symk_task.specs.Variables.{other_value};
-ghost use Rattle.stubborn_sets.specs.Depending.{Grows, Spreads, IsRuleBelow};
-ghost use Rattle.stubborn_sets.specs.Barring.{HasMakers, IsRaising, Waits, IsBarredRule, AreBarredRules, IsBarred, StaysFalse};
-ghost use Rattle.stubborn_sets.specs.Growing.{Adds};
+ghost use Rattle.task_run.specs.Values.{AreBelow};
+ghost use Rattle.stubborn_sets.specs.Depending.{Grows};
+ghost use Rattle.stubborn_sets.specs.Barring.{HasMakers, IsRaising, Waits, IsStopped, AreStopped, AreBarredRules, IsBarred, StaysFalse};
+ghost use Rattle.stubborn_sets.specs.Growing.{Adds, IsBarring};
 ghost use Rattle.stubborn_sets.specs.Kept.{KnowsMakers};
 
-use crate::choosing::scarcest;
-use crate::depending::mark;
+use crate::choosing::{Lack, scarcest};
 use crate::growing::Growing;
 use crate::makers::Makers;
 use commuting::is_base;
@@ -52,122 +52,125 @@ fn add_makers(
     set.add_all(makers.of(parts, fact))
 }
 
-/// Bars the fact: its variable, where it says that rules raise it; else by the operators that can make it true, which
-/// are added to the set. Tells whether a variable is new.
+/// Bars a fact that doesn't hold: its variable, where it says that rules raise it; else by the operators that can make it
+/// true, which are added to the set. Nothing has to be added where it has no makers outside.
 fn bar(
     makers: &Makers,
     parts: &TaskParts,
-    fact: Fact,
-    barred: &mut [bool],
+    lack: Lack,
+    barred: &mut Growing,
     set: &mut Growing,
-) -> Result<bool, Memory>
+) -> Result<(), Memory>
     requires known { KnowsMakers parts.now makers.now }
     requires each { length set.old.marks.items ≡ length parts.now.operators }
-    requires variables { length barred.old ≡ length parts.now.variables }
-    requires within { fact.var < length parts.now.variables }
-    ensures spreads { IfOk result (Spreads barred.old barred.new) }
+    requires variables { length barred.old.marks.items ≡ length parts.now.variables }
+    requires within { lack.fact.var < length parts.now.variables }
+    requires none { lack.makers ≡ 0 → Waits parts.now barred.old.marks.items set.old.marks.items lack.fact }
+    ensures bars { OnOk result (Adds barred.old barred.new) }
     ensures adds { OnOk result (Adds set.old set.new) }
-    ensures waits { OnOk result (Waits parts.now barred.new set.new.marks.items fact) }
+    ensures waits { OnOk result (Waits parts.now barred.new.marks.items set.new.marks.items lack.fact) }
 {
-    if is_raising(parts, fact) {
-        return Ok(mark(barred, fact.var as usize));
+    if lack.makers == 0 {
+        return Ok(());
     }
-    add_makers(makers, parts, fact, set)?;
-    Ok(false)
+    if is_raising(parts, lack.fact) {
+        return barred.add(lack.fact.var);
+    }
+    add_makers(makers, parts, lack.fact, set)
 }
 
-/// Bars one condition of the rule that doesn't hold, if the rule raises a barred variable, and tells whether a variable
-/// is new; or nothing where all conditions hold.
+/// Bars one condition of the rule that doesn't hold, if the rule raises its variable, and tells whether there is one.
 fn bar_rule(
     makers: &Makers,
     parts: &TaskParts,
     values: &[u32],
     rule: &Rule,
-    barred: &mut [bool],
+    barred: &mut Growing,
     set: &mut Growing,
-) -> Result<Option<bool>, Memory>
+) -> Result<bool, Memory>
     requires known { KnowsMakers parts.now makers.now }
     requires each { length set.old.marks.items ≡ length parts.now.operators }
-    requires variables { length barred.old ≡ length parts.now.variables }
+    requires variables { length barred.old.marks.items ≡ length parts.now.variables }
     requires valued { length values.now ≡ length parts.now.variables }
-    requires within { IsRuleBelow (length barred.old) rule.now }
-    ensures spreads { IfOk result (λ done. IfSome done (Spreads barred.old barred.new)) }
+    requires within { AreBelow (length values.now) rule.now.conds }
+    ensures spreads { OnOk result (Adds barred.old barred.new) }
     ensures adds { OnOk result (Adds set.old set.new) }
-    ensures bars { IfOk result (λ done.
-        IfSome done (λ more. IsBarredRule parts.now values.now barred.new set.new.marks.items rule.now)) }
+    ensures bars { IfOk result (λ done. IsTrue done →
+        IsStopped parts.now values.now barred.new.marks.items set.new.marks.items rule.now) }
 {
-    if !barred[rule.var as usize] || rule.new != other_value(parts, rule.var) {
-        return Ok(Some(false));
+    if rule.new != other_value(parts, rule.var) {
+        return Ok(true);
     }
     match scarcest(
         makers,
         parts,
         values,
         &set.marks,
-        barred,
+        &barred.marks,
         rule.conds.as_slice(),
     ) {
-        Some(lack) => Ok(Some(bar(makers, parts, lack.fact, barred, set)?)),
-        None => Ok(None),
+        Some(lack) => {
+            bar(makers, parts, lack, barred, set)?;
+            Ok(true)
+        }
+        None => Ok(false),
     }
 }
 
-/// Does so for each rule.
+/// Does so for each rule for the variable, unless all conditions of one hold.
 fn bar_rules(
     makers: &Makers,
     parts: &TaskParts,
     values: &[u32],
-    barred: &mut [bool],
-    set: &mut Growing,
-) -> Result<Option<bool>, Memory>
-    requires fits { Fits parts.now }
-    requires known { KnowsMakers parts.now makers.now }
-    requires each { length set.old.marks.items ≡ length parts.now.operators }
-    requires variables { length barred.old ≡ length parts.now.variables }
-    requires valued { length values.now ≡ length parts.now.variables }
-    ensures spreads { IfOk result (λ done. IfSome done (Spreads barred.old barred.new)) }
-    ensures adds { OnOk result (Adds set.old set.new) }
-    ensures bars { IfOk result (λ done. IfSome done (λ more. IsFalse more →
-        AreBarredRules parts.now values.now barred.new set.new.marks.items parts.now.rules)) }
-{
-    let mut more = false;
-    for rule in parts.rules.as_slice() {
-        let Some(new) = bar_rule(makers, parts, values, rule, barred, set)? else {
-            return Ok(None);
-        };
-        if new {
-            more = true;
-        }
-    }
-    Ok(Some(more))
-}
-
-/// Bars conditions of rules that raise barred variables, until no variable is new, and tells whether it came so far: not
-/// where all conditions of such a rule hold.
-fn bar_on(
-    makers: &Makers,
-    parts: &TaskParts,
-    values: &[u32],
-    barred: &mut [bool],
+    var: u32,
+    barred: &mut Growing,
     set: &mut Growing,
 ) -> Result<bool, Memory>
     requires fits { Fits parts.now }
     requires known { KnowsMakers parts.now makers.now }
     requires each { length set.old.marks.items ≡ length parts.now.operators }
-    requires variables { length barred.old ≡ length parts.now.variables }
+    requires variables { length barred.old.marks.items ≡ length parts.now.variables }
     requires valued { length values.now ≡ length parts.now.variables }
-    ensures grows { IfOk result (λ all. IsTrue all → Grows barred.old barred.new) }
+    ensures spreads { OnOk result (Adds barred.old barred.new) }
     ensures adds { OnOk result (Adds set.old set.new) }
     ensures bars { IfOk result (λ all. IsTrue all →
-        AreBarredRules parts.now values.now barred.new set.new.marks.items parts.now.rules) }
+        AreStopped parts.now values.now barred.new.marks.items set.new.marks.items var) }
 {
-    'barring: loop {
-        match bar_rules(makers, parts, values, barred, set)? {
-            Some(true) => {}
-            Some(false) => return Ok(true),
-            None => return Ok(false),
+    let rules = parts.rules.as_slice();
+    for number in makers.rules_for(parts, var) {
+        let rule = &rules[*number as usize];
+        if !bar_rule(makers, parts, values, rule, barred, set)? {
+            return Ok(false);
         }
     }
+    Ok(true)
+}
+
+/// Bars conditions of the rules for barred variables, each once, until no variable waits, and tells whether it came so
+/// far: not where all conditions of such a rule hold.
+fn bar_on(
+    makers: &Makers,
+    parts: &TaskParts,
+    values: &[u32],
+    barred: &mut Growing,
+    set: &mut Growing,
+) -> Result<bool, Memory>
+    requires fits { Fits parts.now }
+    requires known { KnowsMakers parts.now makers.now }
+    requires each { length set.old.marks.items ≡ length parts.now.operators }
+    requires valued { length values.now ≡ length parts.now.variables }
+    requires barring { IsBarring parts.now values.now barred.old set.old }
+    ensures grows { IfOk result (λ all. IsTrue all → Grows barred.old.marks.items barred.new.marks.items) }
+    ensures adds { OnOk result (Adds set.old set.new) }
+    ensures bars { IfOk result (λ all. IsTrue all →
+        AreBarredRules parts.now values.now barred.new.marks.items set.new.marks.items parts.now.rules) }
+{
+    'barring: while let Some(var) = barred.waiting.pop() {
+        if !bar_rules(makers, parts, values, var, barred, set)? {
+            return Ok(false);
+        }
+    }
+    Ok(true)
 }
 
 /// Bars the fact, which says of a derived variable that rules raise it, and tells whether that could be done.
@@ -188,8 +191,8 @@ fn bar_raised(
     ensures adds { OnOk result (Adds set.old set.new) }
     ensures barred { IfOk result (λ all. IsTrue all → IsBarred parts.now values.now set.new.marks.items fact) }
 {
-    let mut barred = vec![in alloc; false; parts.variables.len()]?;
-    barred[fact.var as usize] = true;
+    let mut barred = Growing::new(alloc, parts.variables.len())?;
+    barred.add(fact.var)?;
     bar_on(makers, parts, values, &mut barred, set)
 }
 
@@ -243,4 +246,28 @@ pub(crate) fn serve(
     } else {
         add_makers(makers, parts, fact, set)
     }
+}
+
+/// Does so for the precondition that is missing. Nothing has to be added where it has no makers outside the set.
+pub(crate) fn serve_lack(
+    alloc: Global,
+    makers: &Makers,
+    parts: &TaskParts,
+    values: &[u32],
+    lack: Lack,
+    set: &mut Growing,
+) -> Result<(), Memory>
+    requires fits { Fits parts.now }
+    requires known { KnowsMakers parts.now makers.now }
+    requires each { length set.old.marks.items ≡ length parts.now.operators }
+    requires valued { length values.now ≡ length parts.now.variables }
+    requires within { lack.fact.var < length parts.now.variables }
+    requires none { lack.makers ≡ 0 → HasMakers parts.now lack.fact set.old.marks.items }
+    ensures adds { OnOk result (Adds set.old set.new) }
+    ensures stays { OnOk result (StaysFalse parts.now values.now set.new.marks.items lack.fact) }
+{
+    if lack.makers == 0 {
+        return Ok(());
+    }
+    serve(alloc, makers, parts, values, lack.fact, set)
 }

@@ -1,6 +1,6 @@
-//! Lists of operators by number.
+//! Lists by number.
 
-/// Lists of operators by number: empty where nothing was put into one.
+/// Lists of operators or of rules, by number: empty where nothing was put into one.
 #[derive(Drop)]
 pub(crate) struct Lists {
     lists: Vec<Vec<u32>>,
@@ -38,7 +38,7 @@ impl Lists {
         list_of(&self.lists, number)
     }
 
-    /// Puts the operator last into the list of this number.
+    /// Puts the operator, or the rule, last into the list of this number.
     pub(crate) fn add(&mut self, alloc: Global, number: usize, op: u32) -> Result<(), Memory>
         ensures has { OnOk result (Contains (list_at self.new number) op) }
         ensures adds { OnOk result (AddsOne (list_at self.old) (list_at self.new) op) }

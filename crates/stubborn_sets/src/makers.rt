@@ -1,6 +1,6 @@
-//! Of each fact the operators that can make it true.
+//! Of each fact the operators that can make it true, and of each derived variable its rules.
 
-/// Of each fact of a task the operators that can make it true.
+/// Of each fact of a task the operators that can make it true, and of each derived variable its rules.
 #[derive(Drop)]
 pub(crate) struct Makers {
     /// Of each variable the number of its first value, where the values of all are counted through.
@@ -9,17 +9,19 @@ pub(crate) struct Makers {
     given: Lists,
     /// Of each derived variable the operators with an effect on what it depends on.
     changers: Vec<Vec<u32>>,
+    /// Of each variable the rules for it.
+    rules: Lists,
 }
 
 ghost use Rattle.std.specs.Prelude.{◌≡◌, ◌≤◌, ◌<◌, ℕ, All, Contains, IfOk, OnOk, length};
 ghost use Rattle.symk_task.specs.Fits.{FitsVariable};
-ghost use Rattle.stubborn_sets.specs.Kept.{number_of, given_by, list_at, givers_of, AddsOne, list_in, LeavesOut, IsOff, AreGivers, AreChangers, AreMakers, KnowsMakers};
+ghost use Rattle.stubborn_sets.specs.Kept.{number_of, given_by, list_at, givers_of, AddsOne, list_in, LeavesOut, IsOff, AreGivers, AreChangers, AreMakers, AreRules, KnowsMakers};
 
 use crate::depending::{dependencies, writes_off};
 use crate::lists::{Lists, list_of};
 use commuting::is_base;
 use std::alloc::Global;
-use symk_task::{Effect, Fact, Memory, Task, TaskParts, Variable};
+use symk_task::{Effect, Fact, Memory, Rule, Task, TaskParts, Variable};
 
 /// Of each variable the number of its first value.
 fn firsts_of(alloc: Global, variables: &[Variable]) -> Result<Vec<u32>, Memory>
@@ -119,18 +121,32 @@ fn changers(alloc: Global, task: &Task) -> Result<Vec<Vec<u32>>, Memory>
     Ok(lists)
 }
 
+/// Of each variable the rules for it.
+fn rules_by_variable(alloc: Global, rules: &[Rule]) -> Result<Lists, Memory>
+    requires { length rules.now ≤ 1000000 }
+    ensures { IfOk result (λ lists. (var : ℕ) → AreRules rules.now var (list_at lists var)) }
+{
+    let mut lists = Lists::new(alloc);
+    for number in 0..rules.len() {
+        lists.add(alloc, rules[number].var as usize, number as u32)?;
+    }
+    Ok(lists)
+}
+
 impl Makers {
-    /// Of each fact of the task the operators that can make it true.
+    /// Of each fact of the task the operators that can make it true, and of each derived variable its rules.
     pub(crate) fn new(alloc: Global, task: &Task) -> Result<Makers, Memory>
         ensures { IfOk result (KnowsMakers task.now) }
     {
         let firsts = firsts_of(alloc, task.parts().variables.as_slice())?;
         let given = givers(alloc, task, &firsts)?;
         let changers = changers(alloc, task)?;
+        let rules = rules_by_variable(alloc, task.parts().rules.as_slice())?;
         Ok(Makers {
             firsts,
             given,
             changers,
+            rules,
         })
     }
 
@@ -146,5 +162,13 @@ impl Makers {
         } else {
             list_of(&self.changers, fact.var as usize)
         }
+    }
+
+    /// The rules for the variable.
+    pub(crate) fn rules_for(&self, parts: &TaskParts, var: u32) -> &[u32]
+        requires { KnowsMakers parts.now self.now }
+        ensures { AreRules parts.now.rules var result.now }
+    {
+        self.rules.at(var as usize)
     }
 }

@@ -7,8 +7,8 @@ use Rattle.stubborn_sets.proofs.growing.Growing.add.Goals as goal
 pub returns-clause-adds : goal.returns-clause-adds
 returns-clause-adds c =
     let old = c.args.self.now in
-    let op = c.args.op in
+    let number = c.args.number in
     let e = c.index.ensures in
     let f = c.if-index.false in
-    let off : ¬ IsTrue (is_in old.marks.items op) = λ h. (cc (e, f, h)) in
-    adds_new old (record { marks = with_item old.marks op true; waiting = c.push.new.self; applying = old.applying }) op c.requires off refl c.in_ok-push.ensures.items refl
+    let off : ¬ IsTrue (is_in old.marks.items number) = λ h. (cc (e, f, h)) in
+    adds_new old (record { marks = with_item old.marks number true; waiting = c.push.new.self }) number c.requires off refl c.in_ok-push.ensures.items

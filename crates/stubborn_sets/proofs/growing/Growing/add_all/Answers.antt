@@ -4,14 +4,14 @@ use Rattle.stubborn_sets.specs.Closing.{is_in}
 use Rattle.stubborn_sets.proofs.GrowingLaw.{adds_trans}
 use Rattle.stubborn_sets.proofs.growing.Growing.add_all.Goals as goal
 
-pub loop-op-preserved : goal.loop-op-preserved
-loop-op-preserved c =
+pub loop-number-preserved : goal.loop-number-preserved
+loop-number-preserved c =
     let added = c.in_ok-add.ensures.adds in
-    let ops = c.args.ops.now in
+    let numbers = c.args.numbers.now in
     let new = c.add.new.self.marks.items in
     record {
-      adds = adds_trans c.args.self.now c.loop-op.self c.add.new.self c.loop-op.invariant.adds added;
-      has = λ k d. below_more (λ k. IsTrue (is_in new (get_or ops k d))) c.loop-op.op-index
-          (λ k lt. added.grows (get_or ops k d) (c.loop-op.invariant.has k d lt))
-          (subst (λ (z : ℕ). IsTrue (is_in new z)) (get_or_default ops c.loop-op.op-index 0 d c.loop-op-test.true) c.in_ok-add.ensures.has) k;
+      adds = adds_trans c.args.self.now c.loop-number.self c.add.new.self c.loop-number.invariant.adds added;
+      has = λ k d. below_more (λ k. IsTrue (is_in new (get_or numbers k d))) c.loop-number.number-index
+          (λ k lt. added.grows (get_or numbers k d) (c.loop-number.invariant.has k d lt))
+          (subst (λ (z : ℕ). IsTrue (is_in new z)) (get_or_default numbers c.loop-number.number-index 0 d c.loop-number-test.true) c.in_ok-add.ensures.has) k;
     }

@@ -1,6 +1,7 @@
 pub mod Beside
 pub mod Choosing
 pub mod Meeting
+pub mod Forking
 pub mod Table
 pub mod Turning
 pub mod Walking

@@ -1,4 +1,5 @@
 pub mod Keys
+pub mod Joining
 pub mod Kept
 pub mod Moves
 pub mod Opened

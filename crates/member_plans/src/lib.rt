@@ -22,6 +22,7 @@ mod expand;
 mod front;
 mod given;
 mod hints;
+mod joining;
 mod kept;
 mod keys;
 mod moves;

@@ -21,25 +21,13 @@ ghost use Rattle.task_system.specs.System.{State, System, IsPlan};
 ghost use Rattle.prefix_tree.specs.StateGraph.{AreOnce};
 ghost use Rattle.prefix_tree.specs.Tree.{IsTree, AreLinked, path_at};
 ghost use Rattle.prefix_tree.specs.declared.entry.Entry.{Entry};
-ghost use Rattle.member_laws.specs.Nodes.{Joins, IsJoined};
+ghost use Rattle.member_laws.specs.Nodes.{IsJoined};
 ghost use Rattle.member_plans.specs.Opened.{places_of, keys_of, opened_of, AreOpened, AddsKey, AddsPlace, IsMet};
 
+use crate::joining::do_join;
 use crate::keys::key_at;
 use prefix_tree::{Entry, Node};
 use std::alloc::{AllocError, Global};
-
-/// Whether two prefixes join.
-fn do_join(alloc: Global, tree: &[Node], node: usize, other: usize) -> Result<bool, AllocError>
-    requires linked { AreLinked tree.now }
-    requires node { node < length tree.now }
-    requires other { other < length tree.now }
-    ensures { (y : System) (states : List State) → IsTree y TopK states tree.now
-        → IfOk result (λ same. IsTrue same → Joins y (path_at tree.now node) (path_at tree.now other)) }
-{
-    let one = key_at(alloc, tree, node)?;
-    let two = key_at(alloc, tree, other)?;
-    Ok(one == two)
-}
 
 impl Opened {
     /// No prefix.

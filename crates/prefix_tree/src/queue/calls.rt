@@ -1,8 +1,9 @@
 //! What a queue of prefixes does.
 
-ghost use Rattle.std.specs.Prelude.{◌≡◌, ◌+◌, ◌<◌, ◌≤◌, ◌∷◌, ◌++◌, [], All, IfSome, IfNone, IfOk, OnOk, OnErr, IsPermutation, slice_index_or, length};
+ghost use Rattle.std.specs.Prelude.{◌≡◌, ◌+◌, ◌<◌, ◌≤◌, ◌∷◌, ◌++◌, [], All, IfSome, IfNone, IfOk, OnOk, OnErr, IsPermutation, drop, slice_index_or, length};
+ghost use Rattle.std.specs.BinaryHeap.{IsHeap, heap_items, heap_len, heap_capacity};
 ghost use Rattle.prefix_tree.specs.Entries.{entries_of, HasRoom};
-ghost use Rattle.prefix_tree.specs.Order.{IsNoLater};
+ghost use Rattle.prefix_tree.specs.Order.{IsNoLater, entry_order};
 
 use crate::entry::Entry;
 use crate::queue::Queue;
@@ -10,6 +11,18 @@ use lazy_plans::Steps;
 use std::alloc::{AllocError, Global};
 use std::collections::BinaryHeap;
 use std::sync::ledger::Ledger;
+
+/// Puts the entry in the place of the first one, from where it goes down as far as others go before it.
+fn put_first(heap: &mut BinaryHeap<Entry>, entry: Entry)
+    requires some { 0 < heap_len heap.old }
+    ensures items { IsPermutation (entry ∷ drop 1 (heap_items heap.old)) (heap_items heap.new) }
+    ensures order { IsHeap entry_order (heap_items heap.old) → IsHeap entry_order (heap_items heap.new) }
+    ensures len { heap_len heap.new ≡ heap_len heap.old }
+    ensures capacity { heap_capacity heap.new ≡ heap_capacity heap.old }
+{
+    let mut top = heap.peek_mut().unwrap();
+    *top = entry;
+}
 
 impl Queue {
     /// No entry.
@@ -64,8 +77,14 @@ impl Queue {
     {
         steps.tick();
         let mut others = BinaryHeap::from(others);
-        if let Some(_) = self.heap.pop() {
-            let _ = self.heap.append(&mut others);
+        match others.pop() {
+            None => {
+                let _ = self.heap.pop();
+            }
+            Some(next) => {
+                put_first(&mut self.heap, next);
+                let _ = self.heap.append(&mut others);
+            }
         }
     }
 

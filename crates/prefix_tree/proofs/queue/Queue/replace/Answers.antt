@@ -1,12 +1,23 @@
-use Rattle.std.proofs.Common.{◌+◌, ◌≤◌, arith}
+use Rattle.std.proofs.Common.{◌≡◌, ◌+◌, ◌≤◌, length, arith}
 use Rattle.std.specs.BinaryHeap.{heap_items, heap_len, heap_capacity}
-use Rattle.prefix_tree.proofs.Replacing.{replaced, on_ok}
+use Rattle.std.proofs.lemmas.List.Sorted.{length_permutation}
+use Rattle.prefix_tree.proofs.Replacing.{replaced_first, replaced_alone, on_ok}
 use Rattle.prefix_tree.proofs.queue.Queue.replace.Goals as goal
 
-pub returns-in-Some-clause-replaces : goal.returns-in-Some-clause-replaces
-returns-in-Some-clause-replaces g c e first =
-    let x = c.in-Some.field-0 in
+pub returns-in-None-clause-replaces : goal.returns-in-None-clause-replaces
+returns-in-None-clause-replaces g c e first =
     let old = heap_items c.args.self.now.heap in
-    let room : heap_len c.pop.new.self + heap_len c.from-others.result ≤ heap_capacity c.pop.new.self = omega (arith, c.requires.room, c.in-Some.ensures.len) in
-    replaced old c.args.others.items (heap_items c.pop.new.self) (heap_items c.from-others.result) (heap_items c.append.new.self) x e c.requires.some c.in-Some.ensures.top first c.in-Some.ensures.permutation c.from-others.ensures.1
+    let kids = c.args.others.items in
+    let none : length c.args.others.items ≡ 0 = omega (arith, c.in-None.ensures.none, length_permutation kids (heap_items c.from-others.result) c.from-others.ensures.1) in
+    let p = c.pop-in-None.ensures in
+    replaced_alone old kids (heap_items c.pop-in-None.new.self) c.pop-in-None.result e c.requires.some none first (p.variant.1 (omega (arith, c.requires.some))) p.top p.permutation
+
+pub returns-clause-replaces : goal.returns-clause-replaces
+returns-clause-replaces g c e first =
+    let old = heap_items c.args.self.now.heap in
+    let all = heap_items c.from-others.result in
+    let more = heap_items c.pop.new.self in
+    let put = heap_items c.put_first.new.heap in
+    let room : heap_len c.put_first.new.heap + heap_len c.pop.new.self ≤ heap_capacity c.put_first.new.heap = omega (arith, c.requires.room, c.in-Some.ensures.len, c.put_first.ensures.len, c.put_first.ensures.capacity) in
+    replaced_first old c.args.others.items all more put (heap_items c.append.new.self) c.in-Some.next e c.requires.some first c.from-others.ensures.1 c.in-Some.ensures.permutation c.put_first.ensures.items
     (on_ok c.append.result c.append.ensures.permutation (c.append.ensures.succeeds room))

@@ -11,7 +11,7 @@ use Rattle.lazy_plans.proofs.Given.{ended_by}
 use Rattle.cost_search.specs.Directed.{Backward}
 use Rattle.cost_search.proofs.Directing.{directed_kept}
 use Rattle.prefix_laws.specs.Queue.{Right, Pending}
-use Rattle.prefix_tree.specs.declared.state_graph.StateGraph.{StateGraph}
+use Rattle.loopless.specs.declared.ends.Ends.{Ends}
 use Rattle.prefix_tree.specs.declared.tree.Node.{Node}
 use Rattle.prefix_tree.specs.declared.entry.Entry.{Entry}
 use Rattle.prefix_tree.specs.Entries.{prefixes}
@@ -29,11 +29,11 @@ none_some : ◌≡◌ {A = Last} None (Some None) → ⊥
 none_some e = cc
 
 -- the space was tidied, or that was refused
-pub ready_stays : {Set : Type 0} (v w : View Set) (b : Backward Set) (m : StateGraph) (nodes : List Node) (es : List Entry) → SetsStay v w → IsReady v b m nodes es → IsReady w b m nodes es
-ready_stays v w b m nodes es s z = ready_moved v w b b m nodes es (directed_kept v w b s.kept z.alone.backward) (moved_stays v w b z.alone.backward s) z
+pub ready_stays : {Set : Type 0} (v w : View Set) (b : Backward Set) (m : Ends) (nodes : List Node) (es : List Entry) → SetsStay v w → IsReady v b m nodes es → IsReady w b m nodes es
+ready_stays v w b m nodes es s z = ready_moved v w b b m m.rests nodes es z.kept (directed_kept v w b s.kept z.alone.backward) (moved_stays v w b z.alone.backward s) z
 
 -- after the turns of a call, and after the space was tidied
-module _ {Set : Type 0} (v w : View Set) (h : Backward Set) (m : StateGraph) (nodes grown : List Node) (most : Option ℕ) (es new : List Entry)
+module _ {Set : Type 0} (v w : View Set) (h : Backward Set) (m : Ends) (nodes grown : List Node) (most : Option ℕ) (es new : List Entry)
     (system : w.system ≡ v.system) (ready : IsReady w h m grown new) (right : Right v.system Loopless most (prefixes grown new)) where
   abbrev Before : List ℕ → Type 0
   Before = Owes v.system Loopless (prefixes nodes es) None

@@ -1,5 +1,5 @@
 -- An engine before its first call.
-use Rattle.std.proofs.Common.{◌≡◌, ℕ, ◌<◌, IsTrue, inl, List, [], ◌∷◌, length, Option, Some, None, refl, sym, ap, subst, arith}
+use Rattle.std.proofs.Common.{◌≡◌, ℕ, ◌<◌, IsTrue, inl, List, [], ◌∷◌, length, Option, Some, None, refl, sym, ◌∙◌, ap, subst, arith}
 use Rattle.std.specs.Bool.{Decides}
 use Rattle.std.specs.List.{AllByRecursion}
 use Rattle.std.specs.List.Sorted.{IsPermutation}
@@ -14,7 +14,8 @@ use Rattle.prefix_laws.specs.Queue.{Good, Right, Pending}
 use Rattle.prefix_laws.proofs.Traces.{good_first, plan_by}
 use Rattle.prefix_laws.proofs.Turns.{first_right, first_pends}
 use Rattle.prefix_tree.specs.StateGraph.{states_of, state_at, IsStateGraph}
-use Rattle.prefix_tree.specs.declared.state_graph.StateGraph.{StateGraph}
+use Rattle.loopless.specs.declared.ends.Ends.{Ends}
+use Rattle.loopless.specs.Rests.{IsKept}
 use Rattle.prefix_tree.specs.Tree.{IsTree, IsNode, path_at, number_at}
 use Rattle.prefix_tree.specs.declared.tree.Node.{Node}
 use Rattle.prefix_tree.specs.declared.entry.Entry.{Entry}
@@ -32,8 +33,8 @@ only e (x ∷ []) p =
     ap (λ (k : Entry). k ∷ []) one.0
 only e (x ∷ y ∷ es) p = absurd (omega (arith, length_permutation (e ∷ []) (x ∷ y ∷ es) p))
 
-module _ {Set : Type 0} (y : System) (v : View Set) (b : Backward Set) (m : StateGraph) (n : Node) (e : Entry) (es : List Entry)
-    (same : v.system ≡ y) (alone : IsAlone v b) (graph : IsStateGraph v.system m) (within : n.state < length (states_of m)) (starts : state_at (states_of m) n.state ≡ v.system.initial)
+module _ {Set : Type 0} (y : System) (v : View Set) (b : Backward Set) (m : Ends) (n : Node) (e : Entry) (es : List Entry)
+    (same : v.system ≡ y) (alone : IsAlone v b) (graph : IsStateGraph v.system m.graph) (kept : IsKept v.system (states_of m.graph) m.rests) (within : n.state < length (states_of m.graph)) (starts : state_at (states_of m.graph) n.state ≡ v.system.initial)
     (put : IsPermutation (e ∷ []) es) (bound : e.bound.0 ≡ 0) (cost : e.cost ≡ 0) (place : e.node ≡ 0)
     (goal : Decides e.at_goal (IsTrue (v.system.goal v.system.initial))) where
   good : Good v.system Loopless []
@@ -42,14 +43,14 @@ module _ {Set : Type 0} (y : System) (v : View Set) (b : Backward Set) (m : Stat
   first_path : (i : ℕ) → i ≡ 0 → path_at (n ∷ []) i ≡ []
   first_path i z = ap (path_at (n ∷ [])) z
 
-  node : IsNode v.system Loopless (states_of m) 0 [] n.state
+  node : IsNode v.system Loopless (states_of m.graph) 0 [] n.state
   node = record { good = good; within = within; runs = sym starts; deep = omega arith }
 
-  tree : IsTree v.system Loopless (states_of m) (n ∷ [])
+  tree : IsTree v.system Loopless (states_of m.graph) (n ∷ [])
   tree = record {
     some = omega arith;
     linked = λ i d lt. inl (omega (arith, lt), first_path i (omega (arith, lt)));
-    each = λ i lt. let z : i ≡ 0 = omega (arith, lt) in subst (λ (j : ℕ). IsNode v.system Loopless (states_of m) j (path_at (n ∷ []) j) (number_at (n ∷ []) j)) (sym z) node;
+    each = λ i lt. let z : i ≡ 0 = omega (arith, lt) in subst (λ (j : ℕ). IsNode v.system Loopless (states_of m.graph) j (path_at (n ∷ []) j) (number_at (n ∷ []) j)) (sym z) node;
   }
 
   end : v.system.initial ≡ good.end
@@ -72,9 +73,9 @@ module _ {Set : Type 0} (y : System) (v : View Set) (b : Backward Set) (m : Stat
   single : es ≡ e ∷ []
   single = only e es put
 
-  pub begun : (most : Option ℕ) → IsSound v b m (n ∷ []) most es None None
-  begun most = subst (λ (l : List Entry). IsSound v b m (n ∷ []) most l None None) (sym single) (record {
-    ready = record { alone = alone; graph = graph; tree = tree; each = (entry, tt) };
+  begun_in : (most : Option ℕ) → IsSound v b m (n ∷ []) most es None None
+  begun_in most = subst (λ (l : List Entry). IsSound v b m (n ∷ []) most l None None) (sym single) (record {
+    ready = record { alone = alone; graph = graph; kept = kept; tree = tree; each = (entry, tt) };
     right = subst (λ (p : List ℕ). Right v.system Loopless most (p ∷ [])) (sym path) (first_right v.system Loopless most);
     holds = tt;
     said = tt;
@@ -89,5 +90,28 @@ module _ {Set : Type 0} (y : System) (v : View Set) (b : Backward Set) (m : Stat
       let now : IsPlanOf v.system Loopless p = subst (λ (z : System). IsPlanOf z Loopless p) (sym same) i in
       subst (λ (l : List Entry). Pending v.system Loopless (prefixes (n ∷ []) l) p) (sym single) (subst (λ (q : List ℕ). Pending v.system Loopless (q ∷ []) p) (sym path) (first_pends v.system Loopless p now))
 
+  all_in : (p : List ℕ) → IsPlanOf y Loopless p → Owes v.system Loopless (prefixes (n ∷ []) es) None p
+  all_in p i = inl (begun_pends p i)
+
+-- so, where what comes before the search is known of the system as it was
+module _ {Set : Type 0} (y : System) (v : View Set) (b : Backward Set) (m : Ends) (n : Node) (e : Entry) (es : List Entry)
+    (same : v.system ≡ y) (alone : IsAlone v b) (graph : IsStateGraph y m.graph) (kept : IsKept y (states_of m.graph) m.rests) (within : n.state < length (states_of m.graph)) (starts : state_at (states_of m.graph) n.state ≡ y.initial)
+    (put : IsPermutation (e ∷ []) es) (bound : e.bound.0 ≡ 0) (cost : e.cost ≡ 0) (place : e.node ≡ 0)
+    (goal : Decides e.at_goal (IsTrue (y.goal y.initial))) where
+  graph_now : IsStateGraph v.system m.graph
+  graph_now = subst (λ (z : System). IsStateGraph z m.graph) (sym same) graph
+
+  kept_now : IsKept v.system (states_of m.graph) m.rests
+  kept_now = subst (λ (z : System). IsKept z (states_of m.graph) m.rests) (sym same) kept
+
+  starts_now : state_at (states_of m.graph) n.state ≡ v.system.initial
+  starts_now = starts ∙ sym (ap (λ (z : System). z.initial) same)
+
+  goal_now : Decides e.at_goal (IsTrue (v.system.goal v.system.initial))
+  goal_now = subst (λ (z : System). Decides e.at_goal (IsTrue (z.goal z.initial))) (sym same) goal
+
+  pub begun : (most : Option ℕ) → IsSound v b m (n ∷ []) most es None None
+  begun most = begun_in y v b m n e es same alone graph_now kept_now within starts_now put bound cost place goal_now most
+
   pub begun_all : (p : List ℕ) → IsPlanOf y Loopless p → Owes v.system Loopless (prefixes (n ∷ []) es) None p
-  begun_all p i = inl (begun_pends p i)
+  begun_all p i = all_in y v b m n e es same alone graph_now kept_now within starts_now put bound cost place goal_now p i

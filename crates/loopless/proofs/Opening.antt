@@ -10,7 +10,8 @@ use Rattle.lazy_plans.specs.Law.{Gave, Stays}
 use Rattle.cost_search.specs.Directed.{Backward}
 use Rattle.prefix_laws.specs.Queue.{Good, Right, Pending}
 use Rattle.prefix_tree.specs.StateGraph.{states_of, IsStateGraph}
-use Rattle.prefix_tree.specs.declared.state_graph.StateGraph.{StateGraph}
+use Rattle.loopless.specs.declared.ends.Ends.{Ends}
+use Rattle.loopless.specs.Rests.{IsKept}
 use Rattle.prefix_tree.specs.Tree.{Grows, path_at}
 use Rattle.prefix_tree.specs.declared.tree.Node.{Node}
 use Rattle.prefix_tree.specs.declared.entry.Entry.{Entry}
@@ -42,11 +43,11 @@ on_err (Ok x) p = tt
 on_err (Err e) p = p
 
 -- the tree grew, and the queue is as it was
-pub ready_grown : {Set : Type 0} (v : View Set) (b : Backward Set) (m n : StateGraph) (a c : List Node) (es : List Entry) → IsStateGraph v.system n → Grows v.system Loopless (states_of n) a c → IsReady v b m a es → IsReady v b n c es
-ready_grown v b m n a c es graph g z = record { alone = z.alone; graph = graph; tree = g.tree; each = each_like v.system a c es g.longer g.paths z.each }
+pub ready_grown : {Set : Type 0} (v : View Set) (b : Backward Set) (m n : Ends) (a c : List Node) (es : List Entry) → IsStateGraph v.system n.graph → IsKept v.system (states_of n.graph) n.rests → Grows v.system Loopless (states_of n.graph) a c → IsReady v b m a es → IsReady v b n c es
+ready_grown v b m n a c es graph kept g z = record { alone = z.alone; graph = graph; kept = kept; tree = g.tree; each = each_like v.system a c es g.longer g.paths z.each }
 
 -- the children came to the tree, and the entry gave way to them in the queue
-module _ {Set : Type 0} (v : View Set) (b : Backward Set) (m n : StateGraph) (a c : List Node) (es kids new : List Entry) (e : Entry) (graph : IsStateGraph v.system n) (g : Grows v.system Loopless (states_of n) a c) (z : IsReady v b m a es) (some : 0 < length es) (first : e ≡ slice_index_or es 0 e) (children : AreChildren v.system c (path_at a e.node) v.system.operators kids) (perm : IsPermutation (es ++ kids) (e ∷ new)) where
+module _ {Set : Type 0} (v : View Set) (b : Backward Set) (m n : Ends) (a c : List Node) (es kids new : List Entry) (e : Entry) (graph : IsStateGraph v.system n.graph) (kept : IsKept v.system (states_of n.graph) n.rests) (g : Grows v.system Loopless (states_of n.graph) a c) (z : IsReady v b m a es) (some : 0 < length es) (first : e ≡ slice_index_or es 0 e) (children : AreChildren v.system c (path_at a e.node) v.system.operators kids) (perm : IsPermutation (es ++ kids) (e ∷ new)) where
   old_entry : IsEntry v.system a e
   old_entry = first_is (IsEntry v.system a) es e some first z.each
 
@@ -54,7 +55,7 @@ module _ {Set : Type 0} (v : View Set) (b : Backward Set) (m n : StateGraph) (a 
   each_old = each_like v.system a c es g.longer g.paths z.each
 
   pub open_ready : IsReady v b n c new
-  open_ready = record { alone = z.alone; graph = graph; tree = g.tree; each = each_new es kids new e perm (IsEntry v.system c) each_old children.each }
+  open_ready = record { alone = z.alone; graph = graph; kept = kept; tree = g.tree; each = each_new es kids new e perm (IsEntry v.system c) each_old children.each }
 
   entry : IsEntry v.system c e
   entry = first_is (IsEntry v.system c) es e some first each_old
@@ -66,7 +67,7 @@ module _ {Set : Type 0} (v : View Set) (b : Backward Set) (m n : StateGraph) (a 
   path = g.paths e.node old_entry.inside
 
   good : Good v.system Loopless (path_at c e.node)
-  good = good_at v.system (states_of n) c e g.tree entry
+  good = good_at v.system (states_of n.graph) c e g.tree entry
 
   all_children : AreChildren v.system c (path_at c e.node) v.system.operators kids
   all_children = subst (λ (p : List ℕ). AreChildren v.system c p v.system.operators kids) (sym path) children

@@ -9,7 +9,9 @@ use Rattle.prefix_laws.specs.Queue.{Good, Replaced}
 use Rattle.prefix_laws.proofs.Falls.{back_weight}
 use Rattle.prefix_laws.proofs.Turns as turns
 use Rattle.prefix_tree.specs.StateGraph.{states_of, IsStateGraph}
-use Rattle.prefix_tree.specs.declared.state_graph.StateGraph.{StateGraph}
+use Rattle.loopless.specs.declared.ends.Ends.{Ends}
+use Rattle.loopless.specs.declared.rests.Rests.{Rests}
+use Rattle.loopless.specs.Rests.{IsKept}
 use Rattle.prefix_tree.specs.Tree.{IsTree, path_at}
 use Rattle.prefix_tree.specs.declared.tree.Node.{Node}
 use Rattle.prefix_tree.specs.declared.entry.Entry.{Entry}
@@ -21,11 +23,13 @@ use Rattle.loopless.specs.Standing.{Moved, IsBetter, IsReady, GoesOn, listed_of}
 use Rattle.loopless.proofs.Inside.{alone_moved}
 use Rattle.loopless.proofs.Turning.{stale_new, goes}
 
-pub ready_moved : {Set : Type 0} (v w : View Set) (b h : Backward Set) (graph : StateGraph) (nodes : List Node) (es : List Entry) → IsBackward w h → Moved v w b h → IsReady v b graph nodes es → IsReady w h graph nodes es
-ready_moved v w b h graph nodes es back m z = record {
+-- the search back went on, and what is left from states was learned
+pub ready_moved : {Set : Type 0} (v w : View Set) (b h : Backward Set) (ends : Ends) (rests : Rests) (nodes : List Node) (es : List Entry) → IsKept v.system (states_of ends.graph) rests → IsBackward w h → Moved v w b h → IsReady v b ends nodes es → IsReady w h (record { graph = ends.graph; rests = rests }) nodes es
+ready_moved v w b h ends rests nodes es kept back m z = record {
   alone = alone_moved v w b h back m z.alone;
-  graph = subst (λ (y : System). IsStateGraph y graph) (sym m.trades.system) z.graph;
-  tree = subst (λ (y : System). IsTree y Loopless (states_of graph) nodes) (sym m.trades.system) z.tree;
+  graph = subst (λ (y : System). IsStateGraph y ends.graph) (sym m.trades.system) z.graph;
+  kept = subst (λ (y : System). IsKept y (states_of ends.graph) rests) (sym m.trades.system) kept;
+  tree = subst (λ (y : System). IsTree y Loopless (states_of ends.graph) nodes) (sym m.trades.system) z.tree;
   each = subst (λ (y : System). AllByRecursion (IsEntry y nodes) es) (sym m.trades.system) z.each;
 }
 
@@ -47,16 +51,16 @@ learned y nodes es new e (Some k) some first good h perm most right =
     )
 
 -- the first entry gave way to what was learned of it
-module _ {Set : Type 0} (v : View Set) (b : Backward Set) (m : StateGraph) (nodes : List Node) (es new : List Entry) (e : Entry) (some : 0 < length es) (first : e ≡ slice_index_or es 0 e) (z : IsReady v b m nodes es) (o : Option Entry) (better : IsBetter v.system nodes e o) (perm : IsPermutation (es ++ listed_of o) (e ∷ new)) where
+module _ {Set : Type 0} (v : View Set) (b : Backward Set) (m : Ends) (nodes : List Node) (es new : List Entry) (e : Entry) (some : 0 < length es) (first : e ≡ slice_index_or es 0 e) (z : IsReady v b m nodes es) (o : Option Entry) (better : IsBetter v.system nodes e o) (perm : IsPermutation (es ++ listed_of o) (e ∷ new)) where
   each_of : (k : Option Entry) → IsBetter v.system nodes e k → AllByRecursion (IsEntry v.system nodes) (listed_of k)
   each_of None h = tt
   each_of (Some k) h = (h.1, tt)
 
   pub learned_ready : IsReady v b m nodes new
-  learned_ready = record { alone = z.alone; graph = z.graph; tree = z.tree; each = each_new es (listed_of o) new e perm (IsEntry v.system nodes) z.each (each_of o better) }
+  learned_ready = record { alone = z.alone; graph = z.graph; kept = z.kept; tree = z.tree; each = each_new es (listed_of o) new e perm (IsEntry v.system nodes) z.each (each_of o better) }
 
   pub learned_goes : GoesOn v.system nodes nodes es new
-  learned_goes = learned v.system nodes es new e o some first (good_at v.system (states_of m) nodes e z.tree (first_is (IsEntry v.system nodes) es e some first z.each)) better perm
+  learned_goes = learned v.system nodes es new e o some first (good_at v.system (states_of m.graph) nodes e z.tree (first_is (IsEntry v.system nodes) es e some first z.each)) better perm
 
 -- what the queue has once its first entry gave way to what was learned of it
 pub learned_perm : (es room others new : List Entry) (o : Option Entry) (e : Entry) → room ≡ es → others ≡ listed_of o → e ≡ slice_index_or es 0 e → ((k : Entry) → k ≡ slice_index_or room 0 k → IsPermutation (room ++ others) (k ∷ new)) → IsPermutation (es ++ listed_of o) (e ∷ new)

@@ -12,7 +12,7 @@ use Rattle.prefix_laws.proofs.Splits.{prefix_refl}
 use Rattle.prefix_laws.proofs.Traces.{plan_in}
 use Rattle.prefix_laws.proofs.Turns as turns
 use Rattle.prefix_tree.specs.StateGraph.{states_of}
-use Rattle.prefix_tree.specs.declared.state_graph.StateGraph.{StateGraph}
+use Rattle.loopless.specs.declared.ends.Ends.{Ends}
 use Rattle.prefix_tree.specs.Tree.{path_at}
 use Rattle.prefix_tree.specs.declared.tree.Node.{Node}
 use Rattle.prefix_tree.specs.declared.entry.Entry.{Entry}
@@ -35,12 +35,12 @@ pub past_turn : (y : System) (most : Option ℕ) (nodes : List Node) (es : List 
 past_turn y None nodes es e past each least = absurd past
 past_turn y (Some m) nodes es e past each least = turns.past y Loopless m e.bound.0 (prefixes nodes es) (bounds_all y nodes e.bound.0 es each least) past
 
-pub out_turn : {Set : Type 0} (v : View Set) (b : Backward Set) (m : StateGraph) (most : Option ℕ) (nodes : List Node) (es : List Entry) (e : Entry) → IsOut most e → IsReady v b m nodes es → Right v.system Loopless most (prefixes nodes es) → 0 < length es → e ≡ slice_index_or es 0 e → AllByRecursion (λ (k : Entry). e.bound.0 ≤ k.bound.0) es → Stops v.system most (Pending v.system Loopless (prefixes nodes es)) CostRange
+pub out_turn : {Set : Type 0} (v : View Set) (b : Backward Set) (m : Ends) (most : Option ℕ) (nodes : List Node) (es : List Entry) (e : Entry) → IsOut most e → IsReady v b m nodes es → Right v.system Loopless most (prefixes nodes es) → 0 < length es → e ≡ slice_index_or es 0 e → AllByRecursion (λ (k : Entry). e.bound.0 ≤ k.bound.0) es → Stops v.system most (Pending v.system Loopless (prefixes nodes es)) CostRange
 out_turn v b graph (Some m) nodes es e out z right some first least = absurd out
 out_turn v b m None nodes es e out z right some first least =
     let y = v.system in
     let entry : IsEntry v.system nodes e = first_is (IsEntry v.system nodes) es e some first z.each in
     let dear : top None < e.bound.0 = omega (arith, entry.least, out.1) in
     let on = prefix_refl (path_at nodes e.node) in
-    let good = good_at v.system (states_of m) nodes e z.tree entry in
+    let good = good_at v.system (states_of m.graph) nodes e z.tree entry in
     turns.out_of_range v.system Loopless None (path_at nodes e.node) (prefixes nodes es) right (first_in nodes es e some first) e.bound.0 (bounds_all v.system nodes e.bound.0 es z.each least) dear (path_at nodes e.node) (plan_in v.system Loopless (path_at nodes e.node) good.allowed (entry.plan.0 out.0)) on

@@ -32,7 +32,7 @@ tells view x p = tells_owed (view x.space).system Loopless (prefixes x.tree.item
 
 -- what it meets between two calls
 abbrev pub IsEngine : {S Set : Type 0} → (S → View Set) → LooplessPlans S Set → Type 0
-IsEngine view x = IsSound (view x.space) x.backward x.graph x.tree.items x.most (entries_of x.queue) x.held x.ended
+IsEngine view x = IsSound (view x.space) x.backward x.ends x.tree.items x.most (entries_of x.queue) x.held x.ended
 
 -- every valid set is one of the search back, or the one that it is kept to
 abbrev pub KeepsAll : {S Set : Type 0} → (S → View Set) → LooplessPlans S Set → Type 0

@@ -1,4 +1,6 @@
 pub mod Left
+pub mod Rests
+pub mod Told
 pub mod Reach
 pub mod Children
 pub mod Standing

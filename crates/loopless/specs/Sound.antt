@@ -7,7 +7,7 @@ use Rattle.lazy_plans.specs.declared.stop.Stop.{Stop}
 use Rattle.cost_search.specs.Directed.{Backward}
 use Rattle.prefix_laws.specs.Queue.{Right}
 use Rattle.prefix_laws.specs.Owing.{Owes, IsHeld}
-use Rattle.prefix_tree.specs.declared.state_graph.StateGraph.{StateGraph}
+use Rattle.loopless.specs.declared.ends.Ends.{Ends}
 use Rattle.prefix_tree.specs.declared.tree.Node.{Node}
 use Rattle.prefix_tree.specs.declared.entry.Entry.{Entry}
 use Rattle.prefix_tree.specs.Entries.{prefixes}
@@ -19,7 +19,7 @@ IsTidy v = v.held ≤ 2 * v.last + 1000
 
 -- what every engine meets between two calls: the queue stands, what was answered last still holds, and where no plan was left
 -- the space is tidy
-pub record IsSound {Set : Type 0} (v : View Set) (b : Backward Set) (m : StateGraph) (nodes : List Node) (most : Option ℕ) (es : List Entry) (held : Option (List ℕ)) (ended : Last) : Type 0 where
+pub record IsSound {Set : Type 0} (v : View Set) (b : Backward Set) (m : Ends) (nodes : List Node) (most : Option ℕ) (es : List Entry) (held : Option (List ℕ)) (ended : Last) : Type 0 where
   pub ready : IsReady v b m nodes es
   pub right : Right v.system Loopless most (prefixes nodes es)
   pub holds : IsHeld v.system Loopless held ended

@@ -10,7 +10,8 @@ use Rattle.symk_task.specs.declared.parts.Mode.TheVariants.{Loopless}
 use Rattle.lazy_plans.specs.Law.{Gave, Stays, top}
 use Rattle.prefix_laws.specs.Queue.{Hopeless, Right, Pending}
 use Rattle.prefix_tree.specs.StateGraph.{states_of, IsStateGraph}
-use Rattle.prefix_tree.specs.declared.state_graph.StateGraph.{StateGraph}
+use Rattle.loopless.specs.declared.ends.Ends.{Ends}
+use Rattle.loopless.specs.Rests.{IsKept}
 use Rattle.prefix_tree.specs.Tree.{IsTree, path_at}
 use Rattle.prefix_tree.specs.declared.tree.Node.{Node}
 use Rattle.prefix_tree.specs.declared.entry.Entry.{Entry}
@@ -62,12 +63,13 @@ IsBetter y nodes e (Some k) = (k.node ≡ e.node) × IsEntry y nodes k × (stale
 abbrev pub work : System → List Node → List Entry → ℕ
 work y nodes es = 2 ^ 65 * weight y (prefixes nodes es) + all_stale es
 
--- The search back, the graph of states, the tree and the entries of the queue stand, and each valid set is one of the search
+-- The search back, the graph of states and what is left from them, the tree and the entries of the queue stand, and each valid set is one of the search
 -- back or the one that it is kept to.
-pub record IsReady {Set : Type 0} (v : View Set) (b : Backward Set) (m : StateGraph) (nodes : List Node) (es : List Entry) : Type 0 where
+pub record IsReady {Set : Type 0} (v : View Set) (b : Backward Set) (m : Ends) (nodes : List Node) (es : List Entry) : Type 0 where
   pub alone : IsAlone v b
-  pub graph : IsStateGraph v.system m
-  pub tree : IsTree v.system Loopless (states_of m) nodes
+  pub graph : IsStateGraph v.system m.graph
+  pub kept : IsKept v.system (states_of m.graph) m.rests
+  pub tree : IsTree v.system Loopless (states_of m.graph) nodes
   pub each : AllByRecursion (IsEntry v.system nodes) es
 
 -- the entry alone, or none

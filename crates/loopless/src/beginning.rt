@@ -1,11 +1,16 @@
 //! Engines at their first step.
 
-ghost use Rattle.std.specs.Prelude.{◌≡◌, IfOk, None, Some};
+ghost use Rattle.std.specs.Prelude.{◌≡◌, IfOk, IfSome, List, None, Some};
 ghost use Rattle.space_api.specs.View.{View, Valid};
+ghost use Rattle.task_system.specs.System.{State, System};
+ghost use Rattle.loopless.specs.Rests.{IsKept};
 ghost use Rattle.loopless.specs.Engine.{system_of, most_of, ended_of, IsEngine, HasNone, HasAlone, HasUseful, OwesAll};
 
+use crate::ends::Ends;
 use crate::engine::LooplessPlans;
+use crate::few_states::find_rests;
 use crate::racing::keep_to_reached;
+use crate::rests::Rests;
 use backward_search::{Backward, Kind};
 use prefix_tree::{Entry, Node, Queue, StateGraph, number_of_start};
 use single_states::goal_at;
@@ -13,6 +18,16 @@ use space_api::Space;
 use std::alloc::Global;
 use std::cmp::Reverse;
 use symk_task::Memory;
+
+/// What was found, or nothing.
+fn found_or_none(alloc: Global, found: Option<Rests>) -> Rests
+    ensures { (y : System) (states : List State) → IfSome found (IsKept y states) → IsKept y states result }
+{
+    match found {
+        Some(rests) => rests,
+        None => Rests::new(alloc),
+    }
+}
 
 impl<S: Space + Drop> LooplessPlans<S> {
     /// All loopless plans of the space's system that cost at most `most`, where it is given. No plan is taken
@@ -36,11 +51,14 @@ impl<S: Space + Drop> LooplessPlans<S> {
         ensures last { IfOk result (λ x. ended_of x ≡ None) }
     {
         let mut space = space;
-        let backward = Backward::new(alloc, &mut space, within, Kind::Least)?;
-        let backward = keep_to_reached(alloc, &mut space, backward, within, most)?;
         let mut graph = StateGraph::new(alloc);
         let start = number_of_start(alloc, &space, &mut graph)?;
         let at_goal = goal_at(alloc, &space, graph.state(start))?;
+        let found = find_rests(alloc, &space, &mut graph)?;
+        let is_known = found.is_some();
+        let rests = found_or_none(alloc, found);
+        let backward = Backward::new(alloc, &mut space, within, Kind::Least)?;
+        let backward = keep_to_reached(alloc, &mut space, backward, within, most, is_known)?;
         let mut tree = Vec::new(alloc);
         tree.push(Node {
             parent: 0,
@@ -59,7 +77,7 @@ impl<S: Space + Drop> LooplessPlans<S> {
         Ok(LooplessPlans {
             space,
             backward,
-            graph,
+            ends: Ends { graph, rests },
             tree,
             queue,
             most,

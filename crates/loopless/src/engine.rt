@@ -1,8 +1,9 @@
 //! The engine: loopless plans, the cheapest first.
 
+use crate::ends::Ends;
 use backward_search::Backward;
 use lazy_plans::Stop;
-use prefix_tree::{Node, Queue, StateGraph};
+use prefix_tree::{Node, Queue};
 use space_api::Space;
 use symk_task::Plan;
 
@@ -11,8 +12,8 @@ use symk_task::Plan;
 pub struct LooplessPlans<S: Space> {
     pub(crate) space: S,
     pub(crate) backward: Backward<S::Set>,
-    /// The states to which prefixes come.
-    pub(crate) graph: StateGraph,
+    /// The states to which prefixes come, and what is left from them.
+    pub(crate) ends: Ends,
     /// The prefixes that were made.
     pub(crate) tree: Vec<Node>,
     /// Those that may go on.
@@ -50,7 +51,7 @@ impl<S: Space> LooplessPlans<S> {
             alloc,
             &mut self.space,
             &mut self.backward,
-            &mut self.graph,
+            &mut self.ends,
             &mut self.tree,
             self.most,
             &mut self.queue,

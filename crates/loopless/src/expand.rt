@@ -8,10 +8,12 @@ ghost use Rattle.prefix_tree.specs.StateGraph.{states_of, IsStateGraph, IsMove, 
 ghost use Rattle.prefix_tree.specs.Entries.{HasRoom, entries_of};
 ghost use Rattle.symk_task.specs.declared.parts.Mode.TheVariants.{Loopless};
 ghost use Rattle.loopless.specs.Left.{IsWide};
+ghost use Rattle.loopless.specs.Rests.{IsKept};
 ghost use Rattle.loopless.specs.Children.{IsEntry, Added, AreChildren};
 
 use crate::left::left_after;
 use crate::reach::reach;
+use crate::rests::Rests;
 use backward_search::Backward;
 use prefix_tree::{Entry, Move, Node, Queue, StateGraph, add, find_moves, node_at};
 use space_api::{Space, SpaceFault};
@@ -44,6 +46,7 @@ fn add_child<S: Space>(
     space: &S,
     backward: &Backward<S::Set>,
     graph: &StateGraph,
+    rests: &mut Rests,
     tree: &mut Vec<Node>,
     entry: Entry,
     step: Move,
@@ -52,10 +55,12 @@ fn add_child<S: Space>(
     requires backward { IsBackward (S.view space.now) backward.now }
     requires wide { IsWide (S.view space.now) backward.now }
     requires graph { IsStateGraph (S.view space.now).system graph.now }
+    requires kept { IsKept (S.view space.now).system (states_of graph.now) rests.old }
     requires tree { IsTree (S.view space.now).system Loopless (states_of graph.now) tree.old.items }
     requires entry { IsEntry (S.view space.now).system tree.old.items entry }
     requires step { IsMove (S.view space.now).system (states_of graph.now)
         (end_at (states_of graph.now) tree.old.items entry.node) step }
+    ensures kept { IsKept (S.view space.now).system (states_of graph.now) rests.new }
     ensures grows { Grows (S.view space.now).system Loopless (states_of graph.now)
         tree.old.items tree.new.items }
     ensures added { OnOk result (Added (S.view space.now).system tree.new.items
@@ -63,7 +68,9 @@ fn add_child<S: Space>(
 {
     let cost = entry.cost + space.cost_of(step.op) as u128;
     let low = left_after(entry.bound.0, cost);
-    match reach(alloc, space, backward, graph, tree, entry.node, step, low)? {
+    match reach(
+        alloc, space, backward, graph, rests, tree, entry.node, step, low,
+    )? {
         None => Ok(()),
         Some(to) => {
             let node = add(tree, entry.node, step.op, step.to)?;
@@ -80,6 +87,7 @@ fn add_all<S: Space>(
     space: &S,
     backward: &Backward<S::Set>,
     graph: &StateGraph,
+    rests: &mut Rests,
     tree: &mut Vec<Node>,
     entry: Entry,
     moves: &[Move],
@@ -88,18 +96,22 @@ fn add_all<S: Space>(
     requires backward { IsBackward (S.view space.now) backward.now }
     requires wide { IsWide (S.view space.now) backward.now }
     requires graph { IsStateGraph (S.view space.now).system graph.now }
+    requires kept { IsKept (S.view space.now).system (states_of graph.now) rests.old }
     requires tree { IsTree (S.view space.now).system Loopless (states_of graph.now) tree.old.items }
     requires entry { IsEntry (S.view space.now).system tree.old.items entry }
     requires moves { AreMoves (S.view space.now).system (states_of graph.now)
         (end_at (states_of graph.now) tree.old.items entry.node) moves.now }
     requires none { children.old.items ≡ [] }
+    ensures kept { IsKept (S.view space.now).system (states_of graph.now) rests.new }
     ensures grows { Grows (S.view space.now).system Loopless (states_of graph.now)
         tree.old.items tree.new.items }
     ensures children { OnOk result (AreChildren (S.view space.now).system tree.new.items
         (path_at tree.old.items entry.node) (S.view space.now).system.operators children.new.items) }
 {
     'moves: for step in moves {
-        add_child(alloc, space, backward, graph, tree, entry, *step, children)?;
+        add_child(
+            alloc, space, backward, graph, rests, tree, entry, *step, children,
+        )?;
     }
     Ok(())
 }
@@ -110,6 +122,7 @@ pub(crate) fn expand<S: Space>(
     space: &S,
     backward: &Backward<S::Set>,
     graph: &mut StateGraph,
+    rests: &mut Rests,
     tree: &mut Vec<Node>,
     queue: &mut Queue,
     entry: Entry,
@@ -117,9 +130,11 @@ pub(crate) fn expand<S: Space>(
     requires backward { IsBackward (S.view space.now) backward.now }
     requires wide { IsWide (S.view space.now) backward.now }
     requires graph { IsStateGraph (S.view space.now).system graph.old }
+    requires kept { IsKept (S.view space.now).system (states_of graph.old) rests.old }
     requires tree { IsTree (S.view space.now).system Loopless (states_of graph.old) tree.old.items }
     requires entry { IsEntry (S.view space.now).system tree.old.items entry }
     ensures graph { IsStateGraph (S.view space.now).system graph.new }
+    ensures kept { IsKept (S.view space.now).system (states_of graph.new) rests.new }
     ensures queue { entries_of queue.new ≡ entries_of queue.old }
     ensures grows { Grows (S.view space.now).system Loopless (states_of graph.new)
         tree.old.items tree.new.items }
@@ -138,6 +153,7 @@ pub(crate) fn expand<S: Space>(
                 space,
                 backward,
                 graph,
+                rests,
                 tree,
                 entry,
                 moves,

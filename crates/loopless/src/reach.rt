@@ -10,9 +10,11 @@ ghost use Rattle.prefix_tree.specs.StateGraph.{states_of, state_at, IsStateGraph
 ghost use Rattle.prefix_tree.specs.Tree.{IsTree, path_at, end_at};
 ghost use Rattle.symk_task.specs.declared.parts.Mode.TheVariants.{Loopless};
 ghost use Rattle.loopless.specs.Left.{IsWide, CostsAtLeast, EndsAtLeast};
+ghost use Rattle.loopless.specs.Rests.{IsKept};
 ghost use Rattle.loopless.specs.Reach.{IsReach};
 
 use crate::left::{Left, left_from};
+use crate::rests::Rests;
 use backward_search::Backward;
 use prefix_tree::{Move, Node, StateGraph, passes};
 use single_states::goal_at;
@@ -51,6 +53,7 @@ pub(crate) fn reach<S: Space>(
     space: &S,
     backward: &Backward<S::Set>,
     graph: &StateGraph,
+    rests: &mut Rests,
     tree: &[Node],
     node: usize,
     step: Move,
@@ -59,21 +62,22 @@ pub(crate) fn reach<S: Space>(
     requires backward { IsBackward (S.view space.now) backward.now }
     requires wide { IsWide (S.view space.now) backward.now }
     requires graph { IsStateGraph (S.view space.now).system graph.now }
+    requires kept { IsKept (S.view space.now).system (states_of graph.now) rests.old }
     requires tree { IsTree (S.view space.now).system Loopless (states_of graph.now) tree.now }
     requires node { node < length tree.now }
     requires step { IsMove (S.view space.now).system (states_of graph.now)
         (end_at (states_of graph.now) tree.now node) step }
     requires low { EndsAtLeast (S.view space.now).system (path_at tree.now node ++ step.op ∷ []) low }
-    ensures { IfOk result (IsReach (S.view space.now).system (path_at tree.now node) step.op) }
+    ensures kept { IsKept (S.view space.now).system (states_of graph.now) rests.new }
+    ensures reach { IfOk result (IsReach (S.view space.now).system (path_at tree.now node) step.op) }
 {
     if passes(tree, node, step.to) {
         return Ok(None);
     }
-    let next = graph.state(step.to);
-    match left_from(space, backward, next, low) {
+    match left_from(space, backward, graph, rests, step.to, low) {
         None => Ok(None),
         Some(left) => {
-            let at_goal = goal_after(alloc, space, next, left)?;
+            let at_goal = goal_after(alloc, space, graph.state(step.to), left)?;
             Ok(Some(Reached { left, at_goal }))
         }
     }

@@ -7,21 +7,24 @@ ghost use Rattle.prefix_tree.specs.StateGraph.{states_of, IsStateGraph};
 ghost use Rattle.prefix_tree.specs.Tree.{IsTree};
 ghost use Rattle.symk_task.specs.declared.parts.Mode.TheVariants.{Loopless};
 ghost use Rattle.loopless.specs.Left.{IsWide};
+ghost use Rattle.loopless.specs.Rests.{IsKept};
 ghost use Rattle.loopless.specs.Children.{IsEntry};
 ghost use Rattle.loopless.specs.Standing.{Moved, IsBetter, stale};
 
 use crate::left::{Left, left_after, left_from};
+use crate::rests::Rests;
 use backward_search::Backward;
 use prefix_tree::{Entry, Node, StateGraph, node_at};
 use space_api::{Space, SpaceFault};
 use std::alloc::Global;
 use std::cmp::Reverse;
 
-/// Settles one cost more of the search back, unless it knows more already than the entry's bound says.
+/// Settles one cost more of the search back, unless more is known already than the entry's bound says.
 fn look_further<S: Space>(
     alloc: Global,
     space: &mut S,
     backward: &mut Backward<S::Set>,
+    is_known: bool,
     entry: Entry,
 ) -> Result<(), SpaceFault>
     requires backward { IsBackward (S.view space.old) backward.old }
@@ -29,7 +32,7 @@ fn look_further<S: Space>(
     ensures backward { IsBackward (S.view space.new) backward.new }
     ensures moved { Moved (S.view space.old) (S.view space.new) backward.old backward.new }
 {
-    if entry.bound.0 - entry.cost < backward.layers().known_below() {
+    if is_known || entry.bound.0 - entry.cost < backward.layers().known_below() {
         return Ok(());
     }
     backward.extend(alloc, space)?;
@@ -85,20 +88,23 @@ fn improve<S: Space>(
     space: &S,
     backward: &Backward<S::Set>,
     graph: &StateGraph,
+    rests: &mut Rests,
     tree: &[Node],
     entry: Entry,
 ) -> Option<Entry>
     requires backward { IsBackward (S.view space.now) backward.now }
     requires wide { IsWide (S.view space.now) backward.now }
     requires graph { IsStateGraph (S.view space.now).system graph.now }
+    requires kept { IsKept (S.view space.now).system (states_of graph.now) rests.old }
     requires tree { IsTree (S.view space.now).system Loopless (states_of graph.now) tree.now }
     requires entry { IsEntry (S.view space.now).system tree.now entry }
     requires open { IsFalse entry.settled }
-    ensures { IsBetter (S.view space.now).system tree.now entry result }
+    ensures kept { IsKept (S.view space.now).system (states_of graph.now) rests.new }
+    ensures better { IsBetter (S.view space.now).system tree.now entry result }
 {
     let low = left_after(entry.bound.0, entry.cost);
     let here = node_at(tree, entry.node);
-    match left_from(space, backward, graph.state(here.state), low) {
+    match left_from(space, backward, graph, rests, here.state, low) {
         None => None,
         Some(left) => Some(improved(entry, left)),
     }
@@ -111,19 +117,24 @@ pub(crate) fn refresh<S: Space>(
     space: &mut S,
     backward: &mut Backward<S::Set>,
     graph: &StateGraph,
+    rests: &mut Rests,
     tree: &[Node],
     entry: Entry,
 ) -> Result<Option<Entry>, SpaceFault>
     requires backward { IsBackward (S.view space.old) backward.old }
     requires wide { IsWide (S.view space.old) backward.old }
     requires graph { IsStateGraph (S.view space.old).system graph.now }
+    requires kept { IsKept (S.view space.old).system (states_of graph.now) rests.old }
     requires tree { IsTree (S.view space.old).system Loopless (states_of graph.now) tree.now }
     requires entry { IsEntry (S.view space.old).system tree.now entry }
     requires open { IsFalse entry.settled }
     ensures backward { IsBackward (S.view space.new) backward.new }
     ensures moved { Moved (S.view space.old) (S.view space.new) backward.old backward.new }
+    ensures kept { IsKept (S.view space.old).system (states_of graph.now) rests.new }
     ensures better { IfOk result (IsBetter (S.view space.old).system tree.now entry) }
 {
-    look_further(alloc, space, backward, entry)?;
-    Ok(improve(space, backward, graph, tree, entry))
+    let here = node_at(tree, entry.node);
+    let is_known = rests.at(here.state).is_some();
+    look_further(alloc, space, backward, is_known, entry)?;
+    Ok(improve(space, backward, graph, rests, tree, entry))
 }

@@ -10,10 +10,11 @@ ghost use Rattle.lazy_plans.specs.Law.{Turned};
 ghost use Rattle.loopless.specs.Standing.{IsReady, Opens};
 ghost use Rattle.loopless.specs.Turned.{TurnOf, CountsTurn, IsPast, IsOut};
 
+use crate::ends::Ends;
 use crate::turn::{learn, open};
 use backward_search::Backward;
 use lazy_plans::{Steps, Stop};
-use prefix_tree::{Entry, Node, Queue, StateGraph};
+use prefix_tree::{Entry, Node, Queue};
 use space_api::{Space, SpaceFault};
 use std::alloc::Global;
 use std::sync::ledger::Ledger;
@@ -53,17 +54,17 @@ fn act<S: Space, L: Ledger>(
     alloc: Global,
     space: &mut S,
     backward: &mut Backward<S::Set>,
-    graph: &mut StateGraph,
+    ends: &mut Ends,
     tree: &mut Vec<Node>,
     queue: &mut Queue,
     entry: Entry,
     steps: &mut Steps<L>,
 ) -> Result<Option<Plan>, SpaceFault>
-    requires ready { IsReady (S.view space.old) backward.old graph.old tree.old.items (entries_of queue.old) }
+    requires ready { IsReady (S.view space.old) backward.old ends.old tree.old.items (entries_of queue.old) }
     requires some { 0 < length (entries_of queue.old) }
     requires first { entry ≡ slice_index_or (entries_of queue.old) 0 entry }
     ensures system { (S.view space.new).system ≡ (S.view space.old).system }
-    ensures ready { IsReady (S.view space.new) backward.new graph.new tree.new.items (entries_of queue.new) }
+    ensures ready { IsReady (S.view space.new) backward.new ends.new tree.new.items (entries_of queue.new) }
     ensures ok { IfOk result (Opens (S.view space.old).system tree.old.items tree.new.items entry
         (entries_of queue.old) (entries_of queue.new)) }
     ensures err { OnErr result (prefixes tree.new.items (entries_of queue.new) ≡ prefixes tree.old.items
@@ -72,9 +73,9 @@ fn act<S: Space, L: Ledger>(
     ensures none { OnErr result (steps.new ≡ steps.old) }
 {
     if entry.settled {
-        return open(alloc, space, backward, graph, tree, queue, entry, steps);
+        return open(alloc, space, backward, ends, tree, queue, entry, steps);
     }
-    learn(alloc, space, backward, graph, tree, queue, entry, steps)?;
+    learn(alloc, space, backward, ends, tree, queue, entry, steps)?;
     Ok(None)
 }
 
@@ -83,17 +84,17 @@ fn take_turn<S: Space, L: Ledger>(
     alloc: Global,
     space: &mut S,
     backward: &mut Backward<S::Set>,
-    graph: &mut StateGraph,
+    ends: &mut Ends,
     tree: &mut Vec<Node>,
     most: Option<u64>,
     queue: &mut Queue,
     steps: &mut Steps<L>,
 ) -> Result<Turn, SpaceFault>
-    requires ready { IsReady (S.view space.old) backward.old graph.old tree.old.items (entries_of queue.old) }
+    requires ready { IsReady (S.view space.old) backward.old ends.old tree.old.items (entries_of queue.old) }
     requires right { Right (S.view space.old).system Loopless most
         (prefixes tree.old.items (entries_of queue.old)) }
     ensures system { (S.view space.new).system ≡ (S.view space.old).system }
-    ensures ready { IsReady (S.view space.new) backward.new graph.new tree.new.items (entries_of queue.new) }
+    ensures ready { IsReady (S.view space.new) backward.new ends.new tree.new.items (entries_of queue.new) }
     ensures ok { IfOk result (TurnOf (S.view space.old).system most tree.old.items tree.new.items
         (entries_of queue.old) (entries_of queue.new)) }
     ensures err { OnErr result (prefixes tree.new.items (entries_of queue.new) ≡ prefixes tree.old.items
@@ -110,7 +111,7 @@ fn take_turn<S: Space, L: Ledger>(
             if is_out(most, entry) {
                 return Ok(Turn::OutOfRange);
             }
-            match act(alloc, space, backward, graph, tree, queue, entry, steps)? {
+            match act(alloc, space, backward, ends, tree, queue, entry, steps)? {
                 None => Ok(Turn::Goes),
                 Some(plan) => Ok(Turn::Gives(plan)),
             }
@@ -123,17 +124,17 @@ pub fn walk<S: Space, L: Ledger>(
     alloc: Global,
     space: &mut S,
     backward: &mut Backward<S::Set>,
-    graph: &mut StateGraph,
+    ends: &mut Ends,
     tree: &mut Vec<Node>,
     most: Option<u64>,
     queue: &mut Queue,
     steps: &mut Steps<L>,
 ) -> Result<Option<Plan>, Stop>
-    requires ready { IsReady (S.view space.old) backward.old graph.old tree.old.items (entries_of queue.old) }
+    requires ready { IsReady (S.view space.old) backward.old ends.old tree.old.items (entries_of queue.old) }
     requires right { Right (S.view space.old).system Loopless most
         (prefixes tree.old.items (entries_of queue.old)) }
     ensures system { (S.view space.new).system ≡ (S.view space.old).system }
-    ensures ready { IsReady (S.view space.new) backward.new graph.new tree.new.items (entries_of queue.new) }
+    ensures ready { IsReady (S.view space.new) backward.new ends.new tree.new.items (entries_of queue.new) }
     ensures right { Right (S.view space.old).system Loopless most
         (prefixes tree.new.items (entries_of queue.new)) }
     ensures law { Turned (S.view space.old).system Loopless most
@@ -142,7 +143,7 @@ pub fn walk<S: Space, L: Ledger>(
         result }
 {
     'turns: loop {
-        match take_turn(alloc, space, backward, graph, tree, most, queue, steps) {
+        match take_turn(alloc, space, backward, ends, tree, most, queue, steps) {
             Err(_) => return Err(Stop::Memory),
             Ok(turn) => match turn {
                 Turn::Goes => {}

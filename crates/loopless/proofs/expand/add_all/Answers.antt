@@ -18,6 +18,7 @@ moves-init g c =
     let a = c.args.tree.now.items in
     let e = path_at a c.args.entry.node in
     record {
+      kept = c.requires.kept;
       grows = grows_refl y Loopless (states_of c.args.graph.now) a c.requires.tree;
       children = (0, past_none (ops_of c.args.moves.now), omega arith, subst (AreChildren y a e 0) (sym c.requires.none) (children_none y a e));
     }
@@ -54,6 +55,7 @@ moves-preserved g c =
     let added = subst (λ (k : ℕ). Added y t e k old new) is (subst (λ (p : List ℕ). Added y t p (get_or c.args.moves.now c.moves.step-index d).op old new) path c.in_ok-add_child.ensures.added) in
     let sofar = skip_to y ss a c.args.entry.node moves c.requires.tree c.requires.entry.inside c.requires.moves b old at i.children.0 op i.children.1 (i.children.1.above at (omega arith) inside) (never_falls ops c.requires.moves.rising at) i.children.3 in
     record {
+      kept = c.add_child.ensures.kept;
       grows = grows_trans y Loopless ss a b t i.grows m;
       children = (op + 1, past_next ops c.requires.moves.rising at inside, omega (arith, known), children_next y t e op old new (children_like y b t e op old m.longer m.paths sofar) added);
     }

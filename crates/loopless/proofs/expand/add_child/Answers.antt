@@ -17,7 +17,7 @@ returns-in_err-push-in-Some-clause-grows g c =
     let ss = states_of c.args.graph.now in
     let nodes = c.args.tree.now.items in
     let n : Node = record { parent = c.args.entry.node; op = c.args.step.op; state = c.args.step.to } in
-    let longer = rw c.in-Some.is at (rw c.deref.ensures.value at c.in_ok-reach.ensures) in
+    let longer = rw c.in-Some.is at (rw c.deref.ensures.value at c.in_ok-reach.ensures.reach) in
     let run = next_run y Loopless ss nodes c.args.entry.node c.requires.tree c.requires.entry.inside c.args.step c.requires.step in
     rw c.in_ok-node-in-Some.ensures.child (grows_push y ss nodes n c.requires.tree c.requires.entry.inside c.in-Some.to longer c.requires.step.within run)
 
@@ -27,7 +27,7 @@ returns-in_ok-push-in-Some-clause-grows g c =
     let ss = states_of c.args.graph.now in
     let nodes = c.args.tree.now.items in
     let n : Node = record { parent = c.args.entry.node; op = c.args.step.op; state = c.args.step.to } in
-    let longer = rw c.in-Some.is at (rw c.deref.ensures.value at c.in_ok-reach.ensures) in
+    let longer = rw c.in-Some.is at (rw c.deref.ensures.value at c.in_ok-reach.ensures.reach) in
     let run = next_run y Loopless ss nodes c.args.entry.node c.requires.tree c.requires.entry.inside c.args.step c.requires.step in
     rw c.in_ok-node-in-Some.ensures.child (grows_push y ss nodes n c.requires.tree c.requires.entry.inside c.in-Some.to longer c.requires.step.within run)
 
@@ -37,7 +37,7 @@ returns-in_ok-push-in-Some-clause-added g c =
     let ss = states_of c.args.graph.now in
     let nodes = c.args.tree.now.items in
     let n : Node = record { parent = c.args.entry.node; op = c.args.step.op; state = c.args.step.to } in
-    let longer = rw c.in-Some.is at (rw c.deref.ensures.value at c.in_ok-reach.ensures) in
+    let longer = rw c.in-Some.is at (rw c.deref.ensures.value at c.in_ok-reach.ensures.reach) in
     let run = next_run y Loopless ss nodes c.args.entry.node c.requires.tree c.requires.entry.inside c.args.step c.requires.step in
     let k = c.entry_of.result in
     let place = c.entry_of.ensures.node ∙ c.in_ok-node-in-Some.ensures.place in

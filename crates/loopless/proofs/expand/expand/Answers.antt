@@ -5,6 +5,7 @@ use Rattle.prefix_tree.proofs.Paths.{grows_refl, tree_prolonged}
 use Rattle.prefix_tree.proofs.Passing.{number_is}
 use Rattle.symk_task.specs.declared.parts.Mode.TheVariants.{Loopless}
 use Rattle.prefix_tree.proofs.Going.{end_within}
+use Rattle.loopless.proofs.Resting.{kept_prolonged}
 use Rattle.loopless.proofs.expand.expand.Goals as goal
 
 pub find_moves-requires-clause-number : goal.find_moves-requires-clause-number
@@ -30,3 +31,9 @@ add_all-requires-clause-moves g c =
     let ss = states_of c.find_moves.new.graph in
     let all = c.find_moves.ensures.graph.moves c.node_at-here.result.state c.in-Some.moves.now c.in-Some.ensures.found in
     subst (λ (k : ℕ). AreMoves y ss (state_at ss k) c.in-Some.moves.now) (number_is nodes c.args.entry.node c.node_at-here.result c.requires.entry.inside is) all.1
+
+pub returns-in_err-find_moves-clause-kept : goal.returns-in_err-find_moves-clause-kept
+returns-in_err-find_moves-clause-kept g c = kept_prolonged (g.S.Space.view c.args.space.now).system (states_of c.args.graph.now) (states_of c.find_moves.new.graph) c.args.rests.now c.find_moves.ensures.prolongs c.requires.kept
+
+pub add_all-requires-clause-kept : goal.add_all-requires-clause-kept
+add_all-requires-clause-kept g c = kept_prolonged (g.S.Space.view c.args.space.now).system (states_of c.args.graph.now) (states_of c.find_moves.new.graph) c.args.rests.now c.find_moves.ensures.prolongs c.requires.kept

@@ -22,7 +22,7 @@ returns-then-is_out-clause-ok g c =
     let es = entries_of c.args.queue.now in
     let e = c.in-Some.entry in
     let least = recursion_from_All (λ (k : Entry). e.bound.0 ≤ k.bound.0) es c.in-Some.ensures.least in
-    (out_turn v c.args.backward.now c.args.graph.now c.args.most c.args.tree.now.items es e (c.is_out.ensures.0 c.if-is_out.true) c.requires.ready c.requires.right c.in-Some.ensures.some c.in-Some.ensures.at least, refl)
+    (out_turn v c.args.backward.now c.args.ends.now c.args.most c.args.tree.now.items es e (c.is_out.ensures.0 c.if-is_out.true) c.requires.ready c.requires.right c.in-Some.ensures.some c.in-Some.ensures.at least, refl)
 
 pub returns-in-None-2-clause-ok : goal.returns-in-None-2-clause-ok
 returns-in-None-2-clause-ok g c =

@@ -12,7 +12,7 @@ invariant-turns g l =
     let y = (view l.fn.space).system in
     record {
       system : (view l.space).system ≡ y;
-      ready : IsReady (view l.space) l.backward l.graph l.tree.items (entries_of l.queue);
+      ready : IsReady (view l.space) l.backward l.ends l.tree.items (entries_of l.queue);
       right : Right y Loopless l.most (prefixes l.tree.items (entries_of l.queue));
       stays : Stays (Pending y Loopless (prefixes l.fn.tree.items (entries_of l.fn.queue))) (Pending y Loopless (prefixes l.tree.items (entries_of l.queue)));
     }

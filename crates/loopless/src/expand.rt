@@ -39,7 +39,7 @@ fn entry_of(cost: u128, left: u128, node: usize, settled: bool, at_goal: bool) -
     }
 }
 
-/// Adds the child by this move to the tree and to the children, where a loopless plan may go on so. Want of memory
+/// Adds the child by this move to the tree and to the children, where a loopless plan may go on so. Out of memory, it
 /// leaves the children as they were.
 fn add_child<S: Space>(
     alloc: Global,
@@ -80,7 +80,7 @@ fn add_child<S: Space>(
     }
 }
 
-/// Adds the children by all moves from the end of the entry's prefix to the tree and to the children. Want of memory
+/// Adds the children by all moves from the end of the entry's prefix to the tree and to the children. Out of memory, it
 /// leaves what came so far.
 fn add_all<S: Space>(
     alloc: Global,

@@ -48,7 +48,7 @@ impl Rests {
         self.kept.len() <= states
     }
 
-    /// Keeps what is left from the state of this number. Want of memory only means that it is looked for again.
+    /// Keeps what is left from the state of this number. Out of memory only means that it is looked for again.
     pub fn keep(&mut self, number: usize, rest: Rest)
         ensures { PutsRest self.old self.new number rest }
     {

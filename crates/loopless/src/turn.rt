@@ -32,7 +32,7 @@ fn one_or_none(alloc: Global, entry: Option<Entry>) -> Result<Vec<Entry>, AllocE
 }
 
 /// A turn that learns more of the first entry's bound, which puts it where it then belongs, or takes it out where no
-/// plan goes on from it. Want of memory leaves the entries.
+/// plan goes on from it. Out of memory, it leaves the entries.
 pub fn learn<S: Space, L: Ledger>(
     alloc: Global,
     space: &mut S,
@@ -82,8 +82,8 @@ fn plan_of(alloc: Global, tree: &[Node], entry: Entry) -> Result<Option<Plan>, A
     Ok(None)
 }
 
-/// A turn that takes the first entry out and puts its children in, and gives the plan that it is, if it is one. Want of
-/// memory leaves the entries.
+/// A turn that takes the first entry out and puts its children in, and gives the plan that it is, if it is one. Out of
+/// memory, it leaves the entries.
 pub fn open<S: Space, L: Ledger>(
     alloc: Global,
     space: &S,

@@ -119,7 +119,7 @@ fn take_turn<S: Space, L: Ledger>(
     }
 }
 
-/// The next loopless plan out of the queue. Each entry that is taken is one step. Want of memory leaves what pends.
+/// The next loopless plan out of the queue. Each entry that is taken is one step. Out of memory, it leaves what pends.
 pub fn walk<S: Space, L: Ledger>(
     alloc: Global,
     space: &mut S,

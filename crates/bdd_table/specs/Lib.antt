@@ -1,3 +1,4 @@
 pub mod Diagram
 pub mod Collected
 pub mod NodeHash
+pub mod WordHash

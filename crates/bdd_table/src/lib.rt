@@ -8,6 +8,7 @@
 //! Manipulation" (1986). It stands on `indexmap`, whose set gives a node its place in one look-up.
 #![tactic(auto)]
 
+mod hashing;
 mod marks;
 mod node;
 mod rebuild;

@@ -4,11 +4,13 @@ ghost use Rattle.std.specs.Prelude.{◌≡◌, ◌≢◌, ℕ, ◌+◌, ◌^◌,
 ghost use Rattle.bdd_table.specs.Diagram.{Bits, bits_of, bottom, node_of, at, level_of, means, IsReduced, Grows, Keeps, Adds};
 ghost use Rattle.bdd_table.specs.Collected.{IsMoved, Reaches, AreReached};
 
+use crate::hashing::WordHasher;
 use crate::marks::mark;
 use crate::node::Node;
 use crate::rebuild::rebuild;
 use indexmap::IndexSet;
 use std::alloc::{AllocError, Global};
+use std::hash::BuildHasherDefault;
 use std::marker::Model;
 
 /// The name of a diagram in its table: a place. 0 is false, 1 is true, and nodes count on from 2.
@@ -26,11 +28,14 @@ pub const TRUE: Id = 1;
 /// The level of the two constants.
 const BOTTOM: u32 = u32::MAX;
 
+/// Nodes, each once, found by their hashes.
+type Nodes = IndexSet<Node, BuildHasherDefault<WordHasher>>;
+
 /// Unique table: nodes, each once. Contracts see it as the list of its nodes by Id, the constants first; the list is
 /// always reduced.
 #[derive(Drop)]
 pub struct Table {
-    nodes: IndexSet<Node>,
+    nodes: Nodes,
 }
 
 impl Model for Table {
@@ -51,7 +56,7 @@ impl Table {
         ensures empty { IfOk result (λ t. t ≡ node_of bottom 0 0 ∷ node_of bottom 1 1 ∷ []) }
         ensures reduced { IfOk result IsReduced }
     {
-        let mut nodes = IndexSet::new(alloc);
+        let mut nodes = IndexSet::with_hasher(alloc, BuildHasherDefault::new());
         nodes.insert_full(constant(0))?;
         nodes.insert_full(constant(1))?;
         Ok(Table { nodes })
@@ -220,7 +225,7 @@ fn constant(id: u32) -> Node
 }
 
 /// The place of the node, which goes last if it is new.
-fn add(nodes: &mut IndexSet<Node>, node: Node) -> Result<Id, TableFault>
+fn add(nodes: &mut Nodes, node: Node) -> Result<Id, TableFault>
     ensures ok { IfOk result (Adds nodes.old.keys node nodes.new.keys) }
     ensures err { OnErr result (nodes.new.keys ≡ nodes.old.keys) }
 {

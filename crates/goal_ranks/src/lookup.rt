@@ -15,7 +15,7 @@ ghost use Rattle.run_graph.specs.Reached.{ReachedAt, AtCost, ReachedInside};
 ghost use Rattle.run_graph.specs.declared.Side.TheVariants.{Back};
 ghost use Rattle.rank_laws.specs.Inside.{InsideAt};
 ghost use Rattle.rank_laws.specs.Ranks.{NoneBelow};
-ghost use Rattle.goal_ranks.specs.Lists.{IsNextKey};
+ghost use Rattle.goal_ranks.specs.Lists.{IsNextKey, IsFirstWaiting};
 ghost use Rattle.goal_ranks.specs.Ranks.{IsGoalRanks, HasRank, WaitsIn, within_of, ranks_of, beyond_of, left_of, items_of, slots_of};
 ghost use Rattle.goal_ranks.specs.Known.{HasWay, IsOutside, IsNewest};
 
@@ -81,7 +81,8 @@ impl<T: Copy> GoalRanks<T> {
     /// Of the sets that wait in slots the one of the least key. None where no slot has one. The set stays its owner's, until
     /// a turn.
     pub fn first_waiting(&self) -> Option<Waiting<T>>
-        ensures { (v : View T) → IsGoalRanks v self.now → IfSome result (λ waiting. Valid v waiting.set) }
+        ensures valid { (v : View T) → IsGoalRanks v self.now → IfSome result (λ waiting. Valid v waiting.set) }
+        ensures value { IsFirstWaiting (slots_of self.now) result }
     {
         let least = self.slot_keys.least()?;
         if least.index >= self.slots.len() {

@@ -173,13 +173,13 @@ def row_faults():
 
 
 def statement_faults():
-    """The list at the end of docs/PROVED.md against the files that the contract of `run` reaches; of src/ it may name the edge too."""
+    """The list at the end of docs/PROVED.md against the files where contracts start and those that they reach; it may name the edge too."""
     text = (TOP / "docs" / "PROVED.md").read_text(encoding="utf-8").split("## What you read to believe the program")[1]
     named = {it for it in re.findall(r"`(?:crates/)?(\w+/(?:specs|src)/[\w/]+\.(?:antt|rt))`", text)}
-    wanted = {"%s/%s" % place for place in statement.of_run()} | {"symk_cli/src/top.rt"}
+    wanted = {"%s/%s" % place[:2] for place in [*statement.of_program(), *statement.STARTS]}
     for name in sorted(named | wanted):
-        is_edge = name in ("symk_cli/src/main.rt", "symk_io/src/host.rt")
-        yield name, "isn't in the list of what one reads" if name not in named else None if name in wanted or is_edge else "isn't reached by the contract of run"
+        is_edge = name == "symk_io/src/host.rt"
+        yield name, "isn't in the list of what one reads" if name not in named else None if name in wanted or is_edge else "isn't reached by a contract"
 
 
 def counts():

@@ -1,8 +1,9 @@
 #!/usr/bin/env python3
 """statement.py [NAME..]: which definitions the contract of `run` reaches, by files; with names, those that these definitions reach.
 
-A clause names definitions of specs/, and these name others: what stands in the files that are printed is all that one has to read to
-know what `run` promises. Beside each file stand the lines of the definitions reached there, and how many these are. What is declared in src/
+With it go the contracts of the traits over whose files and sinks it runs, and of `exit_of`, by which the program ends. A clause names
+definitions of specs/, and these name others: what stands in the files that are printed is all that one has to read to know what `run`
+promises. Beside each file stand the lines of the definitions reached there, and how many these are. What is declared in src/
 (types and constants) is reached by its own file. Definitions of the toolchain's libraries aren't followed.
 """
 import re
@@ -11,7 +12,8 @@ from functools import lru_cache
 from pathlib import Path
 
 TOP = Path(__file__).resolve().parent.parent
-RUN = ("symk_cli", "src/top.rt", "run")
+STARTS = (("symk_cli", "src/top.rt", "run"), ("symk_io", "src/files.rt", "Files"), ("symk_io", "src/sink.rt", "Sink"),
+          ("symk_cli", "src/main.rt", "exit_of"))
 WORD = re.compile(r"[A-Za-z_][\w'-]*(?:\.[A-Za-z_][\w'-]*)*")
 USE = re.compile(r"^(?:pub )?(?:ghost )?use Rattle\.(\w+)\.specs\.([\w.]+?)(?:\.\{([^}]*)\}| as (\w+));?$", re.MULTILINE)
 HEAD = re.compile(r"^(?:(?:abbrev|unfoldable|pub|record|data) )*(?:pub )?([A-Za-z_][\w'-]*)", re.MULTILINE)
@@ -72,10 +74,10 @@ def definitions(crate, file):
     return found, inner
 
 
-def clauses(crate, file, function):
-    """The contract of a function."""
-    found = re.search(r"\bfn %s\b.*?\n\{" % function, text_of(crate, file), re.DOTALL)
-    return "\n".join(re.findall(r"(?:ensures|requires)[^{]*\{(.*?)\}(?=\n)", found.group(0), re.DOTALL)) if found else ""
+def clauses(crate, file, name):
+    """The contract of a function, or of the calls of a trait."""
+    found = re.search(r"\b(?:fn|trait) %s\b.*?\n[{}]" % name, text_of(crate, file), re.DOTALL)
+    return "\n".join(re.findall(r"(?:ensures|requires)[^{]*\{(.*?)\}(?=;?\n)", found.group(0), re.DOTALL)) if found else ""
 
 
 def reached(start):
@@ -109,14 +111,13 @@ def reached(start):
     return files
 
 
-def of_run():
-    """The files that the contract of `run` reaches."""
-    crate, file, function = RUN
-    return reached([(crate, file, clauses(crate, file, function))])
+def of_program():
+    """The files that the contracts at the start reach."""
+    return reached([(crate, file, clauses(crate, file, name)) for crate, file, name in STARTS])
 
 
 def main(names):
-    files = reached([("symk_cli", "specs/Answer.antt", " ".join(names))]) if names else of_run()
+    files = reached([("symk_cli", "specs/Answer.antt", " ".join(names))]) if names else of_program()
     lines = 0
     for (crate, file), found in sorted(files.items()):
         count = sum(len(it) for it in found.values())

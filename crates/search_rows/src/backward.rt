@@ -55,13 +55,34 @@ fn settles<S: Space>(
     Ok(true)
 }
 
-/// Whether the layer of the cost has the initial state, where there is one.
-fn layer_has_init<S: Space>(space: &S, backward: &Backward<S::Set>, cost: u64) -> Option<bool>
-    requires { IsBackward (S.view space.now) backward.now }
+/// Whether the layer of cost 1 has the initial state alone.
+#[tactic(auto, using(crate::proofs::Standing::backward_stays))]
+fn next_is_init<S: Space>(space: &mut S, backward: &Backward<S::Set>) -> Result<bool, SpaceFault>
+    requires { IsBackward (S.view space.old) backward.now }
+    ensures { IsBackward (S.view space.new) backward.now }
 {
+    let init = space.init()?;
+    match backward.layers().layer(1) {
+        Some(whole) => Ok(space.same(whole, init)),
+        None => Ok(false),
+    }
+}
+
+/// Whether the layer of the cost has the goal states alone.
+#[tactic(auto, using(crate::proofs::Standing::backward_stays))]
+fn layer_is_goal<S: Space>(
+    space: &mut S,
+    backward: &Backward<S::Set>,
+    cost: u64,
+) -> Result<bool, SpaceFault>
+    requires { IsBackward (S.view space.old) backward.now }
+    ensures { IsBackward (S.view space.new) backward.now }
+{
+    let all = space.all()?;
+    let goal = space.goal_in(all)?;
     match backward.layers().layer(cost) {
-        Some(whole) => Some(space.has_init(whole)),
-        None => None,
+        Some(whole) => Ok(space.same(whole, goal)),
+        None => Ok(false),
     }
 }
 
@@ -95,9 +116,9 @@ fn once_each<S: Space>(rt: &impl Abort, alloc: Global, space: &mut S) -> Result<
     let mut backward = begin(alloc, space, Kind::Least)?;
     assert!(rt; settles(alloc, space, &mut backward, 3)?);
     assert!(rt; goes(alloc, space, &mut backward)?.is_none());
-    assert_eq!(rt; layer_has_init(space, &backward, 0), Some(false));
-    assert_eq!(rt; layer_has_init(space, &backward, 1), Some(true));
-    assert_eq!(rt; layer_has_init(space, &backward, 2), None);
+    assert!(rt; layer_is_goal(space, &backward, 0)?);
+    assert!(rt; next_is_init(space, &backward)?);
+    assert!(rt; backward.layers().layer(2).is_none());
     assert!(rt; backward.found().is_some());
     assert_eq!(rt; cost_of_none(space, &backward)?, None);
     assert_eq!(rt; least_cost(space, &backward)?, Some(1));
@@ -141,11 +162,11 @@ fn keep_none<S: Space>(
     backward.narrow(alloc, space, none)
 }
 
-/// On a lamp that is no goal: the goal states come back at each cost, until all are cut.
+/// On a lamp that is no goal: each layer has the goal states, until all are cut.
 fn each_time<S: Space>(rt: &impl Abort, alloc: Global, space: &mut S) -> Result<(), SpaceFault> {
     let mut backward = begin(alloc, space, Kind::Every)?;
     assert!(rt; settles(alloc, space, &mut backward, 3)?);
-    assert_eq!(rt; layer_has_init(space, &backward, 2), Some(false));
+    assert!(rt; layer_is_goal(space, &backward, 2)?);
     keep_none(alloc, space, &mut backward)?;
     assert!(rt; goes(alloc, space, &mut backward)? == Some(3));
     assert!(rt; goes(alloc, space, &mut backward)?.is_none());

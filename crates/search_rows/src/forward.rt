@@ -9,8 +9,7 @@ use bdd_space::BddSpace;
 use explicit_space::{ExplicitSpace, FuseSpace};
 use forward_search::{Forward, Step};
 use small_tasks::{
-    Draft, EffectDraft, OperatorDraft, VariableDraft, drafted, past_64_bits, switch_and_back,
-    zero_costs,
+    Draft, EffectDraft, OperatorDraft, VariableDraft, drafted, switch_and_back, zero_costs,
 };
 use space_api::{Space, SpaceFault};
 use std::alloc::Global;
@@ -58,24 +57,54 @@ fn settles<S: Space>(
     Ok(goes(alloc, space, forward)?.is_none())
 }
 
-/// Whether the layer of the cost has the initial state, where there is one.
-fn layer_has_init<S: Space>(space: &S, forward: &Forward<S::Set>, cost: u64) -> Option<bool>
-    requires { IsForward (S.view space.now) forward.now }
+/// Whether the layer of cost 0 has the initial state alone.
+#[tactic(auto, using(crate::proofs::Standing::forward_stays))]
+fn first_is_init<S: Space>(space: &mut S, forward: &Forward<S::Set>) -> Result<bool, SpaceFault>
+    requires { IsForward (S.view space.old) forward.now }
+    ensures { IsForward (S.view space.new) forward.now }
 {
-    match forward.layers().layer(cost) {
-        Some(whole) => Some(space.has_init(whole)),
-        None => None,
+    let init = space.init()?;
+    match forward.layers().layer(0) {
+        Some(whole) => Ok(space.same(whole, init)),
+        None => Ok(false),
     }
 }
 
-/// On the task of costs 0: layers 0 and 1, of which the first alone has the initial state.
+/// Whether the layer of cost 1 has the goal states alone.
+#[tactic(auto, using(crate::proofs::Standing::forward_stays))]
+fn next_is_goal<S: Space>(space: &mut S, forward: &Forward<S::Set>) -> Result<bool, SpaceFault>
+    requires { IsForward (S.view space.old) forward.now }
+    ensures { IsForward (S.view space.new) forward.now }
+{
+    let all = space.all()?;
+    let goal = space.goal_in(all)?;
+    match forward.layers().layer(1) {
+        Some(whole) => Ok(space.same(whole, goal)),
+        None => Ok(false),
+    }
+}
+
+/// Whether all states are found.
+#[tactic(auto, using(crate::proofs::Standing::forward_stays))]
+fn finds_all<S: Space>(space: &mut S, forward: &Forward<S::Set>) -> Result<bool, SpaceFault>
+    requires { IsForward (S.view space.old) forward.now }
+    ensures { IsForward (S.view space.new) forward.now }
+{
+    let all = space.all()?;
+    match forward.found() {
+        Some(found) => Ok(space.same(found, all)),
+        None => Ok(false),
+    }
+}
+
+/// On the task of costs 0: layer 0 is the initial state, layer 1 the goal state, layer 2 is not there; both are found.
 fn two_layers<S: Space>(rt: &impl Abort, alloc: Global, space: &mut S) -> Result<(), SpaceFault> {
     let mut forward = begin(alloc, space)?;
     assert!(rt; settles(alloc, space, &mut forward, &[0, 1, 2])?);
-    assert_eq!(rt; layer_has_init(space, &forward, 0), Some(true));
-    assert_eq!(rt; layer_has_init(space, &forward, 1), Some(false));
-    assert_eq!(rt; layer_has_init(space, &forward, 2), None);
-    assert!(rt; forward.found().is_some());
+    assert!(rt; first_is_init(space, &forward)?);
+    assert!(rt; next_is_goal(space, &forward)?);
+    assert!(rt; forward.layers().layer(2).is_none());
+    assert!(rt; finds_all(space, &forward)?);
     assert!(rt; !forward.layers().beyond());
     Ok(())
 }
@@ -103,9 +132,43 @@ fn each_layer_has_what_its_cost_reaches_and_an_empty_one_closes(
     Ok(())
 }
 
-/// Cuts the layers to the initial state.
+/// A dear step to the goal, of as much as 64 bits hold, and a cheap one on from there.
+const DEAR: Draft<'_> = Draft {
+    metric: 1,
+    variables: &[VariableDraft {
+        layer: None,
+        values: 3,
+    }],
+    initial: &[0],
+    goal: &[(0, 1)],
+    operators: &[
+        OperatorDraft {
+            name: b"big",
+            effects: &[EffectDraft {
+                conds: &[],
+                var: 0,
+                pre: Some(0),
+                post: 1,
+            }],
+            cost: u64::MAX,
+        },
+        OperatorDraft {
+            name: b"one",
+            effects: &[EffectDraft {
+                conds: &[],
+                var: 0,
+                pre: Some(1),
+                post: 2,
+            }],
+            cost: 1,
+        },
+    ],
+    rules: &[],
+};
+
+/// Cuts the layers to the initial state and the goal states.
 #[tactic(auto, using(crate::proofs::Standing::forward_stays))]
-fn keep_init<S: Space>(
+fn keep_ends<S: Space>(
     alloc: Global,
     space: &mut S,
     forward: &mut Forward<S::Set>,
@@ -114,7 +177,10 @@ fn keep_init<S: Space>(
     ensures { IsForward (S.view space.new) forward.new }
 {
     let init = space.init()?;
-    forward.narrow(alloc, space, init)
+    let all = space.all()?;
+    let goal = space.goal_in(all)?;
+    let ends = space.unite(init, goal)?;
+    forward.narrow(alloc, space, ends)
 }
 
 /// Whether a cost past the range was left out, where the layers were cut after the first or not at all.
@@ -127,7 +193,7 @@ fn is_beyond<S: Space>(
     let mut forward = begin(alloc, space)?;
     assert!(rt; goes(alloc, space, &mut forward)? == Some(0));
     if cut {
-        keep_init(alloc, space, &mut forward)?;
+        keep_ends(alloc, space, &mut forward)?;
     }
     assert!(rt; settles(alloc, space, &mut forward, &[1, u64::MAX])?);
     Ok(forward.layers().beyond())
@@ -144,10 +210,19 @@ fn is_beyond_unless_cut<S: Space + Drop>(
     Ok(())
 }
 
+fn both_are_beyond_unless_cut(
+    rt: &impl Abort,
+    alloc: Global,
+    task: &Task,
+) -> Result<(), SpaceFault> {
+    is_beyond_unless_cut(rt, alloc, ExplicitSpace::of(alloc, task)?)?;
+    is_beyond_unless_cut(rt, alloc, BddSpace::of(alloc, task)?)
+}
+
 #[test]
 fn a_cost_past_the_range_is_marked_unless_its_states_were_cut(rt: HostRuntime) -> Result<(), Fail> {
-    let task = past_64_bits(rt.alloc())?;
-    is_beyond_unless_cut(&rt, rt.alloc(), ExplicitSpace::of(rt.alloc(), &task)?)?;
+    let task = drafted(rt.alloc(), &DEAR)?.expect(&rt, "the draft fits");
+    both_are_beyond_unless_cut(&rt, rt.alloc(), &task)?;
     Ok(())
 }
 
@@ -184,23 +259,6 @@ const FORK: Draft<'_> = Draft {
     ],
     rules: &[],
 };
-
-/// Cuts the layers to the initial state and the goal states.
-#[tactic(auto, using(crate::proofs::Standing::forward_stays))]
-fn keep_ends<S: Space>(
-    alloc: Global,
-    space: &mut S,
-    forward: &mut Forward<S::Set>,
-) -> Result<(), SpaceFault>
-    requires { IsForward (S.view space.old) forward.old }
-    ensures { IsForward (S.view space.new) forward.new }
-{
-    let init = space.init()?;
-    let all = space.all()?;
-    let goal = space.goal_in(all)?;
-    let ends = space.unite(init, goal)?;
-    forward.narrow(alloc, space, ends)
-}
 
 /// Whether the second ring of cost 0 has the goal states alone.
 #[tactic(auto, using(crate::proofs::Standing::forward_stays))]

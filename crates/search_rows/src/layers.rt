@@ -54,6 +54,19 @@ fn add_goal<S: Space>(
     layers.add_ring(alloc, space, 0, goal)
 }
 
+/// Whether the layer of cost 0 has the initial state alone.
+#[tactic(auto, using(crate::proofs::Standing::layers_stay))]
+fn layer_is_init<S: Space>(space: &mut S, layers: &Layers<S::Set>) -> Result<bool, SpaceFault>
+    requires { Held (S.view space.old) layers.now }
+    ensures { Held (S.view space.new) layers.now }
+{
+    let init = space.init()?;
+    match layers.layer(0) {
+        Some(whole) => Ok(space.same(whole, init)),
+        None => Ok(false),
+    }
+}
+
 /// The first ring of cost 0 that has some state, one that has a goal state, and one that has a state of the empty set.
 #[tactic(auto, using(crate::proofs::Standing::layers_stay))]
 fn first_rings<S: Space>(
@@ -77,7 +90,8 @@ fn first_rings<S: Space>(
 fn ring_by_ring<S: Space>(rt: &impl Abort, alloc: Global, space: &mut S) -> Result<(), SpaceFault> {
     let mut layers = one_ring(alloc, space)?;
     assert_eq!(rt; layers.rings(0), 1);
-    assert!(rt; layers.layer(0).is_some() && layers.ring(0, 1).is_none());
+    assert!(rt; layer_is_init(space, &layers)?);
+    assert!(rt; layers.ring(0, 1).is_none());
     assert!(rt; layers.layer(1).is_none());
     assert_eq!(rt; first_rings(space, &layers)?, [Some(0), None, None]);
     add_goal(alloc, space, &mut layers)?;

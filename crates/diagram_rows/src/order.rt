@@ -3,7 +3,7 @@
 ghost use Rattle.std.specs.Prelude.{◌≡◌, IfSome};
 ghost use Rattle.var_order.specs.Layout.{width_of};
 
-use small_tasks::{Draft, VariableDraft, drafted};
+use small_tasks::{Draft, EffectDraft, OperatorDraft, RuleDraft, VariableDraft, drafted};
 use std::alloc::Global;
 use std::process::Abort;
 use std::test::Fail;
@@ -23,7 +23,7 @@ pub const TWO: VariableDraft = VariableDraft {
 };
 
 /// A base variable of three values.
-pub const THREE: VariableDraft = VariableDraft {
+const THREE: VariableDraft = VariableDraft {
     layer: None,
     values: 3,
 };
@@ -35,10 +35,58 @@ const FIVE: VariableDraft = VariableDraft {
 };
 
 /// A derived variable.
-pub const DERIVED: VariableDraft = VariableDraft {
+const DERIVED: VariableDraft = VariableDraft {
     layer: Some(0),
     values: 2,
 };
+
+/// Two operators lead along a variable of three values, and rules raise a derived one, the goal, at all but the first.
+pub const LINE: Draft = Draft {
+    metric: 0,
+    variables: &[THREE, DERIVED],
+    initial: &[0, 0],
+    goal: &[(1, 1)],
+    operators: &[
+        OperatorDraft {
+            name: b"m1",
+            effects: &[EffectDraft {
+                conds: &[],
+                var: 0,
+                pre: Some(0),
+                post: 1,
+            }],
+            cost: 1,
+        },
+        OperatorDraft {
+            name: b"m2",
+            effects: &[EffectDraft {
+                conds: &[],
+                var: 0,
+                pre: Some(1),
+                post: 2,
+            }],
+            cost: 1,
+        },
+    ],
+    rules: &[
+        RuleDraft {
+            conds: &[(0, 1)],
+            var: 1,
+            new: 1,
+        },
+        RuleDraft {
+            conds: &[(0, 2)],
+            var: 1,
+            new: 1,
+        },
+    ],
+};
+
+/// The order of the variables of the draft's task.
+pub fn order_in(rt: &impl Abort, alloc: Global, draft: &Draft<'_>) -> Result<Order, Memory> {
+    let task = drafted(alloc, draft)?.expect(rt, "the draft fits");
+    Order::of(alloc, &task)
+}
 
 /// The order of the variables of a task that are 0 at first, with nothing to do.
 pub fn order_of(
@@ -55,8 +103,7 @@ pub fn order_of(
         operators: &[],
         rules: &[],
     };
-    let task = drafted(alloc, &draft)?.expect(rt, "the draft fits");
-    Order::of(alloc, &task)
+    order_in(rt, alloc, &draft)
 }
 
 /// How many bits the variable has, if it is a base variable.
@@ -95,8 +142,8 @@ fn check_three(rt: &impl Abort, order: &Order) {
 }
 
 #[test]
-fn one_variable_of_three_values(rt: HostRuntime) -> Result<(), Fail> {
-    let order = order_of(&rt, rt.alloc(), &[THREE], &[0])?;
+fn a_variable_of_three_values_and_a_derived_one(rt: HostRuntime) -> Result<(), Fail> {
+    let order = order_in(&rt, rt.alloc(), &LINE)?;
     check_three(&rt, &order);
     Ok(())
 }

@@ -2,7 +2,7 @@
 
 ghost use Rattle.std.specs.Prelude.{◌<◌, length, IfOk};
 
-use crate::order::{DERIVED, ONE, THREE, TWO, order_of};
+use crate::order::{LINE, ONE, TWO, order_in, order_of};
 use bdd_ops::Ops;
 use bdd_sets::{fact_set, has, next_fact_set, state_set, valid_set};
 use bdd_table::{Id, TRUE, Table};
@@ -14,7 +14,7 @@ use var_order::Order;
 
 /// The order of a variable of three values and a derived one.
 fn three(rt: &impl Abort, alloc: Global) -> Result<Order, Memory> {
-    order_of(rt, alloc, &[THREE, DERIVED], &[0, 0])
+    order_in(rt, alloc, &LINE)
 }
 
 /// Whether the set has the state of these values.

@@ -1,4 +1,4 @@
-//! Worked rows: a variable of three values, and operators of one cost that step along it.
+//! Worked rows: a variable of three values, operators of one cost that step along it, and a derived variable.
 
 ghost use Rattle.std.specs.Prelude.{◌≡◌, ◌<◌, ◌≤◌, length, All, IfOk};
 ghost use Rattle.bdd_table.specs.Diagram.{means, Keeps};
@@ -6,11 +6,10 @@ ghost use Rattle.var_order.specs.Layout.{IsOrderOf};
 ghost use Rattle.transitions.specs.Relations.{IsSet};
 ghost use Rattle.trans_merge.specs.Merging.{IsRelation};
 
-use crate::sets::{no_diagrams, states, task_of};
+use crate::sets::{LINE, no_diagrams, states, task_of};
 use axiom_layers::compile;
 use bdd_ops::Ops;
 use bdd_table::{FALSE, Id};
-use small_tasks::{Draft, EffectDraft, OperatorDraft, VariableDraft};
 use std::alloc::Global;
 use std::process::Abort;
 use std::test::Fail;
@@ -18,40 +17,6 @@ use symk_task::{Memory, Task};
 use trans_merge::merge;
 use transitions::{Relation, image, relation};
 use var_order::Order;
-
-/// The operators lead from the first value to the second, and from there to the third.
-const LINE: Draft = Draft {
-    metric: 1,
-    variables: &[VariableDraft {
-        layer: None,
-        values: 3,
-    }],
-    initial: &[0],
-    goal: &[(0, 2)],
-    operators: &[
-        OperatorDraft {
-            name: b"",
-            effects: &[EffectDraft {
-                conds: &[],
-                var: 0,
-                pre: Some(0),
-                post: 1,
-            }],
-            cost: 1,
-        },
-        OperatorDraft {
-            name: b"",
-            effects: &[EffectDraft {
-                conds: &[],
-                var: 0,
-                pre: Some(1),
-                post: 2,
-            }],
-            cost: 1,
-        },
-    ],
-    rules: &[],
-};
 
 /// The relations of both operators.
 fn members(

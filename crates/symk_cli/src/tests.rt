@@ -18,9 +18,9 @@ mod searches;
 mod texts;
 mod words;
 
-use crate::{Status, run};
+use crate::{Status, run, run_in_memory};
 use std::alloc::{AllocError, Global};
-use symk_io::{MemFile, MemFiles, MemSink, MemText};
+use symk_io::{MemFile, MemFiles, MemSink, MemText, NoFaultFiles, NoFaultSink};
 
 /// What a run answers, and the bytes that it put.
 #[derive(Drop)]
@@ -71,13 +71,19 @@ fn file(
     })
 }
 
-/// Runs the words, which stand in one text with a space between two of them, over FILE, PLANS and CERT.
-fn answer(alloc: Global, world: &World, words: &str) -> Result<Outcome, AllocError> {
+/// The program's name, and the words of one text, in which a space stands between two of them.
+fn words_of(alloc: Global, words: &str) -> Result<Vec<String>, AllocError> {
     let mut given = Vec::new(alloc);
     given.push(String::from_str(alloc, "symk")?)?;
     for word in words.split_whitespace() {
         given.push(String::from_str(alloc, word)?)?;
     }
+    Ok(given)
+}
+
+/// Runs the words of one text over FILE, PLANS and CERT.
+fn answer(alloc: Global, world: &World, words: &str) -> Result<Outcome, AllocError> {
+    let given = words_of(alloc, words)?;
     let mut shelf = Vec::new(alloc);
     shelf.push(file(alloc, "FILE", world.file, world.blank_file)?)?;
     for name in ["PLANS", "CERT"] {
@@ -87,6 +93,20 @@ fn answer(alloc: Global, world: &World, words: &str) -> Result<Outcome, AllocErr
     let failing = Vec::from_slice(alloc, world.failing_sink)?;
     let mut sink = MemSink::new(alloc, failing, world.most);
     let status = run(alloc, &given, &mut files, &mut sink);
+    Ok(Outcome {
+        status,
+        bytes: Vec::from_slice(alloc, sink.bytes())?,
+    })
+}
+
+/// Runs the words of one text over FILE alone, and a sink, neither of which can fail.
+fn answer_in_memory(alloc: Global, text: &[u8], words: &str) -> Result<Outcome, AllocError> {
+    let given = words_of(alloc, words)?;
+    let mut shelf = Vec::new(alloc);
+    shelf.push(file(alloc, "FILE", text, None)?)?;
+    let mut files = NoFaultFiles::new(shelf);
+    let mut sink = NoFaultSink::new(alloc);
+    let status = run_in_memory(alloc, &given, &mut files, &mut sink);
     Ok(Outcome {
         status,
         bytes: Vec::from_slice(alloc, sink.bytes())?,

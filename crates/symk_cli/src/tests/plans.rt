@@ -2,7 +2,7 @@
 
 use super::files::*;
 use super::rows::{ask, ask_either, holds};
-use super::{World, answer};
+use super::{World, answer, answer_in_memory};
 use crate::Status;
 use std::test::Fail;
 
@@ -337,5 +337,15 @@ fn lists_past_idle_steps(rt: HostRuntime) -> Result<(), Fail> {
         let checked = answer(rt.alloc(), &world, check.as_str())?;
         assert!(&rt; checked.bytes.as_slice() == b"good 3\n".as_slice());
     }
+    Ok(())
+}
+
+/// The whole answer for a switch that can be turned on alone.
+const ONE_PLAN: &[u8] = b"; plan 1\n; ops 0\n(switch-on)\n; cost = 1 (unit cost)\n; exhausted 1\n";
+
+#[test]
+fn lists_over_files_and_a_sink_that_cannot_fail(rt: HostRuntime) -> Result<(), Fail> {
+    let given = answer_in_memory(rt.alloc(), ONE_SWITCH, "plan FILE --k 3")?;
+    assert!(&rt; given.status == Status::Exhausted && given.bytes.as_slice() == ONE_PLAN);
     Ok(())
 }

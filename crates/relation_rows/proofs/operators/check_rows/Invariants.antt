@@ -1,5 +1,0 @@
-use Rattle.operator_relations.specs.Relations.{AreRelationsOf}
-use Rattle.relation_rows.proofs.operators.check_rows.Given as goal
-
-abbrev pub invariant-loop-row : goal.invariant-loop-row
-invariant-loop-row g l = AreRelationsOf l.task l.order l.ops l.relations

@@ -3,7 +3,7 @@
 
     signatures            functions of eight or more parameters
     lemmas                lemmas that are handed twelve or more arguments by place
-    runs                  runs of six or more equal lines that stand in two crates (blank lines, comments and imports left out)
+    runs                  runs of six or more equal lines that stand in two crates (blank lines, comments, imports and modules left out)
     crates                lines of crates.txt
     wide                  lines of proofs above 160 columns
     names                 names that the specs of two crates define
@@ -15,7 +15,7 @@ from pathlib import Path
 
 TOP = Path(__file__).resolve().parent.parent
 RUN, MANY, DOZEN, COLUMNS = 6, 8, 12, 160
-PASSED_OVER = re.compile(r"(//|--|use |ghost use |pub use |mod |pub mod |\W*\Z)")
+PASSED_OVER = re.compile(r"(//|--|#\[cfg\(test\)\]|use |ghost use |pub use |mod |pub mod |\W*\Z)")
 
 
 def crates():

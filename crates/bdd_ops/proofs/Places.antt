@@ -50,7 +50,8 @@ module _ (xs : List Node) (r : IsReduced xs) where
   right_no_preimages : IsRightBound Preimage xs no_bound
   right_no_preimages = record { f_known = known; g_known = known; set_known = known; gives = preimage_false xs r 0 0 0 known known (inl refl) }
 
-  pub no_places_right : (recent : Recent) → recent.pairs.items ≡ [] → recent.some.items ≡ [] → recent.both.items ≡ [] → recent.images.items ≡ [] → recent.preimages.items ≡ [] → AreRightPlaces xs recent
+  pub no_places_right : (recent : Recent) → recent.pairs.items ≡ [] → recent.some.items ≡ [] → recent.both.items ≡ []
+      → recent.images.items ≡ [] → recent.preimages.items ≡ [] → AreRightPlaces xs recent
   no_places_right recent p s b m n = record {
     pairs = λ place. subst (λ (l : List PairSlot). IsRightPair xs (slice_index_or l place no_pair)) (sym p) right_no_pair;
     some = λ place. subst (λ (l : List BoundSlot). IsRightBound Quantify xs (slice_index_or l place no_bound)) (sym s) right_no_some;

@@ -1,6 +1,6 @@
 //! What is known of what is left.
 
-ghost use Rattle.std.specs.Prelude.{◌≡◌, ◌<◌, ◌≤◌, ℕ, MatchOption};
+ghost use Rattle.std.specs.Prelude.{◌≡◌, ◌<◌, ◌≤◌, ℕ, MatchOption, length};
 ghost use Rattle.task_system.specs.System.{State};
 ghost use Rattle.space_api.specs.View.{View};
 ghost use Rattle.run_graph.specs.Reached.{ToGoalAt};
@@ -24,11 +24,12 @@ impl<T: Copy> CostToGo<T> {
         self.next
     }
 
-    /// How many ranks there are. A state has one at most. Its cost is that of a list of operators to the goal, and no list
-    /// from a reached state costs less; and unless it is a goal state and costs nothing, an operator leads from it to a
-    /// state of a rank before, at the cost between them.
+    /// How many ranks there are. There are no more than states. A state has one at most. Its cost is that of a list of
+    /// operators to the goal, and no list from a reached state costs less; and unless it is a goal state and costs nothing,
+    /// an operator leads from it to a state of a rank before, at the cost between them.
     pub fn ranks(&self) -> usize
         ensures many { result ≡ ranks_of self.now }
+        ensures few { (v : View T) → IsCostToGo v self.now → result ≤ length v.system.states }
         ensures under { (v : View T) → (i x : ℕ) (s : State) → HasRank v self.now i x s → i < result }
         ensures leads { (v : View T) → IsCostToGo v self.now → (i x : ℕ) (s : State) → HasRank v self.now i x s
             → ToGoalAt v.system x s }

@@ -13,8 +13,11 @@ use Rattle.goal_ranks.specs.Sets.{RankAt, SlotAt, Standing, Waits}
 use Rattle.goal_ranks.specs.Ranks.{AreLeft, AreGoalRanks, IsGoalRanks, IsOwn, NonePast, Rest, OfRank, OfSlot, Seat, SetAt, SameRanks, within_of}
 use Rattle.goal_ranks.proofs.Keeping.{standing_same, same_right, same_left, same_past}
 
-module _ {Set : Type 0} (v w : View Set) (within left : Set) (ranks : List (Ranked Set)) (slots : List (Option (Waiting Set))) (sys : w.system ≡ v.system) (outer_valid : Valid w within) (outer_same : (s : State) → w.has within s ≡ v.has within s)
-    (valid : (p : Seat) (a : Set) → SetAt left ranks slots p a → Valid w a) (same : (p : Seat) (a : Set) → SetAt left ranks slots p a → (s : State) → w.has a s ≡ v.has a s) where
+module _ {Set : Type 0} (v w : View Set) (within left : Set) (ranks : List (Ranked Set))
+    (slots : List (Option (Waiting Set))) (sys : w.system ≡ v.system) (outer_valid : Valid w within)
+    (outer_same : (s : State) → w.has within s ≡ v.has within s)
+    (valid : (p : Seat) (a : Set) → SetAt left ranks slots p a → Valid w a)
+    (same : (p : Seat) (a : Set) → SetAt left ranks slots p a → (s : State) → w.has a s ≡ v.has a s) where
   left_beside : (s : State) → w.has left s ≡ v.has left s
   left_beside s = same Rest left refl s
 
@@ -37,21 +40,27 @@ module _ {Set : Type 0} (v w : View Set) (within left : Set) (ranks : List (Rank
   pub beside_stands : (bound : ℕ) (beyond : Bool) → AreGoalRanks v within left ranks slots bound beyond → AreGoalRanks w within left ranks slots bound beyond
   beside_stands bound beyond r = record {
     sets = record { within = outer_valid; valid = valid; once = r.sets.once; apart = r.sets.apart };
-    left = subst (λ (y : System). AreLeft y w within left ranks) (sym sys) (same_left v w within left ranks slots slots left_beside outer_same rank_beside r.left);
+    left = subst (λ (y : System). AreLeft y w within left ranks) (sym sys)
+        (same_left v w within left ranks slots slots left_beside outer_same rank_beside r.left);
     told = r.told;
-    right = subst (λ (y : System). AreRanks (seen_from Back y) (Has w within) bound (Standing w ranks) (length ranks) (Waits y w left ranks slots)) (sym sys) (right_beside bound r.right);
-    past = λ h. subst (λ (y : System). NonePast y w within ranks) (sym sys) (same_past v w within left ranks slots slots left_beside outer_same rank_beside (r.past h));
+    right = subst (λ (y : System). AreRanks (seen_from Back y) (Has w within) bound (Standing w ranks) (length ranks)
+        (Waits y w left ranks slots)) (sym sys) (right_beside bound r.right);
+    past = λ h. subst (λ (y : System). NonePast y w within ranks) (sym sys)
+        (same_past v w within left ranks slots slots left_beside outer_same rank_beside (r.past h));
   }
 
-module _ {Set : Type 0} (v w : View Set) (g : GoalRanks Set) (Old New : Set → Type 0) (t : Trades v w Old New) (own : (a : Set) → IsOwn g a → ¬ Old a) (outer : ¬ Old (within_of g)) (z : IsGoalRanks v g) where
+module _ {Set : Type 0} (v w : View Set) (g : GoalRanks Set) (Old New : Set → Type 0) (t : Trades v w Old New)
+    (own : (a : Set) → IsOwn g a → ¬ Old a) (outer : ¬ Old (within_of g)) (z : IsGoalRanks v g) where
   pub ranks_beside : IsGoalRanks w g
-  ranks_beside = beside_stands v w g.within g.left g.ranks.items g.slots.items t.system (t.others g.within z.sets.within outer) (t.same g.within z.sets.within outer)
+  ranks_beside = beside_stands v w g.within g.left g.ranks.items g.slots.items t.system
+      (t.others g.within z.sets.within outer) (t.same g.within z.sets.within outer)
       (λ p a h. t.others a (z.sets.valid p a h) (own a (p, h))) (λ p a h. t.same a (z.sets.valid p a h) (own a (p, h))) g.bound g.beyond z
 
   pub same_beside : SameRanks v w g g
   same_beside = record {
     on = record { within = refl; states = t.same g.within z.sets.within outer };
     many = refl;
-    same = beside_standing v w g.within g.left g.ranks.items g.slots.items t.system (t.others g.within z.sets.within outer) (t.same g.within z.sets.within outer)
+    same = beside_standing v w g.within g.left g.ranks.items g.slots.items t.system
+        (t.others g.within z.sets.within outer) (t.same g.within z.sets.within outer)
         (λ p a h. t.others a (z.sets.valid p a h) (own a (p, h))) (λ p a h. t.same a (z.sets.valid p a h) (own a (p, h)));
   }

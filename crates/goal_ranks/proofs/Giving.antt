@@ -30,13 +30,16 @@ none_yet v Item = trades_as (trades_stays v v (λ a. ⊥) (stays_refl v) (λ a h
     (λ a. ((λ x. x), (λ x. x)))
 
 -- all were
-pub all_given : {Set : Type 0} {v u : View Set} (Item : ℕ → Set → Type 0) (n : ℕ) → ((i : ℕ) (a : Set) → Item i a → i < n) → Trades v u (Below Item n) (λ a. ⊥) → Trades v u (AllOf Item) (λ a. ⊥)
+pub all_given : {Set : Type 0} {v u : View Set} (Item : ℕ → Set → Type 0) (n : ℕ)
+    → ((i : ℕ) (a : Set) → Item i a → i < n) → Trades v u (Below Item n) (λ a. ⊥) → Trades v u (AllOf Item) (λ a. ⊥)
 all_given Item n low t = trades_as t
     (λ a. ((λ h. (h.0, h.2)), (λ h. (h.0, low h.0 a h.1, h.1))))
     (λ a. ((λ x. x), (λ x. x)))
 
 -- the sets of the next number, whatever they are, are given back
-pub more_given : {Set : Type 0} {v u w : View Set} (Item : ℕ → Set → Type 0) (n : ℕ) (One : Set → Type 0) → ((a : Set) → Item n a ↔ One a) → Trades v u (Below Item n) (λ a. ⊥) → Trades u w One (λ a. ⊥) → Trades v w (Below Item (n + 1)) (λ a. ⊥)
+pub more_given : {Set : Type 0} {v u w : View Set} (Item : ℕ → Set → Type 0) (n : ℕ) (One : Set → Type 0)
+    → ((a : Set) → Item n a ↔ One a) → Trades v u (Below Item n) (λ a. ⊥) → Trades u w One (λ a. ⊥)
+    → Trades v w (Below Item (n + 1)) (λ a. ⊥)
 more_given Item n One same t f = trades_as (trades_both t f)
     (λ a. (
       (λ h. elim h [ inl o ↦ (o.0, omega (arith, o.1), o.2) | inr e ↦ (n, omega arith, (same a).1 e) ]),
@@ -74,7 +77,8 @@ rank_low ranks i a h = slice_get_within ranks i h.0 h.1
 pub slot_low : {Set : Type 0} (slots : List (Option (Waiting Set))) (i : ℕ) (a : Set) → SlotSet slots i a → i < length slots
 slot_low slots i a h = slice_get_within slots i (Some h.0) h.1
 
-module _ {Set : Type 0} (v u w x : View Set) (within left : Set) (ranks : List (Ranked Set)) (slots : List (Option (Waiting Set))) (z : AreSets v within left ranks slots) where
+module _ {Set : Type 0} (v u w x : View Set) (within left : Set) (ranks : List (Ranked Set))
+    (slots : List (Option (Waiting Set))) (z : AreSets v within left ranks slots) where
   pub rank_valid : (i : ℕ) (a : Set) → RankSet ranks i a → Valid v a
   rank_valid i a h = z.valid (OfRank i) a h
 

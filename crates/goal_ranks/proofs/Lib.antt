@@ -16,4 +16,5 @@ pub mod Starting
 pub mod Giving
 pub mod Uniting
 pub mod Firsts
+pub mod Few
 pub mod Settling

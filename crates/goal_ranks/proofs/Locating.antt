@@ -24,7 +24,8 @@ module _ {Set : Type 0} (v : View Set) (l : Layers Set) (held : Held v l) (s : S
   whole_has c whole e = (layer_at v (rings_at l c) (whole_at l c) whole e (held.each c)).parts s
 
   -- no layer before one has the state, nor that one: none before the next has it
-  pub none_past : (c : ℕ) (o : Option ℕ) → ((d : ℕ) → d < c → ¬ InLayer (Stands v l) d s) → ¬ InLayer (Stands v l) c s → ComesAfter (whole_at l) c o → (d : ℕ) → d < next_bound o → ¬ InLayer (Stands v l) d s
+  pub none_past : (c : ℕ) (o : Option ℕ) → ((d : ℕ) → d < c → ¬ InLayer (Stands v l) d s) → ¬ InLayer (Stands v l) c s
+      → ComesAfter (whole_at l) c o → (d : ℕ) → d < next_bound o → ¬ InLayer (Stands v l) d s
   none_past c o below here after = next_past (whole_at l) (λ d. ¬ InLayer (Stands v l) d s) none_in c o below here after
 
 below_or : (m n : ℕ) → (m < n) ⊎ (n ≤ m)
@@ -47,7 +48,8 @@ pub not_true : (b : Bool) (P : Type 0) → IsTrue b ↔ P → b ≡ false → ¬
 not_true b P same lacks p = valid_clash (same.1 p) lacks
 
 -- no layer before the first has the state
-pub none_first : {Set : Type 0} (v : View Set) (l : Layers Set) → Held v l → (s : State) (o : Option ℕ) → MatchOption o ((d : ℕ) → 0 ≤ d → whole_at l d ≡ None) (λ n. (d : ℕ) → 0 ≤ d → d < n → whole_at l d ≡ None)
+pub none_first : {Set : Type 0} (v : View Set) (l : Layers Set) → Held v l → (s : State) (o : Option ℕ)
+    → MatchOption o ((d : ℕ) → 0 ≤ d → whole_at l d ≡ None) (λ n. (d : ℕ) → 0 ≤ d → d < n → whole_at l d ≡ None)
     → (d : ℕ) → d < next_bound o → ¬ InLayer (Stands v l) d s
 none_first v l held s None m d lt = none_in v l held s d (m d (omega arith))
 none_first v l held s (Some n) m d lt = none_in v l held s d (m d (omega arith) lt)

@@ -7,7 +7,7 @@ pub struct Rank {
     pub number: usize,
 }
 
-ghost use Rattle.std.specs.Prelude.{◌≡◌, ◌+◌, ◌<◌, ◌≤◌, ◌^◌, ℕ, ◌↔◌, IsTrue, IsFalse, IfSome, IfNone, MatchOption};
+ghost use Rattle.std.specs.Prelude.{◌≡◌, ◌+◌, ◌<◌, ◌≤◌, ◌^◌, ℕ, ◌↔◌, IsTrue, IsFalse, IfSome, IfNone, MatchOption, length};
 ghost use Rattle.task_system.specs.System.{State};
 ghost use Rattle.space_api.specs.View.{View, Valid, Has};
 ghost use Rattle.single_states.specs.States.{IsReached};
@@ -108,10 +108,12 @@ impl<T: Copy> GoalRanks<T> {
         }
     }
 
-    /// How many ranks there are. A state has one at most, at its least cost to the goal inside `within`; and unless it is
-    /// a goal state and costs nothing, an operator leads from it to a state of a rank before, at the cost between them.
+    /// How many ranks there are. There are no more than states. A state has one at most, at its least cost to the goal
+    /// inside `within`; and unless it is a goal state and costs nothing, an operator leads from it to a state of a rank
+    /// before, at the cost between them.
     pub fn ranks(&self) -> usize
         ensures many { result ≡ ranks_of self.now }
+        ensures few { (v : View T) → IsGoalRanks v self.now → result ≤ length v.system.states }
         ensures least { (v : View T) → IsGoalRanks v self.now → (i x : ℕ) (s : State) → HasRank v self.now i x s
             → AtCost Back v.system x s × ((d : ℕ) → InsideAt Back v.system (Has v (within_of self.now)) d s → x ≤ d) }
         ensures once { (v : View T) → IsGoalRanks v self.now → (i j x d : ℕ) (s : State) → HasRank v self.now i x s

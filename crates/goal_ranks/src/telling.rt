@@ -193,6 +193,9 @@ pub fn divide<S: Space>(
             all: true,
         }),
         Ok(Told::Ring(cost)) => {
+            let task = space.task();
+            // A task fits, and so the states of a ring, which runs reach, are the system's.
+            let _ = task.parts();
             let near = in_layer(space, ahead.layers(), cost, fresh);
             space.forget(fresh);
             Ok(Part::Next {

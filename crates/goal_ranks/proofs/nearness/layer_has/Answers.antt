@@ -7,7 +7,8 @@ use Rattle.goal_ranks.proofs.nearness.layer_has.Goals as goal
 pub has_state-requires-clause-set : goal.has_state-requires-clause-set
 has_state-requires-clause-set g c =
     let l = c.args.layers.now in
-    (layer_at (g.S.Space.view c.args.space.now) (rings_at l c.args.cost) (whole_at l c.args.cost) c.in-Some.whole (sym c.layer.ensures ∙ c.in-Some.is) (c.requires.held.each c.args.cost)).valid
+    (layer_at (g.S.Space.view c.args.space.now) (rings_at l c.args.cost) (whole_at l c.args.cost) c.in-Some.whole
+    (sym c.layer.ensures ∙ c.in-Some.is) (c.requires.held.each c.args.cost)).valid
 
 pub returns-in-Some : goal.returns-in-Some
 returns-in-Some g c =
@@ -17,5 +18,8 @@ returns-in-Some g c =
 
 pub returns-in-None : goal.returns-in-None
 returns-in-None g c =
-    let v = g.S.Space.view c.args.space.now in
-    ((λ h. absurd (false_true h)), (λ k. absurd (none_in v c.args.layers.now c.requires.held c.args.state.now c.args.cost (sym c.layer.ensures ∙ c.in-None.is) k)))
+    let v = g.S.Space.view c.args.space.now in (
+      (λ h. absurd (false_true h)),
+      (λ k. absurd (none_in v c.args.layers.now c.requires.held c.args.state.now c.args.cost
+          (sym c.layer.ensures ∙ c.in-None.is) k)),
+    )

@@ -12,7 +12,9 @@ pub forget-requires : goal.forget-requires
 forget-requires g c =
     let xs = c.args.ranks.now in
     let at = slice_get_read xs (length xs) c.ranks.i c.index-ranks-i.result refl (omega (arith, c.ranks-test.true)) c.index-ranks-i.is in
-    next_valid (RankSet xs) c.ranks.i c.ranks.invariant c.index-ranks-i.result.set c.requires.once (c.index-ranks-i.result, at, refl) (c.requires.valid c.ranks.i c.index-ranks-i.result.set (c.index-ranks-i.result, at, refl))
+    next_valid (RankSet xs) c.ranks.i c.ranks.invariant c.index-ranks-i.result.set c.requires.once
+    (c.index-ranks-i.result, at, refl) (c.requires.valid c.ranks.i c.index-ranks-i.result.set
+    (c.index-ranks-i.result, at, refl))
 
 pub ranks-preserved : goal.ranks-preserved
 ranks-preserved g c =

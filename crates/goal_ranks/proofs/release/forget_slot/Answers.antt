@@ -11,7 +11,8 @@ forget-requires g c = c.requires c.in-Some.waiting.set (subst (λ (o : Option _)
 pub returns-in-Some : goal.returns-in-Some
 returns-in-Some g c =
     let view = g.S.Space.view in
-    subst (λ (o : Option _). Trades (view c.args.space.now) (view c.forget.new.self) (InSlot o) (λ a. ⊥)) (sym c.in-Some.is) (trades_forgot c.in-Some.waiting.set c.forget.ensures)
+    subst (λ (o : Option _). Trades (view c.args.space.now) (view c.forget.new.self) (InSlot o) (λ a. ⊥))
+    (sym c.in-Some.is) (trades_forgot c.in-Some.waiting.set c.forget.ensures)
 
 pub returns-in-None : goal.returns-in-None
 returns-in-None g c =

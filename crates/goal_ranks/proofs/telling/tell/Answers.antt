@@ -16,7 +16,8 @@ tell_by_rings-requires-clause-ahead g c =
 pub tell_by_rings-requires-clause-rings : goal.tell_by_rings-requires-clause-rings
 tell_by_rings-requires-clause-rings g c =
     let view = g.S.Space.view in
-    all_kept (view c.args.space.now) (view c.ring_between.new.space) c.args.ahead.now c.args.rings.now c.ring_between.ensures.stays.kept c.requires.ahead c.requires.rings
+    all_kept (view c.args.space.now) (view c.ring_between.new.space) c.args.ahead.now c.args.rings.now
+    c.ring_between.ensures.stays.kept c.requires.ahead c.requires.rings
 
 pub tell_by_rings-requires-clause-set : goal.tell_by_rings-requires-clause-set
 tell_by_rings-requires-clause-set g c = c.ring_between.ensures.stays.kept.valid c.args.set c.requires.set
@@ -36,7 +37,9 @@ returns-in-None-2-clause-stays g c = stays_trans c.ring_between.ensures.stays c.
 pub returns-in-None-2-clause-ok : goal.returns-in-None-2-clause-ok
 returns-in-None-2-clause-ok g c =
     let view = g.S.Space.view in
-    told_kept (view c.args.space.now) (view c.ring_between.new.space) c.args.ahead.now c.args.set c.args.cost c.args.key c.ring_between.ensures.stays.kept c.requires.ahead c.requires.set c.tell_by_rings.result c.tell_by_rings.ensures.ok
+    told_kept (view c.args.space.now) (view c.ring_between.new.space) c.args.ahead.now c.args.set c.args.cost
+    c.args.key c.ring_between.ensures.stays.kept c.requires.ahead c.requires.set c.tell_by_rings.result
+    c.tell_by_rings.ensures.ok
 
 pub returns-in-None-clause-ok : goal.returns-in-None-clause-ok
 returns-in-None-clause-ok g c =
@@ -45,4 +48,6 @@ returns-in-None-clause-ok g c =
     let x = c.args.cost in
     let one = ap (λ (n : ℕ). x + n) (sym c.bound_ahead-bound.ensures) ∙ c.if-cost-bound-2.true in
     subst (λ (n : ℕ). (c.args.key < x + n) × (x + n ≤ x + bound_of f) × IsKeyOf v.system (Has v c.args.set) x (x + n)) (sym c.bound_ahead-bound.ensures)
-    (later_next v f c.requires.ahead c.args.set x c.args.key c.requires.key one (subst (λ (l : Layers _). (d : ℕ) → d < 2 ^ 64 → x + d ≡ c.args.key → ¬ IsLayerMeeting v l c.args.set d) c.layers.ensures.value (c.in_ok-ring.ensures.none c.in-None.is)))
+    (later_next v f c.requires.ahead c.args.set x c.args.key c.requires.key one
+    (subst (λ (l : Layers _). (d : ℕ) → d < 2 ^ 64 → x + d ≡ c.args.key → ¬ IsLayerMeeting v l c.args.set d)
+    c.layers.ensures.value (c.in_ok-ring.ensures.none c.in-None.is)))

@@ -25,7 +25,8 @@ returns-in-Some-2-clause-ok g c =
     let r = c.args.rings.now in
     let least = c.in_ok-ring.ensures.least l c.requires.rings.rings (none_more v f c.requires.ahead (known_of r) c.requires.rings.all) in
     let m = subst (IsLeastAt v l c.args.set) c.in-Some.is least in
-    later_ring v f c.requires.ahead c.args.set c.args.cost c.args.key 0 c.in-Some.ring c.requires.key (omega arith) m.0 m.1 (omega (arith, c.if-cost-ring.false))
+    later_ring v f c.requires.ahead c.args.set c.args.cost c.args.key 0 c.in-Some.ring c.requires.key (omega arith)
+    m.0 m.1 (omega (arith, c.if-cost-ring.false))
 
 pub returns-in-None-clause-ok : goal.returns-in-None-clause-ok
 returns-in-None-clause-ok g c =

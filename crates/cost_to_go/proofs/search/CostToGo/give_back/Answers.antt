@@ -14,16 +14,21 @@ pub give_back-requires-3 : goal.give_back-requires-3
 give_back-requires-3 g c =
     let view = g.S.Space.view in
     let f = c.args.self in
-    left_unions (view c.args.space.now) (view c.give_back.new.space) f.ranks f.ahead f.rings f.everywhere f.next c.requires c.give_back.ensures (view c.give_back-2.new.space) c.give_back-2.ensures
+    left_unions (view c.args.space.now) (view c.give_back.new.space) f.ranks f.ahead f.rings f.everywhere f.next
+    c.requires c.give_back.ensures (view c.give_back-2.new.space) c.give_back-2.ensures
 
 pub forget-requires : goal.forget-requires
 forget-requires g c =
     let view = g.S.Space.view in
     let f = c.args.self in
-    left_all (view c.args.space.now) (view c.give_back.new.space) f.ranks f.ahead f.rings f.everywhere f.next c.requires c.give_back.ensures (view c.give_back-2.new.space) c.give_back-2.ensures (view c.give_back-3.new.space) c.give_back-3.ensures
+    left_all (view c.args.space.now) (view c.give_back.new.space) f.ranks f.ahead f.rings f.everywhere f.next
+    c.requires c.give_back.ensures (view c.give_back-2.new.space) c.give_back-2.ensures
+    (view c.give_back-3.new.space) c.give_back-3.ensures
 
 pub returns : goal.returns
 returns g c =
     let view = g.S.Space.view in
     let f = c.args.self in
-    all_back (view c.args.space.now) (view c.give_back.new.space) f.ranks f.ahead f.rings f.everywhere f.next c.requires c.give_back.ensures (view c.give_back-2.new.space) c.give_back-2.ensures (view c.give_back-3.new.space) c.give_back-3.ensures (view c.forget.new.self) c.forget.ensures
+    all_back (view c.args.space.now) (view c.give_back.new.space) f.ranks f.ahead f.rings f.everywhere f.next
+    c.requires c.give_back.ensures (view c.give_back-2.new.space) c.give_back-2.ensures
+    (view c.give_back-3.new.space) c.give_back-3.ensures (view c.forget.new.self) c.forget.ensures

@@ -9,7 +9,8 @@ pub forget_ranks-requires-clause-valid : goal.forget_ranks-requires-clause-valid
 forget_ranks-requires-clause-valid g c =
     let v = g.S.Space.view c.args.space.now in
     let f = c.args.self in
-    subst (λ (xs : List _). (i : ℕ) (a : _) → RankSet xs i a → Valid v a) (sym c.deref.ensures.value) (rank_valid v v v v f.within f.left f.ranks.items f.slots.items c.requires.sets)
+    subst (λ (xs : List _). (i : ℕ) (a : _) → RankSet xs i a → Valid v a) (sym c.deref.ensures.value)
+    (rank_valid v v v v f.within f.left f.ranks.items f.slots.items c.requires.sets)
 
 pub forget_ranks-requires-clause-once : goal.forget_ranks-requires-clause-once
 forget_ranks-requires-clause-once g c =
@@ -23,7 +24,8 @@ forget_slots-requires-clause-valid g c =
     let u = g.S.Space.view c.forget_ranks.new.space in
     let f = c.args.self in
     let t = subst (λ (xs : List _). Trades v u (AllOf (RankSet xs)) (λ a. ⊥)) c.deref.ensures.value c.forget_ranks.ensures in
-    subst (λ (xs : List _). (i : ℕ) (a : _) → SlotSet xs i a → Valid u a) (sym c.deref-2.ensures.value) (slot_valid v u v v f.within f.left f.ranks.items f.slots.items c.requires.sets t)
+    subst (λ (xs : List _). (i : ℕ) (a : _) → SlotSet xs i a → Valid u a) (sym c.deref-2.ensures.value)
+    (slot_valid v u v v f.within f.left f.ranks.items f.slots.items c.requires.sets t)
 
 pub forget_slots-requires-clause-once : goal.forget_slots-requires-clause-once
 forget_slots-requires-clause-once g c =

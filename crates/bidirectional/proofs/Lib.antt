@@ -3,6 +3,7 @@ pub mod Pairs
 pub mod Moving
 pub mod Above
 pub mod Stepping
+pub mod Carrying
 pub mod Least
 pub mod Past
 pub mod Known

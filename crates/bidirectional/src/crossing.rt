@@ -1,14 +1,26 @@
 //! The least cost at which layers of both sides meet.
 
+use cost_layers::Layers;
+use run_graph::Side;
+
+/// The two sides where they meet: the forward layers, the backward ones, and what these are known below; and by which
+/// side's steps it is found where they do.
+#[derive(Clone, Copy)]
+pub(crate) struct Meeting<'a, T> {
+    pub(crate) front: &'a Layers<T>,
+    pub(crate) back: &'a Layers<T>,
+    pub(crate) b: u128,
+    pub(crate) by: Side,
+}
+
 ghost use Rattle.std.specs.Prelude.{◌≡◌, ◌+◌, ◌<◌, ◌≤◌, ◌^◌, ◌↔◌, ℕ, None, IsTrue, IfOk, MatchOption};
 ghost use Rattle.task_system.specs.System.{State};
 ghost use Rattle.space_api.specs.View.{View, Valid, Has, CostPreimage};
 ghost use Rattle.space_api.specs.Frames.{Stays};
 ghost use Rattle.run_graph.specs.Layering.{InLayer};
 ghost use Rattle.cost_layers.specs.Layers.{whole_at, Held, Stands};
-ghost use Rattle.bidirectional.specs.Crossing.{MeetsBy, CrossAt, CrossBy, CrossIn, IsLeastOf, IsLeastWhole};
+ghost use Rattle.bidirectional.specs.Crossing.{AreHeld, MeetsBy, CrossAt, CrossBy, CrossIn, IsLeastOf, IsLeastWhole};
 
-use cost_layers::Layers;
 use cost_search::cost_after;
 use space_api::{Space, SpaceFault, meets};
 
@@ -55,34 +67,33 @@ fn meets_ahead<S: Space>(
     some
 }
 
-/// Whether an operator of cost `w` leads from one set into the other, by a step ahead or by one back.
+/// Whether an operator of cost `w` leads from one set into the other, by a step of this side.
 fn meets_by<S: Space>(
     space: &mut S,
     from: S::Set,
     w: u64,
     to: S::Set,
-    ahead: bool,
+    by: Side,
 ) -> Result<bool, SpaceFault>
     requires from { Valid (S.view space.old) from }
     requires to { Valid (S.view space.old) to }
     ensures stays { Stays (S.view space.old) (S.view space.new) }
     ensures ok { IfOk result (λ r. IsTrue r ↔ ((s : State) × CostPreimage (S.view space.old) w to from s)) }
 {
-    if ahead {
-        meets_ahead(space, from, w, to)
-    } else {
-        meets_back(space, from, w, to)
+    match by {
+        Side::Ahead => meets_ahead(space, from, w, to),
+        Side::Back => meets_back(space, from, w, to),
     }
 }
 
-/// Whether an operator of cost `w` leads from layer `x` into the set, by a step ahead or by one back.
+/// Whether an operator of cost `w` leads from layer `x` into the set, by a step of this side.
 pub(crate) fn layer_meets<S: Space>(
     space: &mut S,
     front: &Layers<S::Set>,
     x: u64,
     w: u64,
     to: S::Set,
-    ahead: bool,
+    by: Side,
 ) -> Result<bool, SpaceFault>
     requires front { Held (S.view space.old) front.now }
     requires to { Valid (S.view space.old) to }
@@ -91,46 +102,43 @@ pub(crate) fn layer_meets<S: Space>(
         (Stands (S.view space.old) front.now) (Has (S.view space.old) to) x w) }
 {
     match front.layer(x) {
-        Some(whole) => Ok(meets_by(space, whole, w, to, ahead)?),
+        Some(whole) => Ok(meets_by(space, whole, w, to, by)?),
         None => Ok(false),
     }
 }
 
 /// The least cost from `low` on and below `high` at which a forward layer meets the set by an operator of cost `w`,
-/// if what is left would no longer be below `b` with it; `high` where there is none. Layers are tried by steps ahead,
-/// or else by steps back.
+/// if what is left would no longer be below b with it; `high` where there is none.
 fn least_by<S: Space>(
     space: &mut S,
-    front: &Layers<S::Set>,
-    b: u128,
+    meeting: Meeting<'_, S::Set>,
     z: u64,
     w: u64,
     to: S::Set,
     low: u128,
     high: u128,
-    ahead: bool,
 ) -> Result<u128, SpaceFault>
-    requires front { Held (S.view space.old) front.now }
+    requires layers { AreHeld (S.view space.old) meeting }
     requires to { Valid (S.view space.old) to }
     requires range { high ≤ 2 ^ 64 }
     ensures stays { Stays (S.view space.old) (S.view space.new) }
     ensures ok { IfOk result (IsLeastOf (CrossAt (S.view space.old).system
-        (Stands (S.view space.old) front.now) (Has (S.view space.old) to) b z w) low high) }
+        (Stands (S.view space.old) meeting.entry.front.now) (Has (S.view space.old) to) meeting.entry.b z w) low high) }
 {
     let part = w as u128 + z as u128;
-    if part < b {
+    if part < meeting.b {
         return Ok(high);
     }
-    let mut next = cost_from(front, low.saturating_sub(part));
+    let mut next = cost_from(meeting.front, low.saturating_sub(part));
     'costs: while let Some(x) = next {
         let cost = x as u128 + part;
         if high <= cost {
             return Ok(high);
         }
-        if layer_meets(space, front, x, w, to, ahead)? {
+        if layer_meets(space, meeting.front, x, w, to, meeting.by)? {
             return Ok(cost);
         }
-        next = cost_after(front, x);
+        next = cost_after(meeting.front, x);
     }
     Ok(high)
 }
@@ -138,25 +146,23 @@ fn least_by<S: Space>(
 /// The same, by an operator of any cost.
 fn least_into<S: Space>(
     space: &mut S,
-    front: &Layers<S::Set>,
-    b: u128,
+    meeting: Meeting<'_, S::Set>,
     z: u64,
     to: S::Set,
     low: u128,
     high: u128,
-    ahead: bool,
 ) -> Result<u128, SpaceFault>
-    requires front { Held (S.view space.old) front.now }
+    requires layers { AreHeld (S.view space.old) meeting }
     requires to { Valid (S.view space.old) to }
     requires range { high ≤ 2 ^ 64 }
     ensures stays { Stays (S.view space.old) (S.view space.new) }
     ensures ok { IfOk result (IsLeastOf (CrossBy (S.view space.old).system
-        (Stands (S.view space.old) front.now) (Has (S.view space.old) to) b z) low high) }
+        (Stands (S.view space.old) meeting.entry.front.now) (Has (S.view space.old) to) meeting.entry.b z) low high) }
 {
     let mut least = high;
     'costs: for i in 0..space.costs() {
         let w = space.cost_at(i);
-        least = least_by(space, front, b, z, w, to, low, least, ahead)?;
+        least = least_by(space, meeting, z, w, to, low, least)?;
     }
     Ok(least)
 }
@@ -164,23 +170,20 @@ fn least_into<S: Space>(
 /// The same, into the backward layer of this cost.
 fn least_at<S: Space>(
     space: &mut S,
-    front: &Layers<S::Set>,
-    back: &Layers<S::Set>,
-    b: u128,
+    meeting: Meeting<'_, S::Set>,
     z: u64,
     low: u128,
     high: u128,
-    ahead: bool,
 ) -> Result<u128, SpaceFault>
-    requires front { Held (S.view space.old) front.now }
-    requires back { Held (S.view space.old) back.now }
+    requires layers { AreHeld (S.view space.old) meeting }
     requires range { high ≤ 2 ^ 64 }
     ensures stays { Stays (S.view space.old) (S.view space.new) }
     ensures ok { IfOk result (IsLeastOf (CrossBy (S.view space.old).system
-        (Stands (S.view space.old) front.now) (InLayer (Stands (S.view space.old) back.now) z) b z) low high) }
+        (Stands (S.view space.old) meeting.entry.front.now) (InLayer (Stands (S.view space.old) meeting.entry.back.now) z)
+        meeting.entry.b z) low high) }
 {
-    match back.layer(z) {
-        Some(whole) => least_into(space, front, b, z, whole, low, high, ahead),
+    match meeting.back.layer(z) {
+        Some(whole) => least_into(space, meeting, z, whole, low, high),
         None => Ok(high),
     }
 }
@@ -197,28 +200,27 @@ fn dearest<S: Space>(space: &S) -> u64
 }
 
 /// The least cost from `low` on and below `high` at which layers of both sides meet; `high` where there is none. An
-/// operator crosses into no layer that even the dearest one leaves below `b`.
+/// operator crosses into no layer that even the dearest one leaves below b.
 pub(crate) fn least_cross<S: Space>(
     space: &mut S,
-    front: &Layers<S::Set>,
-    back: &Layers<S::Set>,
-    b: u128,
+    meeting: Meeting<'_, S::Set>,
     low: u128,
     high: u128,
-    ahead: bool,
 ) -> Result<u128, SpaceFault>
-    requires front { Held (S.view space.old) front.now }
-    requires back { Held (S.view space.old) back.now }
+    requires layers { AreHeld (S.view space.old) meeting }
     requires range { high ≤ 2 ^ 64 }
     ensures stays { Stays (S.view space.old) (S.view space.new) }
     ensures ok { IfOk result (IsLeastOf (CrossIn (S.view space.old).system
-        (Stands (S.view space.old) front.now) (Stands (S.view space.old) back.now) b) low high) }
+        (Stands (S.view space.old) meeting.entry.front.now) (Stands (S.view space.old) meeting.entry.back.now) meeting.entry.b) low high) }
 {
     let mut least = high;
-    let mut next = cost_from(back, b.saturating_sub(dearest(space) as u128));
+    let mut next = cost_from(
+        meeting.back,
+        meeting.b.saturating_sub(dearest(space) as u128),
+    );
     'costs: while let Some(z) = next {
-        least = least_at(space, front, back, b, z, low, least, ahead)?;
-        next = cost_after(back, z);
+        least = least_at(space, meeting, z, low, least)?;
+        next = cost_after(meeting.back, z);
     }
     Ok(least)
 }

@@ -7,19 +7,35 @@ pub(crate) struct Crossing {
     pub(crate) ops: Vec<u32>,
 }
 
+/// How many crossings are wanted of those that leave the same cost.
+#[derive(Clone, Copy)]
+pub(crate) enum Wanted {
+    One,
+    All,
+}
+
+/// A place in the order of crossings: first by the cost that is left, then by the operator.
+#[derive(Clone, Copy)]
+pub(crate) struct Place {
+    pub(crate) z: u64,
+    pub(crate) op: u64,
+}
+
 ghost use Rattle.std.specs.Prelude.{◌≡◌, ◌+◌, ◌<◌, ◌≤◌, ◌↔◌, ℕ, IsTrue, IfOk, MatchOption, All, map};
 ghost use Rattle.task_system.specs.System.{State};
 ghost use Rattle.space_api.specs.View.{View, Valid, Has, Preimage};
 ghost use Rattle.space_api.specs.Frames.{Stays};
 ghost use Rattle.run_graph.specs.Layering.{InLayer};
 ghost use Rattle.cost_layers.specs.Layers.{whole_at, Held, Stands};
+ghost use Rattle.bidirectional.specs.Crossing.{AreHeld};
 ghost use Rattle.bidirectional.specs.Cutting.{LeadsInto, CutsBy, IsFirstOp, HasEach, Begin, AreFirstCuts, cross_at};
 
-use crate::crossing::{cost_from, layer_meets};
+use crate::crossing::{Meeting, cost_from, layer_meets};
 use crate::landing::landing;
 use cost_layers::Layers;
 use cost_search::cost_after;
 use plan_cuts::Cut;
+use run_graph::Side;
 use space_api::{Space, SpaceFault};
 use std::alloc::Global;
 
@@ -77,22 +93,21 @@ pub(crate) fn cost_before(cost: u64, b: u128, w: u64, z: u64) -> Option<u64>
 /// Whether forward layers meet the set by operators of cost `w`, at this cost.
 fn cost_meets<S: Space>(
     space: &mut S,
-    front: &Layers<S::Set>,
+    meeting: Meeting<'_, S::Set>,
     cost: u64,
-    b: u128,
     z: u64,
     w: u64,
     to: S::Set,
 ) -> Result<bool, SpaceFault>
-    requires front { Held (S.view space.old) front.now }
+    requires layers { AreHeld (S.view space.old) meeting }
     requires to { Valid (S.view space.old) to }
     ensures stays { Stays (S.view space.old) (S.view space.new) }
     ensures ok { IfOk result (λ r. (op : ℕ) → (S.view space.old).system.cost op ≡ w
-        → CutsBy (S.view space.old).system (Stands (S.view space.old) front.now) (Has (S.view space.old) to)
-        cost b z op → IsTrue r) }
+        → CutsBy (S.view space.old).system (Stands (S.view space.old) meeting.entry.front.now) (Has (S.view space.old) to)
+        cost meeting.entry.b z op → IsTrue r) }
 {
-    match cost_before(cost, b, w, z) {
-        Some(x) => layer_meets(space, front, x, w, to, false),
+    match cost_before(cost, meeting.b, w, z) {
+        Some(x) => layer_meets(space, meeting.front, x, w, to, Side::Back),
         None => Ok(false),
     }
 }
@@ -101,22 +116,21 @@ fn cost_meets<S: Space>(
 fn meeting_costs<S: Space>(
     alloc: Global,
     space: &mut S,
-    front: &Layers<S::Set>,
+    meeting: Meeting<'_, S::Set>,
     cost: u64,
-    b: u128,
     z: u64,
     to: S::Set,
 ) -> Result<Vec<u64>, SpaceFault>
-    requires front { Held (S.view space.old) front.now }
+    requires layers { AreHeld (S.view space.old) meeting }
     requires to { Valid (S.view space.old) to }
     ensures stays { Stays (S.view space.old) (S.view space.new) }
-    ensures ok { IfOk result (λ costs. HasEach (S.view space.old).system (Stands (S.view space.old) front.now)
-        (Has (S.view space.old) to) cost b z costs.items) }
+    ensures ok { IfOk result (λ costs. HasEach (S.view space.old).system (Stands (S.view space.old) meeting.entry.front.now)
+        (Has (S.view space.old) to) cost meeting.entry.b z costs.items) }
 {
     let mut costs = Vec::new(alloc);
     'costs: for i in 0..space.costs() {
         let w = space.cost_at(i);
-        if cost_meets(space, front, cost, b, z, w, to)? {
+        if cost_meets(space, meeting, cost, z, w, to)? {
             costs.push(w)?;
         }
     }
@@ -126,59 +140,57 @@ fn meeting_costs<S: Space>(
 /// Whether the operator crosses into the set at this cost; no operator whose cost isn't listed is tried.
 fn op_cuts<S: Space>(
     space: &mut S,
-    front: &Layers<S::Set>,
+    meeting: Meeting<'_, S::Set>,
     cost: u64,
-    b: u128,
     z: u64,
     op: u32,
     costs: &[u64],
     to: S::Set,
 ) -> Result<bool, SpaceFault>
-    requires front { Held (S.view space.old) front.now }
+    requires layers { AreHeld (S.view space.old) meeting }
     requires to { Valid (S.view space.old) to }
     requires op { op < (S.view space.old).system.operators }
-    requires costs { HasEach (S.view space.old).system (Stands (S.view space.old) front.now)
-        (Has (S.view space.old) to) cost b z costs.now }
+    requires costs { HasEach (S.view space.old).system (Stands (S.view space.old) meeting.front.now)
+        (Has (S.view space.old) to) cost meeting.b z costs.now }
     ensures stays { Stays (S.view space.old) (S.view space.new) }
     ensures ok { IfOk result (λ r. IsTrue r ↔ CutsBy (S.view space.old).system
-        (Stands (S.view space.old) front.now) (Has (S.view space.old) to) cost b z op) }
+        (Stands (S.view space.old) meeting.entry.front.now) (Has (S.view space.old) to) cost meeting.entry.b z op) }
 {
     let w = space.cost_of(op);
     if !costs.contains(&w) {
         return Ok(false);
     }
-    match cost_before(cost, b, w, z) {
-        Some(x) => layer_leads(space, front, x, op, to),
+    match cost_before(cost, meeting.b, w, z) {
+        Some(x) => layer_leads(space, meeting.front, x, op, to),
         None => Ok(false),
     }
 }
 
-/// The operators from this one on that cross into the set at this cost, in order; all, unless one is enough. None
-/// is tried that leads into no state of it.
+/// The operators from this place on that cross into the set at this cost and leave what it leaves, in order; all,
+/// unless one is wanted. None is tried that leads into no state of it.
 fn ops_among<S: Space>(
     alloc: Global,
     space: &mut S,
-    front: &Layers<S::Set>,
+    meeting: Meeting<'_, S::Set>,
     cost: u64,
-    b: u128,
-    z: u64,
-    from: u64,
+    place: Place,
     to: S::Set,
-    one: bool,
+    wanted: Wanted,
 ) -> Result<Vec<u32>, SpaceFault>
-    requires front { Held (S.view space.old) front.now }
+    requires layers { AreHeld (S.view space.old) meeting }
     requires to { Valid (S.view space.old) to }
     ensures stays { Stays (S.view space.old) (S.view space.new) }
-    ensures ok { IfOk result (λ ops. Begin (IsFirstOp (S.view space.old).system (Stands (S.view space.old) front.now)
-        (Has (S.view space.old) to) cost b z) one from ops.items) }
+    ensures ok { IfOk result (λ ops. Begin (IsFirstOp (S.view space.old).system
+        (Stands (S.view space.old) meeting.entry.front.now) (Has (S.view space.old) to) cost meeting.entry.b place.z)
+        wanted place.op ops.items) }
 {
-    let costs = meeting_costs(alloc, space, front, cost, b, z, to)?;
+    let costs = meeting_costs(alloc, space, meeting, cost, place.z, to)?;
     let ops = space.operators_into(alloc, to)?;
     let mut found = Vec::new(alloc);
     'operators: for op in &ops {
-        if from <= *op as u64 && op_cuts(space, front, cost, b, z, *op, &costs, to)? {
+        if place.op <= *op as u64 && op_cuts(space, meeting, cost, place.z, *op, &costs, to)? {
             found.push(*op)?;
-            if one {
+            if let Wanted::One = wanted {
                 return Ok(found);
             }
         }
@@ -190,123 +202,103 @@ fn ops_among<S: Space>(
 fn ops_landed<S: Space>(
     alloc: Global,
     space: &mut S,
-    front: &Layers<S::Set>,
+    meeting: Meeting<'_, S::Set>,
     cost: u64,
-    b: u128,
-    z: u64,
-    from: u64,
+    place: Place,
     to: S::Set,
-    one: bool,
+    wanted: Wanted,
 ) -> Result<Vec<u32>, SpaceFault>
-    requires front { Held (S.view space.old) front.now }
+    requires layers { AreHeld (S.view space.old) meeting }
     requires to { Valid (S.view space.old) to }
     ensures stays { Stays (S.view space.old) (S.view space.new) }
-    ensures ok { IfOk result (λ ops. Begin (IsFirstOp (S.view space.old).system (Stands (S.view space.old) front.now)
-        (Has (S.view space.old) to) cost b z) one from ops.items) }
+    ensures ok { IfOk result (λ ops. Begin (IsFirstOp (S.view space.old).system
+        (Stands (S.view space.old) meeting.entry.front.now) (Has (S.view space.old) to) cost meeting.entry.b place.z)
+        wanted place.op ops.items) }
 {
     if space.is_empty(to) {
         return Ok(Vec::new(alloc));
     }
-    ops_among(alloc, space, front, cost, b, z, from, to, one)
+    ops_among(alloc, space, meeting, cost, place, to, wanted)
 }
 
-/// The operators from this one on that cross into the set at this cost, in order; all, unless one is enough. They
-/// are looked for among those that lead into the states of the set into which some operator crosses, which are few;
-/// these are found once, by steps ahead, or else by steps back.
+/// The same. They are looked for among those that lead into the states of the set into which some operator crosses,
+/// which are few; these are found once.
 fn ops_from<S: Space>(
     alloc: Global,
     space: &mut S,
-    front: &Layers<S::Set>,
+    meeting: Meeting<'_, S::Set>,
     cost: u64,
-    b: u128,
-    z: u64,
-    from: u64,
+    place: Place,
     to: S::Set,
-    one: bool,
-    ahead: bool,
+    wanted: Wanted,
 ) -> Result<Vec<u32>, SpaceFault>
-    requires front { Held (S.view space.old) front.now }
+    requires layers { AreHeld (S.view space.old) meeting }
     requires to { Valid (S.view space.old) to }
     ensures stays { Stays (S.view space.old) (S.view space.new) }
-    ensures ok { IfOk result (λ ops. Begin (IsFirstOp (S.view space.old).system (Stands (S.view space.old) front.now)
-        (Has (S.view space.old) to) cost b z) one from ops.items) }
+    ensures ok { IfOk result (λ ops. Begin (IsFirstOp (S.view space.old).system
+        (Stands (S.view space.old) meeting.entry.front.now) (Has (S.view space.old) to) cost meeting.entry.b place.z)
+        wanted place.op ops.items) }
 {
-    let landed = landing(space, front, cost, b, z, to, ahead)?;
-    let ops = ops_landed(alloc, space, front, cost, b, z, from, landed, one);
+    let landed = landing(space, meeting, cost, place.z, to)?;
+    let ops = ops_landed(alloc, space, meeting, cost, place, landed, wanted);
     space.forget(landed);
     ops
 }
 
-/// The same, into the backward layer of this cost.
+/// The same, into the backward layer of the cost that is left.
 fn ops_into<S: Space>(
     alloc: Global,
     space: &mut S,
-    front: &Layers<S::Set>,
-    back: &Layers<S::Set>,
+    meeting: Meeting<'_, S::Set>,
     cost: u64,
-    b: u128,
-    z: u64,
-    from: u64,
-    one: bool,
-    ahead: bool,
+    place: Place,
+    wanted: Wanted,
 ) -> Result<Vec<u32>, SpaceFault>
-    requires front { Held (S.view space.old) front.now }
-    requires back { Held (S.view space.old) back.now }
+    requires layers { AreHeld (S.view space.old) meeting }
     ensures stays { Stays (S.view space.old) (S.view space.new) }
-    ensures ok { IfOk result (λ ops. Begin (IsFirstOp (S.view space.old).system (Stands (S.view space.old) front.now)
-        (InLayer (Stands (S.view space.old) back.now) z) cost b z) one from ops.items) }
+    ensures ok { IfOk result (λ ops. Begin (IsFirstOp (S.view space.old).system
+        (Stands (S.view space.old) meeting.entry.front.now) (InLayer (Stands (S.view space.old) meeting.entry.back.now) place.z)
+        cost meeting.entry.b place.z) wanted place.op ops.items) }
 {
-    match back.layer(z) {
-        Some(whole) => ops_from(alloc, space, front, cost, b, z, from, whole, one, ahead),
+    match meeting.back.layer(place.z) {
+        Some(whole) => ops_from(alloc, space, meeting, cost, place, whole, wanted),
         None => Ok(Vec::new(alloc)),
     }
 }
 
-/// Where the operators begin: after the given one in its own layer, and at the first in a later one.
-fn first_from(z: u64, first: u64, from: u64) -> u64
-    ensures { (z ≡ first → result ≡ from) × (first < z → result ≡ 0) }
+/// Where the operators begin: at the given one in its own layer, and at the first in a later one.
+fn first_op(z: u64, first: Place) -> u64
+    ensures { (z ≡ first.z → result ≡ first.op) × (first.z < z → result ≡ 0) }
 {
-    if z == first { from } else { 0 }
+    if z == first.z { first.op } else { 0 }
 }
 
 /// The operators by which layers of both sides meet at this cost where the least cost is left at which some do, from
-/// this pair of a cost that is left and an operator on; all of them, unless one is enough. None where no layers meet.
+/// this place on; all of them, unless one is wanted. None where no layers meet.
 pub(crate) fn first_cross<S: Space>(
     alloc: Global,
     space: &mut S,
-    front: &Layers<S::Set>,
-    back: &Layers<S::Set>,
+    meeting: Meeting<'_, S::Set>,
     cost: u64,
-    b: u128,
-    first: u64,
-    from: u64,
-    one: bool,
-    ahead: bool,
+    first: Place,
+    wanted: Wanted,
 ) -> Result<Option<Crossing>, SpaceFault>
-    requires front { Held (S.view space.old) front.now }
-    requires back { Held (S.view space.old) back.now }
+    requires layers { AreHeld (S.view space.old) meeting }
     ensures stays { Stays (S.view space.old) (S.view space.new) }
-    ensures ok { IfOk result (AreFirstCuts (S.view space.old).system (Stands (S.view space.old) front.now)
-        (Stands (S.view space.old) back.now) cost b one first from) }
+    ensures ok { IfOk result (AreFirstCuts (S.view space.old).system (Stands (S.view space.old) meeting.entry.front.now)
+        (Stands (S.view space.old) meeting.entry.back.now) cost meeting.entry.b wanted first.z first.op) }
 {
-    let mut next = cost_from(back, first as u128);
+    let mut next = cost_from(meeting.back, first.z as u128);
     'costs: while let Some(z) = next {
-        let ops = ops_into(
-            alloc,
-            space,
-            front,
-            back,
-            cost,
-            b,
+        let place = Place {
             z,
-            first_from(z, first, from),
-            one,
-            ahead,
-        )?;
+            op: first_op(z, first),
+        };
+        let ops = ops_into(alloc, space, meeting, cost, place, wanted)?;
         if !ops.is_empty() {
             return Ok(Some(Crossing { z, ops }));
         }
-        next = cost_after(back, z);
+        next = cost_after(meeting.back, z);
     }
     Ok(None)
 }

@@ -7,13 +7,14 @@ ghost use Rattle.space_api.specs.Frames.{Kept, NoMore, Gives};
 ghost use Rattle.space_api.specs.Owned.{Trades};
 ghost use Rattle.run_graph.specs.Graph.{seen_from};
 ghost use Rattle.run_graph.specs.declared.Side.TheVariants.{Ahead};
-ghost use Rattle.cost_layers.specs.Layers.{Held, Stands};
+ghost use Rattle.cost_layers.specs.Layers.{Stands};
 ghost use Rattle.layer_steps.specs.Arcs.{AlongIn};
 ghost use Rattle.layer_steps.specs.Gathered.{Joins};
+ghost use Rattle.bidirectional.specs.Crossing.{AreHeld};
 ghost use Rattle.bidirectional.specs.Cutting.{Lands, LandsBy};
 
+use crate::crossing::Meeting;
 use crate::cutting::cost_before;
-use cost_layers::Layers;
 use layer_steps::unite_along;
 use run_graph::Side;
 use space_api::{Space, SpaceFault};
@@ -41,14 +42,14 @@ fn land_back<S: Space>(
     more
 }
 
-/// The same, by a step ahead or by one back.
+/// The same, by a step of this side.
 fn land_from<S: Space>(
     space: &mut S,
     from: S::Set,
     w: u64,
     to: S::Set,
     landed: S::Set,
-    ahead: bool,
+    by: Side,
 ) -> Result<S::Set, SpaceFault>
     requires from { Valid (S.view space.old) from }
     requires to { Valid (S.view space.old) to }
@@ -58,10 +59,9 @@ fn land_from<S: Space>(
         s ⊎ AlongIn (seen_from Ahead (S.view space.old).system) (S.view space.old) w from to s)) }
     ensures err { OnErr result (NoMore (S.view space.old) (S.view space.new)) }
 {
-    if ahead {
-        unite_along(space, Side::Ahead, to, landed, w, from)
-    } else {
-        land_back(space, from, w, to, landed)
+    match by {
+        Side::Ahead => unite_along(space, Side::Ahead, to, landed, w, from),
+        Side::Back => land_back(space, from, w, to, landed),
     }
 }
 
@@ -72,7 +72,7 @@ fn add_from<S: Space>(
     w: u64,
     to: S::Set,
     landed: S::Set,
-    ahead: bool,
+    by: Side,
 ) -> Result<S::Set, SpaceFault>
     requires from { Valid (S.view space.old) from }
     requires to { Valid (S.view space.old) to }
@@ -81,7 +81,7 @@ fn add_from<S: Space>(
         (AlongIn (seen_from Ahead (S.view space.old).system) (S.view space.old) w from to)) }
     ensures err { OnErr result (Trades (S.view space.old) (S.view space.new) (λ a. a ≡ landed) (λ a. ⊥)) }
 {
-    let more = land_from(space, from, w, to, landed, ahead);
+    let more = land_from(space, from, w, to, landed, by);
     space.forget(landed);
     more
 }
@@ -90,53 +90,49 @@ fn add_from<S: Space>(
 /// place of.
 fn add_landing<S: Space>(
     space: &mut S,
-    front: &Layers<S::Set>,
+    meeting: Meeting<'_, S::Set>,
     cost: u64,
-    b: u128,
     z: u64,
     w: u64,
     to: S::Set,
     landed: S::Set,
-    ahead: bool,
 ) -> Result<S::Set, SpaceFault>
-    requires front { Held (S.view space.old) front.now }
+    requires layers { AreHeld (S.view space.old) meeting }
     requires to { Valid (S.view space.old) to }
     requires landed { Valid (S.view space.old) landed }
     ensures ok { IfOk result (Joins (S.view space.old) (S.view space.new) landed
-        (LandsBy (S.view space.old).system (Stands (S.view space.old) front.now) (Has (S.view space.old) to)
-        cost b z w)) }
+        (LandsBy (S.view space.old).system (Stands (S.view space.old) meeting.entry.front.now) (Has (S.view space.old) to)
+        cost meeting.entry.b z w)) }
     ensures err { OnErr result (Trades (S.view space.old) (S.view space.new) (λ a. a ≡ landed) (λ a. ⊥)) }
 {
-    match cost_before(cost, b, w, z) {
-        Some(x) => match front.layer(x) {
-            Some(whole) => add_from(space, whole, w, to, landed, ahead),
+    match cost_before(cost, meeting.b, w, z) {
+        Some(x) => match meeting.front.layer(x) {
+            Some(whole) => add_from(space, whole, w, to, landed, meeting.by),
             None => Ok(landed),
         },
         None => Ok(landed),
     }
 }
 
-/// The states of `to` into which operators cross at this cost, as a new set; by steps ahead, or else by steps back.
+/// The states of `to` into which operators cross at this cost, as a new set.
 pub(crate) fn landing<S: Space>(
     space: &mut S,
-    front: &Layers<S::Set>,
+    meeting: Meeting<'_, S::Set>,
     cost: u64,
-    b: u128,
     z: u64,
     to: S::Set,
-    ahead: bool,
 ) -> Result<S::Set, SpaceFault>
-    requires front { Held (S.view space.old) front.now }
+    requires layers { AreHeld (S.view space.old) meeting }
     requires to { Valid (S.view space.old) to }
     ensures kept { Kept (S.view space.old) (S.view space.new) }
     ensures ok { IfOk result (Gives (S.view space.old) (S.view space.new) (Lands (S.view space.old).system
-        (Stands (S.view space.old) front.now) (Has (S.view space.old) to) cost b z)) }
+        (Stands (S.view space.old) meeting.entry.front.now) (Has (S.view space.old) to) cost meeting.entry.b z)) }
     ensures err { OnErr result (NoMore (S.view space.old) (S.view space.new)) }
 {
     let mut landed = space.empty()?;
     'costs: for i in 0..space.costs() {
         let w = space.cost_at(i);
-        landed = add_landing(space, front, cost, b, z, w, to, landed, ahead)?;
+        landed = add_landing(space, meeting, cost, z, w, to, landed)?;
     }
     Ok(landed)
 }

@@ -10,5 +10,5 @@ invariant-operators g l =
     let v = view l.fn.space in
     record {
       stays : Stays v (view l.space);
-      found : Gathered v.system (Stands v l.front) (Has v l.to) l.cost l.b l.z l.op-items l.op-index l.from l.found.items;
+      found : Gathered v.system (Stands v l.meeting.front.now) (Has v l.to) l.cost l.meeting.b l.place.z l.op-items l.op-index l.place.op l.found.items;
     }

@@ -8,11 +8,16 @@ use Rattle.bidirectional.proofs.landing.add_landing.Goals as goal
 
 pub returns-in-Some-layer-clause-ok : goal.returns-in-Some-layer-clause-ok
 returns-in-Some-layer-clause-ok g c =
-    let view = g.S.Space.view in
-    if_ok_map c.add_from.result (λ r j. lands_layer (view c.args.space.now) (view c.add_from.new.space) c.args.front.now c.args.to c.args.landed c.args.cost c.args.b c.args.z c.args.w c.requires.front c.in-Some.x c.in-Some-layer.whole r c.in-Some.ensures (sym c.layer.ensures ∙ c.in-Some-layer.is) j) c.add_from.ensures.ok
+    if_ok_map c.add_from.result
+    (λ r j. lands_layer c.args.to c.args.cost c.args.z c.args.w c.requires.layers c.in-Some.x c.in-Some-layer.whole
+    c.in-Some.ensures (sym c.layer.ensures ∙ c.in-Some-layer.is) j)
+    c.add_from.ensures.ok
 
 pub returns-in-None-clause-ok : goal.returns-in-None-clause-ok
 returns-in-None-clause-ok g c =
     let v = g.S.Space.view c.args.space.now in
-    joins_none v c.args.landed (LandsBy v.system (Stands v c.args.front.now) (Has v c.args.to) c.args.cost c.args.b c.args.z c.args.w) c.requires.landed
-    (lands_nowhere v v c.args.front.now c.args.to c.args.landed c.args.cost c.args.b c.args.z c.args.w c.requires.front c.in-None.ensures)
+    let m = c.args.meeting in
+    let front = Stands v m.front.now in
+    let to = Has v c.args.to in
+    joins_none v c.args.landed (LandsBy v.system front to c.args.cost m.b c.args.z c.args.w) c.requires.landed
+    (lands_nowhere v.system front to c.args.cost m.b c.args.z c.args.w c.in-None.ensures)

@@ -1,5 +1,5 @@
 -- A child is put with the others.
-use Rattle.std.proofs.Common.{◌≡◌, ℕ, ◌-◌, ◌<◌, ◌≤◌, ◌⊎◌, ◌^◌, inl, inr, List, [], ◌∷◌, ◌++◌, Some, None, Result, Ok, Err, OnOk, OnErr, refl, sym, ◌∙◌, ap, subst, arith}
+use Rattle.std.proofs.Common.{◌≡◌, ℕ, ◌-◌, ◌<◌, ◌≤◌, ◌⊎◌, ◌^◌, inl, inr, List, [], ◌∷◌, ◌++◌, Option, Some, None, Result, Ok, Err, OnOk, refl, sym, ◌∙◌, ap, subst, arith}
 use Rattle.std.specs.List.{AllByRecursion}
 use Rattle.task_system.specs.System.{State}
 use Rattle.space_api.specs.View.{View}
@@ -12,7 +12,7 @@ use Rattle.entry_laws.specs.Growing.{Added}
 use Rattle.entry_laws.proofs.Adding.{rest_of, ring_of, added_none, added_falls, added_level, child_lower}
 use Rattle.entry_turns.specs.Entries.{cost_in, ring_in, plain, plains, EntryOk, IsNewEntry, member_in}
 use Rattle.entry_turns.specs.Ways.{IsNew, IsChildSet, Joins, side_for, IsLayerTo}
-use Rattle.entry_turns.specs.Grown.{GrownBefore, GrownAfter, IsPut, PutsBefore, PutsAfter, MakesOn, AddsChild}
+use Rattle.entry_turns.specs.Grown.{GrownBefore, IsPut, PutsBefore, PutsAfter, MakesOn, AddsChild, AddsBefore}
 use Rattle.entry_turns.specs.declared.entries.Prefix.{Prefix}
 use Rattle.entry_turns.specs.declared.entries.Suffix.{Suffix}
 use Rattle.entry_turns.specs.declared.entries.Entry.{Entry}
@@ -42,45 +42,66 @@ plain_ring v (Before e) = refl
 plain_ring v (After e) = refl
 
 module _ {Set : Type 0} (v : View Set) (front back : Layers Set) (e : Entry Set) (op : ℕ) (level falling : List (Entry Set)) where
-  pub none_added : (w : View Set) → Kept v w → op < v.system.operators → EntryOk v e → LeadsNowhere v front back e op → AddsChild v w front back e op level falling level falling
+  pub none_added : (w : View Set) → Kept v w → op < v.system.operators → EntryOk v e → LeadsNowhere v front back e op
+      → AddsChild v w front back e op level falling level falling
   none_added w k number ok none f b listed ok1 ok2 ready =
       let n = no_child v front back op number f b listed e ok ready none in
-      added_none v.system (member_in v front) (member_in v back) (plain v e) op (plains v level) (plains v falling) (plains w level) (plains w falling) n.0 n.1 (plains_kept v w k level ok1) (plains_kept v w k falling ok2)
+      added_none v.system (member_in v front) (member_in v back) (plain v e) op (plains v level) (plains v falling)
+      (plains w level) (plains w falling) n.0 n.1 (plains_kept v w k level ok1) (plains_kept v w k falling ok2)
 
-  pub put_added : (w : View Set) (c : Entry Set) (level2 falling2 : List (Entry Set)) → Kept v w → AllByRecursion (EntryOk v) level → AllByRecursion (EntryOk v) falling → IsChild v.system (member_in v front) (member_in v back) (plain v e) op (plain w c) → ring_in c < 2 ^ 64 → IsPut (cost_in e) (ring_in e) c level falling level2 falling2 → Added v.system (member_in v front) (member_in v back) (plain v e) op (plains v level) (plains v falling) (plains w level2) (plains w falling2)
+  pub put_added : (w : View Set) (c : Entry Set) (level2 falling2 : List (Entry Set)) → Kept v w
+      → AllByRecursion (EntryOk v) level → AllByRecursion (EntryOk v) falling
+      → IsChild v.system (member_in v front) (member_in v back) (plain v e) op (plain w c) → ring_in c < 2 ^ 64
+      → IsPut (cost_in e) (ring_in e) c level falling level2 falling2
+      → Added v.system (member_in v front) (member_in v back) (plain v e) op (plains v level) (plains v falling)
+      (plains w level2) (plains w falling2)
   put_added w c level2 falling2 k ok1 ok2 child fits (inl (less, same, put)) =
-      let low : (rest_of (plain w c) < rest_of (plain v e)) ⊎ (ring_of (plain w c) < ring_of (plain v e)) = rw (plain_cost w c, plain_cost v e, plain_ring w c, plain_ring v e) less in
+      let low : (rest_of (plain w c) < rest_of (plain v e)) ⊎ (ring_of (plain w c) < ring_of (plain v e)) =
+      rw (plain_cost w c, plain_cost v e, plain_ring w c, plain_ring v e) less in
       let small : ring_of (plain w c) < 2 ^ 64 = rw (plain_ring w c) fits in
-      added_falls v.system (member_in v front) (member_in v back) (plain v e) op (plains v level) (plains v falling) (plains w level2) (plains w falling2) (plain w c) child
+      added_falls v.system (member_in v front) (member_in v back) (plain v e) op (plains v level) (plains v falling)
+      (plains w level2) (plains w falling2) (plain w c) child
       (child_lower v.system (member_in v front) (member_in v back) (plain v e) op (plain w c) child small low)
       (ap (plains w) same ∙ plains_kept v w k level ok1)
       (ap (plains w) put ∙ plains_append w falling (c ∷ []) ∙ ap (λ (xs : List Plain). xs ++ plain w c ∷ []) (plains_kept v w k falling ok2))
   put_added w c level2 falling2 k ok1 ok2 child fits (inr (more, above, put, same)) =
       let high : rest_of (plain v e) ≤ rest_of (plain w c) = rw (plain_cost w c, plain_cost v e) more in
       let up : ring_of (plain v e) ≤ ring_of (plain w c) = rw (plain_ring w c, plain_ring v e) above in
-      added_level v.system (member_in v front) (member_in v back) (plain v e) op (plains v level) (plains v falling) (plains w level2) (plains w falling2) (plain w c) child high up
+      added_level v.system (member_in v front) (member_in v back) (plain v e) op (plains v level) (plains v falling)
+      (plains w level2) (plains w falling2) (plain w c) child high up
       (ap (plains w) put ∙ plains_append w level (c ∷ []) ∙ ap (λ (xs : List Plain). xs ++ plain w c ∷ []) (plains_kept v w k level ok1))
       (ap (plains w) same ∙ plains_kept v w k falling ok2)
 
   -- a refused child leads nowhere else than into the layer
-  pub only_within : (within : Set) (x : ℕ) → x ≡ v.system.cost op → whole_at (side_for front back e) (cost_in e - x) ≡ Some within → ((s t : State) → ¬ Joins v e op within s t) → LeadsNowhere v front back e op
+  pub only_within : (within : Set) (x : ℕ) → x ≡ v.system.cost op
+      → whole_at (side_for front back e) (cost_in e - x) ≡ Some within → ((s t : State) → ¬ Joins v e op within s t)
+      → LeadsNowhere v front back e op
   only_within within x cost at none b s t le is =
       let same : b ≡ within = some_one b within (sym is ∙ subst (λ (n : ℕ). whole_at (side_for front back e) (cost_in e - n) ≡ Some within) cost at) in
       λ j. none s t (subst (λ (z : Set). Joins v e op z s t) same j)
 
   pub none_nowhere : (x : ℕ) → x ≡ v.system.cost op → IsLayerTo (side_for front back e) (cost_in e) x None → LeadsNowhere v front back e op
-  none_nowhere x cost none b s t le is = absurd (none_some b (sym (subst (λ (n : ℕ). whole_at (side_for front back e) (cost_in e - n) ≡ None) cost (none (omega (arith, cost, le)))) ∙ is))
+  none_nowhere x cost none b s t le is = absurd (none_some b
+      (sym (subst (λ (n : ℕ). whole_at (side_for front back e) (cost_in e - n) ≡ None) cost
+      (none (omega (arith, cost, le)))) ∙ is))
+
+pub no_layer : {Set : Type 0} (l : Layers Set) (cost x : ℕ) (o : Option Set) → ((a : Set) → ¬ (o ≡ Some a)) → IsLayerTo l cost x o → IsLayerTo l cost x None
+no_layer l cost x None none to = to
+no_layer l cost x (Some a) none to = absurd (none a refl)
 
 -- a prefix's child: it was made in v1, and the rings were asked since
-module _ {Set : Type 0} (v v1 w : View Set) (front back : Layers Set) (e : Prefix Set) (op x : ℕ) (within a : Set) (level falling level2 falling2 : List (Entry Set)) (number : op < v.system.operators) (cost : x ≡ v.system.cost op) (ok : EntryOk v (Before e)) (le : x ≤ e.cost) (at : whole_at front (e.cost - x) ≡ Some within) (hf : Held v front) (k1 : Kept v v1) (found : IsChildSet v v1 e op within a) (k2 : Stays v1 w) (into : PutsBefore v1 front e op x a level falling level2 falling2) where
+module _ {Set : Type 0} {v v1 w : View Set} {front : Layers Set} {e : Prefix Set} {op x : ℕ} {within a : Set} (level falling level2 falling2 : List (Entry Set))
+    (number : op < v.system.operators) (cost : x ≡ v.system.cost op) (ok : EntryOk v (Before e))
+    (to : (x ≤ e.cost) × (whole_at front (e.cost - x) ≡ Some within)) (hf : Held v front)
+    (k1 : Kept v v1) (found : IsChildSet v v1 e op within a) (k2 : Stays v1 w) (into : PutsBefore v1 front e op x a level falling level2 falling2) where
   abbrev c : Prefix Set
   c = into.0
 
   le2 : v.system.cost op ≤ e.cost
-  le2 = omega (arith, cost, le)
+  le2 = omega (arith, cost, to.0)
 
   at2 : whole_at front (e.cost - v.system.cost op) ≡ Some within
-  at2 = subst (λ (n : ℕ). whole_at front (e.cost - n) ≡ Some within) cost at
+  at2 = subst (λ (n : ℕ). whole_at front (e.cost - n) ≡ Some within) cost to.1
 
   grown : GrownBefore v1 front e op (v.system.cost op) a c
   grown = subst (λ (n : ℕ). GrownBefore v1 front e op n a c) cost into.1
@@ -89,7 +110,7 @@ module _ {Set : Type 0} (v v1 w : View Set) (front back : Layers Set) (e : Prefi
   new = new_before v w c (subst (λ (z : Set). IsNew v w z) (sym grown.set_is) (new_stays v v1 w a found.new k2))
 
   fine : EntryOk w (Before c)
-  fine = before_ok v v1 w front back op within a number k1 k2.kept e c ok le2 at2 hf found grown
+  fine = before_ok number k1 k2.kept ok le2 at2 hf found grown
 
   pub before_made : MakesOn v w (level ++ falling) (level2 ++ falling2)
   before_made u m = elim into.2 [
@@ -97,44 +118,30 @@ module _ {Set : Type 0} (v v1 w : View Set) (front back : Layers Set) (e : Prefi
     | inr p ↦ rw (p.2, p.3) (makes_first u v w level falling (Before c) m (kept_trans k1 k2.kept) new fine)
   ]
 
-  pub before_added : AddsChild v w front back (Before e) op level falling level2 falling2
-  before_added f b listed ok1 ok2 ready =
-      let child = before_child v v1 w front back op within a number k1 k2.kept e c ok le2 at2 hf found grown f b listed ready in
+  pub before_added : AddsBefore v w front e op level falling level2 falling2
+  before_added back hb f b listed ok1 ok2 ready =
+      let child = before_child number k1 k2.kept ok le2 at2 hf found grown back f b listed ready in
       put_added v front back (Before e) op level falling w (Before c) level2 falling2 (kept_trans k1 k2.kept) ok1 ok2 child grown.fits into.2
 
 -- a suffix's child
-module _ {Set : Type 0} (v : View Set) (front back : Layers Set) (e : Suffix) (op x : ℕ) (within : Set) (to : State) (level falling level2 falling2 : List (Entry Set)) (number : op < v.system.operators) (cost : x ≡ v.system.cost op) (ok : EntryOk v (After e)) (le : x ≤ e.cost) (at : whole_at back (e.cost - x) ≡ Some within) (found : Joins v (After e) op within e.state to) where
-  module _ (into : PutsAfter v back e op x to level falling level2 falling2) where
-    abbrev d : Suffix
-    d = into.0
+module _ {Set : Type 0} {v : View Set} {back : Layers Set} {e : Suffix} {op : ℕ} {within : Set} {to : State}
+    (level falling level2 falling2 : List (Entry Set)) (number : op < v.system.operators) (ok : EntryOk v (After e))
+    (le : v.system.cost op ≤ e.cost) (at : whole_at back (e.cost - v.system.cost op) ≡ Some within)
+    (found : Joins v (After e) op within e.state to) (into : PutsAfter v back e op (v.system.cost op) to level
+    falling level2 falling2) where
+  abbrev d : Suffix
+  d = into.0
 
-    le3 : v.system.cost op ≤ e.cost
-    le3 = omega (arith, cost, le)
+  fine2 : EntryOk v (After d)
+  fine2 = after_ok number ok le at found into.1
 
-    at3 : whole_at back (e.cost - v.system.cost op) ≡ Some within
-    at3 = subst (λ (n : ℕ). whole_at back (e.cost - n) ≡ Some within) cost at
+  pub after_made : MakesOn v v (level ++ falling) (level2 ++ falling2)
+  after_made u m = elim into.2 [
+    | inl p ↦ rw (p.1, p.2) (makes_last u v v level falling (After d) m (kept_refl v) (new_after v d) fine2)
+    | inr p ↦ rw (p.2, p.3) (makes_first u v v level falling (After d) m (kept_refl v) (new_after v d) fine2)
+  ]
 
-    grows : GrownAfter v back e op (v.system.cost op) to d
-    grows = subst (λ (n : ℕ). GrownAfter v back e op n to d) cost into.1
-
-    fine2 : EntryOk v (After d)
-    fine2 = after_ok v front back op within to number e d ok le3 at3 found grows
-
-    after_made : MakesOn v v (level ++ falling) (level2 ++ falling2)
-    after_made u m = elim into.2 [
-      | inl p ↦ rw (p.1, p.2) (makes_last u v v level falling (After d) m (kept_refl v) (new_after v d) fine2)
-      | inr p ↦ rw (p.2, p.3) (makes_first u v v level falling (After d) m (kept_refl v) (new_after v d) fine2)
-    ]
-
-    after_added : AddsChild v v front back (After e) op level falling level2 falling2
-    after_added f b listed ok1 ok2 ready =
-        let child = after_child v front back op within to number e d ok le3 at3 found grows f b listed ready in
-        put_added v front back (After e) op level falling v (After d) level2 falling2 (kept_refl v) ok1 ok2 child grows.fits into.2
-
-  -- by what putting it answers
-  pub after_put_made : {A : Type 0} {E : Type 0} (r : Result A E) → OnOk r (PutsAfter v back e op x to level falling level2 falling2) → OnErr r (level2 ≡ level) → OnErr r (falling2 ≡ falling) → MakesOn v v (level ++ falling) (level2 ++ falling2)
-  after_put_made (Ok a) into p q = after_made into
-  after_put_made (Err f) into p q = λ u m. rw (p, q) m
-
-  pub after_put_added : {A : Type 0} {E : Type 0} (r : Result A E) → OnOk r (PutsAfter v back e op x to level falling level2 falling2) → OnOk r (AddsChild v v front back (After e) op level falling level2 falling2)
-  after_put_added r into = on_ok r _ _ after_added into
+  pub after_added : (front : Layers Set) → AddsChild v v front back (After e) op level falling level2 falling2
+  after_added front f b listed ok1 ok2 ready =
+      let child = after_child number ok le at found into.1 front f b listed ready in
+      put_added v front back (After e) op level falling v (After d) level2 falling2 (kept_refl v) ok1 ok2 child into.1.fits into.2

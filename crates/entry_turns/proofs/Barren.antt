@@ -21,13 +21,16 @@ in_layer v (Some a) s h = (a, refl, h)
 
 -- no operator leads on: of whatever layer the cost has
 abbrev pub LeadsNowhere : {Set : Type 0} → View Set → Layers Set → Layers Set → Entry Set → ℕ → Type 0
-LeadsNowhere {Set} v front back e op = (a : Set) (s t : State) → v.system.cost op ≤ cost_in e → whole_at (side_for front back e) (cost_in e - v.system.cost op) ≡ Some a → ¬ Joins v e op a s t
+LeadsNowhere {Set} v front back e op = (a : Set) (s t : State) → v.system.cost op ≤ cost_in e
+    → whole_at (side_for front back e) (cost_in e - v.system.cost op) ≡ Some a → ¬ Joins v e op a s t
 
 module _ {Set : Type 0} (v : View Set) (front back : Layers Set) (op : ℕ) (number : op < v.system.operators) where
-  pub no_child : (f b listed : ℕ) (e : Entry Set) → EntryOk v e → Ready v.system v front back f b listed (plain v e) → LeadsNowhere v front back e op → NoChild v.system (member_in v front) (member_in v back) (plain v e) op
+  pub no_child : (f b listed : ℕ) (e : Entry Set) → EntryOk v e → Ready v.system v front back f b listed (plain v e)
+      → LeadsNowhere v front back e op → NoChild v.system (member_in v front) (member_in v back) (plain v e) op
   no_child f b listed (Before e) ok ready none =
       let y = v.system in
-      let off : (s : State) → into y (member_in v front) (v.has e.set) e.cost op s ≡ false = λ s. elim (either (into y (member_in v front) (v.has e.set) e.cost op s)) [
+      let off : (s : State) → into y (member_in v front) (v.has e.set) e.cost op s ≡ false =
+      λ s. elim (either (into y (member_in v front) (v.has e.set) e.cost op s)) [
         | inl h ↦ absurd (
             let p = both (leb (y.cost op) e.cost) (member_in v front (e.cost - y.cost op) s && at_some (y.step op s) (v.has e.set)) h in
             let q = both (member_in v front (e.cost - y.cost op) s) (at_some (y.step op s) (v.has e.set)) p.1 in
@@ -35,8 +38,11 @@ module _ {Set : Type 0} (v : View Set) (front back : Layers Set) (op : ℕ) (num
             let t = led y op s (v.has e.set) (y.step op s) number refl q.1 in
             none l.0 s t.0 (le_of _ _ p.0) l.1 (t.2, l.2, t.1))
         | inr h ↦ h
-      ] in
-      ((λ p. hits_none y (into y (member_in v front) (v.has e.set) e.cost op) (e.cost - y.cost op) (begins y (op ∷ e.operators.items) e.after) 0 y.initial p off), (λ x. falsum (sym (off x.1) ∙ x.2)))
+      ] in (
+        (λ p. hits_none y (into y (member_in v front) (v.has e.set) e.cost op) (e.cost - y.cost op)
+            (begins y (op ∷ e.operators.items) e.after) 0 y.initial p off),
+        (λ x. falsum (sym (off x.1) ∙ x.2)),
+      )
   no_child f b listed (After e) ok ready none =
       let y = v.system in
       let at = e.state in

@@ -34,7 +34,8 @@ off cost a n = elim (either (eqb 0 cost && a)) [
   | inr h ↦ h
 ]
 
-module _ {Set : Type 0} (u v : View Set) (front back : Layers Set) (f b listed : ℕ) (others : List Plain) (level falling : List (Entry Set)) (hb : Held u back) where
+module _ {Set : Type 0} (u v : View Set) (front back : Layers Set) (f b listed : ℕ) (others : List Plain)
+    (level falling : List (Entry Set)) (hb : Held u back) where
   abbrev y : System
   y = u.system
 
@@ -45,7 +46,11 @@ module _ {Set : Type 0} (u v : View Set) (front back : Layers Set) (f b listed :
   bk = member_in u back
 
   -- a suffix
-  pub suffix_turn : (e : Suffix) (done : Bool) → EntryOk u (After e) → (IsTrue done ↔ IsDone u (After e)) → Ready y u front back f b listed (plain u (After e)) → Gathered y fr bk (plain u (After e)) (plains v level) (plains v falling) → GoesOrGives y fr bk (others ++ plain u (After e) ∷ []) (others ++ (plains v level ++ plains v falling)) (given {Set = Set} done (After e))
+  pub suffix_turn : (e : Suffix) (done : Bool) → EntryOk u (After e) → (IsTrue done ↔ IsDone u (After e))
+      → Ready y u front back f b listed (plain u (After e))
+      → Gathered y fr bk (plain u (After e)) (plains v level) (plains v falling)
+      → GoesOrGives y fr bk (others ++ plain u (After e) ∷ []) (others ++ (plains v level ++ plains v falling))
+      (given {Set = Set} done (After e))
   suffix_turn e true ok says ready g =
       let d = says.0 refl in
       gives_plain y fr bk (plain u (After e)) others (plains v level) (plains v falling) g e.operators.items (d.0, refl, (e.state, ok, d.1))
@@ -53,17 +58,25 @@ module _ {Set : Type 0} (u v : View Set) (front back : Layers Set) (f b listed :
       let open_ : e.cost ≡ 0 → IsPlan y e.operators.items → ⊥ = λ z p.
       let at : p.0 ≡ e.state = run_one y y.initial e.operators.items p.0 e.state p.1 ok in
       clash false (says.1 (z, subst (λ (s : State). IsTrue (y.goal s)) at p.2)) refl in
-      let some = tail_some y fr bk f b listed ready.sides.tables e.cost e.ring e.operators.items (plains v level) (plains v falling) ready.stands g (λ h. open_ h.0 h.1) in
+      let some = tail_some y fr bk f b listed ready.sides.tables e.cost e.ring e.operators.items (plains v level)
+      (plains v falling) ready.stands g (λ h. open_ h.0 h.1) in
       goes_plain y fr bk (plain u (After e)) others (plains v level) (plains v falling) g open_ (λ p. refl) some
 
   -- a prefix that doesn't begin yet
-  pub prefix_turn : (e : Prefix Set) → ¬ Starts u e → Ready y u front back f b listed (plain u (Before e)) → Gathered y fr bk (plain u (Before e)) (plains v level) (plains v falling) → Goes y fr bk (others ++ plain u (Before e) ∷ []) (others ++ (plains v level ++ plains v falling))
+  pub prefix_turn : (e : Prefix Set) → ¬ Starts u e → Ready y u front back f b listed (plain u (Before e))
+      → Gathered y fr bk (plain u (Before e)) (plains v level) (plains v falling)
+      → Goes y fr bk (others ++ plain u (Before e) ∷ []) (others ++ (plains v level ++ plains v falling))
   prefix_turn e none ready g =
-      let some = head_some y fr bk f b listed ready.sides.tables (u.has e.set) e.cost e.ring e.operators.items e.after (plains v level) (plains v falling) ready.stands g none in
-      goes_plain y fr bk (plain u (Before e)) others (plains v level) (plains v falling) g tt (λ p. not_begun y (u.has e.set) e.cost e.ring e.operators.items e.after p (off e.cost (u.has e.set y.initial) none)) some
+      let some = head_some y fr bk f b listed ready.sides.tables (u.has e.set) e.cost e.ring e.operators.items e.after
+      (plains v level) (plains v falling) ready.stands g none in
+      goes_plain y fr bk (plain u (Before e)) others (plains v level) (plains v falling) g tt
+      (λ p. not_begun y (u.has e.set) e.cost e.ring e.operators.items e.after p
+      (off e.cost (u.has e.set y.initial) none)) some
 
   -- a prefix that begins
-  pub begun_turn : (w : View Set) (e : Prefix Set) (c : Suffix) → Starts u e → Begun u back e c → Ready y u front back f b listed (plain u (Before e)) → Gathered y fr bk (plain u (Before e)) (plains v level) (plains v falling)
+  pub begun_turn : (w : View Set) (e : Prefix Set) (c : Suffix) → Starts u e → Begun u back e c
+      → Ready y u front back f b listed (plain u (Before e))
+      → Gathered y fr bk (plain u (Before e)) (plains v level) (plains v falling)
       → Goes y fr bk (others ++ plain u (Before e) ∷ []) (others ++ ((plains v level ++ plains v falling) ++ plain w (After c) ∷ []))
   begun_turn w e c start begins ready g =
       let m = ready.stands.2 y.initial start.1 in
@@ -73,13 +86,26 @@ module _ {Set : Type 0} (u v : View Set) (front back : Layers Set) (f b listed :
       let serves : Useful y c.state = record { before = (cost_of y e.operators.items, (e.operators.items, run, refl)); after = (e.after, bwd) } in
       let at : BwdIn y e.after (zeros y bwd.0) c.state = (bwd.0, bwd.1, bwd.2, bwd.3, bwd.4, refl) in
       let there = ready.sides.back_rings.there e.after (zeros y bwd.0) c.state ready.stands.5 serves at in
-      let in_ring : BwdIn y e.after c.ring c.state = ready.sides.back_rings.sound e.after c.ring c.state ready.stands.5 serves (begins.least there.0 there.2).1 in
+      let in_ring : BwdIn y e.after c.ring c.state = ready.sides.back_rings.sound e.after c.ring c.state
+      ready.stands.5 serves (begins.least there.0 there.2).1 in
       let cost = begins.cost_is in
       let ops = begins.operators_are in
-      let begun : IsBegun y (plain u (Before e)) (plain w (After c)) = (start.0, start.1, cost, ops, (c.state, subst (λ (x : List ℕ). Runs y y.initial x c.state) (sym ops) run, subst (λ (x : ℕ). BwdIn y x c.ring c.state) (sym cost) in_ring)) in
+      let begun : IsBegun y (plain u (Before e)) (plain w (After c)) = (
+        start.0,
+        start.1,
+        cost,
+        ops,
+        (
+          c.state,
+          subst (λ (x : List ℕ). Runs y y.initial x c.state) (sym ops) run,
+          subst (λ (x : ℕ). BwdIn y x c.ring c.state) (sym cost) in_ring,
+        ),
+      ) in
       let low : height (plain w (After c)) < height (plain u (Before e)) = omega (arith, begins.fits.0, begins.fits.1) in
       let long : weight (plain w (After c)) ≡ weight (plain u (Before e)) + 1 = omega (arith, ap length ops) in
-      let hits : (p : List ℕ) → entry_hits y (plain w (After c)) p ≡ begun_hits y (plain u (Before e)) p = λ p. rw (ops, cost, start.0) (begins_same y (u.has e.set) e.ring e.operators.items e.after c.ring p start.1) in
+      let hits : (p : List ℕ) → entry_hits y (plain w (After c)) p ≡ begun_hits y (plain u (Before e)) p =
+      λ p. rw (ops, cost, start.0) (begins_same y (u.has e.set) e.ring e.operators.items e.after c.ring p
+      start.1) in
       goes_begun y fr bk (plain u (Before e)) others (plains v level) (plains v falling) g (plain w (After c)) tt begun hits low long
 
 -- the children were made in v
@@ -87,11 +113,14 @@ module _ {Set : Type 0} (u v : View Set) (front back : Layers Set) (hb : Held u 
   -- a suffix has no set
   pub begun_made : (es : List (Entry Set)) (e : Prefix Set) (c : Suffix) → Makes u v es → Begun u back e c → Makes u v (es ++ After c ∷ [])
   begun_made es e c m b =
-      let run : Runs u.system u.system.initial c.operators.items c.state = subst (λ (x : List ℕ). Runs u.system u.system.initial x c.state) (sym b.operators_are) b.runs in
+      let run : Runs u.system u.system.initial c.operators.items c.state =
+      subst (λ (x : List ℕ). Runs u.system u.system.initial x c.state) (sym b.operators_are) b.runs in
       let fine : EntryOk v (After c) = subst (λ (y : System). Runs y y.initial c.operators.items c.state) (sym m.kept.system) run in
       makes_last u v v [] es (After c) m (kept_refl v) (new_after v c) fine
 
-  pub follow_law : (e : Entry Set) (es all : List (Entry Set)) (done : Bool) (o : Option Suffix) → EntryOk u e → (IsTrue done ↔ IsDone u e) → Expands u v front back e es → BeginsToo u back e o → all ≡ es ++ begun_entries o → Follows u v front back e all done
+  pub follow_law : (e : Entry Set) (es all : List (Entry Set)) (done : Bool) (o : Option Suffix) → EntryOk u e
+      → (IsTrue done ↔ IsDone u e) → Expands u v front back e es → BeginsToo u back e o
+      → all ≡ es ++ begun_entries o → Follows u v front back e all done
   follow_law (After e) es all done (Some c) ok says ex too is = absurd too
   follow_law (After e) es all done None ok says ex too is =
       let all_is : all ≡ es = is ∙ append-nil es in (
@@ -112,6 +141,7 @@ module _ {Set : Type 0} (u v : View Set) (front back : Layers Set) (hb : Held u 
     subst (λ (xs : List (Entry Set)). Makes u v xs) (sym is) (begun_made es e c ex.0 too.1),
     (λ f b listed others ready.
         let made : plains v es ≡ plains v ex.1.0 ++ plains v ex.1.1 = ap (plains v) ex.1.2 ∙ plains_append v ex.1.0 ex.1.1 in
-        let parts : plains v all ≡ (plains v ex.1.0 ++ plains v ex.1.1) ++ plain v (After c) ∷ [] = ap (plains v) is ∙ plains_append v es (After c ∷ []) ∙ ap (λ (q : List Plain). q ++ plain v (After c) ∷ []) made in
+        let parts : plains v all ≡ (plains v ex.1.0 ++ plains v ex.1.1) ++ plain v (After c) ∷ [] = ap (plains v) is
+        ∙ plains_append v es (After c ∷ []) ∙ ap (λ (q : List Plain). q ++ plain v (After c) ∷ []) made in
         rw parts (begun_turn u v front back f b listed others ex.1.0 ex.1.1 hb v e c too.0 too.1 ready (ex.1.3 f b listed ready))),
   )

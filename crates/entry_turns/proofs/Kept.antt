@@ -33,7 +33,8 @@ module _ {Set : Type 0} (v w : View Set) (k : Kept v w) where
 
   pub sides_kept : (y : System) (front back : Layers Set) (f b : ℕ) → Held v front → Held v back → RightSides y v front back f b → RightSides y w front back f b
   sides_kept y front back f b hf hb r = record {
-    tables = subst (λ (q : ℕ → State → Bool). Tables y (member_in w front) q f b) (sym (member_kept back hb)) (subst (λ (p : ℕ → State → Bool). Tables y p (member_in v back) f b) (sym (member_kept front hf)) r.tables);
+    tables = subst (λ (q : ℕ → State → Bool). Tables y (member_in w front) q f b) (sym (member_kept back hb))
+        (subst (λ (p : ℕ → State → Bool). Tables y p (member_in v back) f b) (sym (member_kept front hf)) r.tables);
     front_rings = record {
       sound = λ c n s lt use1 at. r.front_rings.sound c n s lt use1 ((stands_kept front c n s hf).0 at);
       there = λ c n s lt use1 g. let m = r.front_rings.there c n s lt use1 g in (m.0, m.1, (stands_kept front c m.0 s hf).1 m.2);
@@ -44,10 +45,13 @@ module _ {Set : Type 0} (v w : View Set) (k : Kept v w) where
     };
   }
 
-  pub ready_kept : (front back : Layers Set) (f b listed : ℕ) (e : Entry Set) → Held v front → Held v back → EntryOk v e → Ready v.system v front back f b listed (plain v e) → Ready w.system w front back f b listed (plain w e)
+  pub ready_kept : (front back : Layers Set) (f b listed : ℕ) (e : Entry Set) → Held v front → Held v back
+      → EntryOk v e → Ready v.system v front back f b listed (plain v e)
+      → Ready w.system w front back f b listed (plain w e)
   ready_kept front back f b listed e hf hb ok r =
       subst (λ (x : Plain). Ready w.system w front back f b listed x) (sym (plain_kept e ok))
-      (subst (λ (y : System). Ready y w front back f b listed (plain v e)) (sym k.system) (record { sides = sides_kept v.system front back f b hf hb r.sides; stands = r.stands }))
+      (subst (λ (y : System). Ready y w front back f b listed (plain v e)) (sym k.system)
+      (record { sides = sides_kept v.system front back f b hf hb r.sides; stands = r.stands }))
 
 pub plains_append : {Set : Type 0} (v : View Set) (es fs : List (Entry Set)) → plains v (es ++ fs) ≡ plains v es ++ plains v fs
 plains_append v [] fs = refl
@@ -58,6 +62,8 @@ plain_same v w (Before e) f = ap (λ (h : State → Bool). Head h e.cost e.ring 
 plain_same v w (After e) f = refl
 
 -- entries whose sets have the same states
-pub plains_same : {Set : Type 0} (v w : View Set) (es : List (Entry Set)) → ((a : Set) → SetIn es a → (s : State) → w.has a s ≡ v.has a s) → plains w es ≡ plains v es
+pub plains_same : {Set : Type 0} (v w : View Set) (es : List (Entry Set))
+    → ((a : Set) → SetIn es a → (s : State) → w.has a s ≡ v.has a s) → plains w es ≡ plains v es
 plains_same v w [] f = refl
-plains_same v w (e ∷ es) f = ap (λ (x : Plain). x ∷ plains w es) (plain_same v w e (λ a h. f a (inl h))) ∙ ap (λ (xs : List Plain). plain v e ∷ xs) (plains_same v w es (λ a h. f a (inr h)))
+plains_same v w (e ∷ es) f = ap (λ (x : Plain). x ∷ plains w es) (plain_same v w e (λ a h. f a (inl h)))
+    ∙ ap (λ (xs : List Plain). plain v e ∷ xs) (plains_same v w es (λ a h. f a (inr h)))

@@ -11,11 +11,15 @@ use Rattle.entry_turns.specs.declared.entries.Prefix.{Prefix}
 use Rattle.entry_turns.specs.declared.entries.Entry.TheVariants.{Before}
 use Rattle.entry_turns.proofs.Barren.{no_child}
 
-pub leading_at : {Set : Type 0} (u v : View Set) (a : Set) (ops : List ℕ) (i : ℕ) → Kept u v → LeadInto u a ops → i < length ops → get_or ops i 0 < v.system.operators
+pub leading_at : {Set : Type 0} (u v : View Set) (a : Set) (ops : List ℕ) (i : ℕ) → Kept u v → LeadInto u a ops
+    → i < length ops → get_or ops i 0 < v.system.operators
 leading_at u v a ops i k lead lt = subst (λ (y : System). get_or ops i 0 < y.operators) (sym k.system) (lead.known i 0 lt)
 
 -- there is no child by an operator that may not lead into the set
-pub misses_none : {Set : Type 0} (v : View Set) (front back : Layers Set) (f b listed : ℕ) (e : Prefix Set) (ops : List ℕ) → EntryOk v (Before e) → LeadInto v e.set ops → Ready v.system v front back f b listed (plain v (Before e)) → MissesNone v.system (member_in v front) (member_in v back) (plain v (Before e)) ops
+pub misses_none : {Set : Type 0} (v : View Set) (front back : Layers Set) (f b listed : ℕ) (e : Prefix Set)
+    (ops : List ℕ) → EntryOk v (Before e) → LeadInto v e.set ops
+    → Ready v.system v front back f b listed (plain v (Before e))
+    → MissesNone v.system (member_in v front) (member_in v back) (plain v (Before e)) ops
 misses_none v front back f b listed e ops ok lead ready = record {
   rising = lead.rising;
   range = lead.known;

@@ -1,5 +1,5 @@
 -- What leads on from a state, found operator by operator, and the children by it.
-use Rattle.std.proofs.Common.{◌≡◌, ℕ, ◌+◌, ◌-◌, ◌^◌, ◌<◌, ◌≤◌, ◌⊎◌, inl, inr, List, [], ◌∷◌, ◌++◌, length, length-append, zero, suc, get_or, Option, Some, None, Result, OnOk, OnErr, refl, sym, ◌∙◌, ap, subst, arith}
+use Rattle.std.proofs.Common.{◌≡◌, ℕ, ◌+◌, ◌-◌, ◌^◌, ◌<◌, ◌≤◌, ◌⊎◌, inl, inr, List, [], ◌∷◌, ◌++◌, length, length-append, zero, suc, get_or, Option, Some, None, refl, sym, ◌∙◌, ap, subst, arith}
 use Rattle.std.specs.List.{All, Contains}
 use Rattle.std.specs.List.Sorted.{IsStrictlyIncreasing}
 use Rattle.std.specs.Option.{option_to_list}
@@ -7,11 +7,10 @@ use Rattle.std.proofs.lemmas.List.{append-nil, map-append, length-map, get_or-ma
 use Rattle.std.proofs.lemmas.List.Elements.{All-push, All-weaker, All-map, Contains-append_left, Contains-push}
 use Rattle.task_system.specs.System.{State, Leads}
 use Rattle.space_api.specs.View.{View}
-use Rattle.cost_layers.specs.Layers.{whole_at}
 use Rattle.cost_layers.specs.declared.layers.Layers.{Layers}
 use Rattle.entry_laws.specs.Growing.{MissesNone}
 use Rattle.entry_turns.specs.Entries.{plain, EntryOk, member_in, Ready}
-use Rattle.entry_turns.specs.Ways.{IsFirst, LandsIn, IsLayerTo, Joins}
+use Rattle.entry_turns.specs.Ways.{IsFirst, Joins}
 use Rattle.entry_turns.specs.Moves.{LeadsNotOn, IsMove, FoundMove, ops_of, AreMoves}
 use Rattle.entry_turns.specs.Grown.{PutsBy, PutsAfter, MakesOn, AddsChild}
 use Rattle.entry_turns.specs.declared.moves.Move.{Move}
@@ -19,31 +18,7 @@ use Rattle.entry_turns.specs.declared.entries.Suffix.{Suffix}
 use Rattle.entry_turns.specs.declared.entries.Entry.{Entry}
 use Rattle.entry_turns.specs.declared.entries.Entry.TheVariants.{After}
 use Rattle.entry_turns.proofs.Barren.{no_child}
-use Rattle.entry_turns.proofs.Adding.{on_ok, after_put_made, after_put_added}
-
-none_some : {A : Type 0} (x : A) → None ≡ Some x → ⊥
-none_some x e = cc
-
-some_one : {A : Type 0} (x y : A) → Some x ≡ Some y → x ≡ y
-some_one x y e = cc
-
--- one operator
-module _ {Set : Type 0} (v : View Set) (back : Layers Set) (cost : ℕ) (s : State) (op x : ℕ) (is : x ≡ v.system.cost op) where
-  -- there is no layer of what is left
-  pub no_layer : IsLayerTo back cost x None → LeadsNotOn v back cost s op
-  no_layer none a t le at lead has = none_some a (sym (subst (λ (n : ℕ). whole_at back (cost - n) ≡ None) is (none (omega (arith, is, le)))) ∙ at)
-
-  module _ (within : Set) (at : whole_at back (cost - x) ≡ Some within) where
-    pub landing : (t : State) (ring : ℕ) (m : Move) → op < v.system.operators → x ≤ cost → LandsIn v s op within (Some t) → IsFirst v back (cost - x) t ring → ring < 2 ^ 64 → m.op ≡ op → m.state ≡ t → m.cost ≡ cost - x → m.ring ≡ ring → IsMove v back cost s m
-    landing t ring m number le lands first small op_is state_is cost_is ring_is = record {
-      number = subst (λ (k : ℕ). k < v.system.operators) (sym op_is) number;
-      fits = subst (λ (k : ℕ). v.system.cost k ≤ cost) (sym op_is) (subst (λ (n : ℕ). n ≤ cost) is le);
-      cost_is = cost_is ∙ ap (λ (n : ℕ). cost - n) is ∙ ap (λ (k : ℕ). cost - v.system.cost k) (sym op_is);
-      leads = rw (op_is, state_is) lands.1;
-      lands = (within, subst (λ (k : ℕ). whole_at back (cost - v.system.cost k) ≡ Some within) (sym op_is) (subst (λ (n : ℕ). whole_at back (cost - n) ≡ Some within) is at), rw state_is lands.2);
-      least = rw (op_is, state_is, ring_is) (subst (λ (n : ℕ). IsFirst v back (cost - n) t ring) is first);
-      small = rw ring_is small;
-    }
+use Rattle.entry_turns.proofs.Adding.{after_made, after_added}
 
 -- the last of a longer list
 at_end : (xs : List ℕ) (x d i : ℕ) → i ≡ length xs → get_or (xs ++ x ∷ []) i d ≡ x
@@ -88,24 +63,33 @@ module _ {Set : Type 0} (v : View Set) (back : Layers Set) (cost : ℕ) (s : Sta
       rising = b.rising;
       each = b.each;
       below = All-weaker (λ k. k < n) (λ k. k < n + 1) (λ k lt. omega (arith, lt)) (ops_of moves) b.below;
-      others = λ op lt missing. elim (last_or op n lt) [ inl less ↦ b.others op less missing | inr e ↦ subst (λ (k : ℕ). LeadsNotOn v back cost s k) (sym e) none ];
+      others = λ op lt missing. elim (last_or op n lt) [
+        | inl less ↦ b.others op less missing
+        | inr e ↦ subst
+            (λ (k : ℕ). LeadsNotOn v back cost s k) (sym e) none
+      ];
     }
 
     more_next : (m : Move) → m.op ≡ n → IsMove v back cost s m → MovesBelow v back cost s (n + 1) (moves ++ m ∷ [])
     more_next m is move =
-        let ops : ops_of (moves ++ m ∷ []) ≡ ops_of moves ++ n ∷ [] = map-append (λ (z : Move). z.op) moves (m ∷ []) ∙ ap (λ (k : ℕ). ops_of moves ++ k ∷ []) is in
+        let ops : ops_of (moves ++ m ∷ []) ≡ ops_of moves ++ n ∷ [] = map-append (λ (z : Move). z.op) moves (m ∷ [])
+        ∙ ap (λ (k : ℕ). ops_of moves ++ k ∷ []) is in
         record {
           rising = subst (λ (ks : List ℕ). IsStrictlyIncreasing ks) (sym ops) (rising_push (ops_of moves) n b.rising b.below);
           each = All-push (IsMove v back cost s) moves m b.each move;
-          below = subst (λ (ks : List ℕ). All (λ k. k < n + 1) ks) (sym ops) (All-push (λ k. k < n + 1) (ops_of moves) n (All-weaker (λ k. k < n) (λ k. k < n + 1) (λ k lt. omega (arith, lt)) (ops_of moves) b.below) (omega arith));
+          below = subst (λ (ks : List ℕ). All (λ k. k < n + 1) ks) (sym ops)
+              (All-push (λ k. k < n + 1) (ops_of moves) n (All-weaker (λ k. k < n) (λ k. k < n + 1)
+              (λ k lt. omega (arith, lt)) (ops_of moves) b.below) (omega arith));
           others = λ op lt missing. elim (last_or op n lt) [
             | inl less ↦ b.others op less (λ h. missing (subst (λ (ks : List ℕ). Contains ks op) (sym ops) (Contains-append_left (ops_of moves) (n ∷ []) op h)))
-            | inr e ↦ absurd (missing (subst (λ (ks : List ℕ). Contains ks op) (sym ops) (subst (λ (k : ℕ). Contains (ops_of moves ++ n ∷ []) k) (sym e) (Contains-push (ops_of moves) n))))
+            | inr e ↦ absurd (missing (subst (λ (ks : List ℕ). Contains ks op) (sym ops)
+                (subst (λ (k : ℕ). Contains (ops_of moves ++ n ∷ []) k) (sym e) (Contains-push (ops_of moves) n))))
           ];
         }
 
     -- the next operator
-    pub moves_next : (found : Option Move) (moves2 : List Move) → moves2 ≡ moves ++ option_to_list found → FoundMove v back cost s n found → MovesBelow v back cost s (n + 1) moves2
+    pub moves_next : (found : Option Move) (moves2 : List Move) → moves2 ≡ moves ++ option_to_list found
+        → FoundMove v back cost s n found → MovesBelow v back cost s (n + 1) moves2
     moves_next None moves2 e none = subst (λ (ms : List Move). MovesBelow v back cost s (n + 1) ms) (sym (e ∙ append-nil moves)) (same_next none)
     moves_next (Some m) moves2 e f = subst (λ (ms : List Move). MovesBelow v back cost s (n + 1) ms) (sym e) (more_next m f.0 f.1)
 
@@ -118,11 +102,14 @@ module _ {Set : Type 0} (v : View Set) (back : Layers Set) (cost : ℕ) (s : Sta
     }
 
 -- the child by a move
-module _ {Set : Type 0} (v : View Set) (front back : Layers Set) (e : Suffix) (m : Move) (move : IsMove v back e.cost e.state m) (ok : EntryOk v (After e)) (level falling level2 falling2 : List (Entry Set)) where
-  puts_after : PutsBy e m level falling level2 falling2 → PutsAfter v back e m.op (v.system.cost m.op) m.state level falling level2 falling2
-  puts_after p =
-      let g = p.1 in (
-        p.0,
+module _ {Set : Type 0} {v : View Set} {back : Layers Set} (e : Suffix) {m : Move}
+    (move : IsMove v back e.cost e.state m) (ok : EntryOk v (After e))
+    (level falling level2 falling2 : List (Entry Set))
+    (put : PutsBy e m level falling level2 falling2) where
+  puts_after : PutsAfter v back e m.op (v.system.cost m.op) m.state level falling level2 falling2
+  puts_after =
+      let g = put.1 in (
+        put.0,
         record {
           state_is = g.state_is;
           cost_is = g.cost_is ∙ move.cost_is;
@@ -130,33 +117,43 @@ module _ {Set : Type 0} (v : View Set) (front back : Layers Set) (e : Suffix) (m
           least = subst (λ (n : ℕ). IsFirst v back (e.cost - v.system.cost m.op) m.state n) (sym g.ring_is) move.least;
           fits = subst (λ (n : ℕ). n < 2 ^ 64) (sym g.ring_is) move.small;
         },
-        p.2,
+        put.2,
       )
 
   joins : Joins v (After e) m.op move.lands.0 e.state m.state
   joins = (move.leads, refl, move.lands.2)
 
-  pub moved_made : {A : Type 0} {E : Type 0} (r : Result A E) → OnOk r (PutsBy e m level falling level2 falling2) → OnErr r (level2 ≡ level) → OnErr r (falling2 ≡ falling) → MakesOn v v (level ++ falling) (level2 ++ falling2)
-  moved_made r put same1 same2 = after_put_made v front back e m.op (v.system.cost m.op) move.lands.0 m.state level falling level2 falling2 move.number refl ok move.fits move.lands.1 joins r (on_ok r (PutsBy e m level falling level2 falling2) (PutsAfter v back e m.op (v.system.cost m.op) m.state level falling level2 falling2) puts_after put) same1 same2
+  pub moved_made : MakesOn v v (level ++ falling) (level2 ++ falling2)
+  moved_made = after_made level falling level2 falling2 move.number ok move.fits move.lands.1 joins puts_after
 
-  pub moved_added : {A : Type 0} {E : Type 0} (r : Result A E) → OnOk r (PutsBy e m level falling level2 falling2) → OnOk r (AddsChild v v front back (After e) m.op level falling level2 falling2)
-  moved_added r put = after_put_added v front back e m.op (v.system.cost m.op) move.lands.0 m.state level falling level2 falling2 move.number refl ok move.fits move.lands.1 joins r (on_ok r (PutsBy e m level falling level2 falling2) (PutsAfter v back e m.op (v.system.cost m.op) m.state level falling level2 falling2) puts_after put)
+  pub moved_added : (front : Layers Set) → AddsChild v v front back (After e) m.op level falling level2 falling2
+  moved_added = after_added level falling level2 falling2 move.number ok move.fits move.lands.1 joins puts_after
 
 -- the moves one by one
-pub move_at : (moves : List Move) (m : Move) (i : ℕ) → i < length moves → m ≡ get_or moves i m → (i < length (ops_of moves)) × (m.op ≡ get_or (ops_of moves) i 0)
-move_at moves m i lt is = (omega (arith, lt, length-map moves (λ (z : Move). z.op)), ap (λ (z : Move). z.op) is ∙ sym (get_or-map (λ (z : Move). z.op) moves i m 0 lt))
+pub move_at : (moves : List Move) (m : Move) (i : ℕ) → i < length moves → m ≡ get_or moves i m
+    → (i < length (ops_of moves)) × (m.op ≡ get_or (ops_of moves) i 0)
+move_at moves m i lt is = (
+  omega (arith, lt, length-map moves (λ (z : Move). z.op)),
+  ap (λ (z : Move). z.op) is ∙ sym
+      (get_or-map (λ (z : Move). z.op) moves i m 0 lt),
+)
 
 pub ops_many : (moves : List Move) (i : ℕ) → length moves ≤ i → length (ops_of moves) ≤ i
 ops_many moves i le = omega (arith, le, length-map moves (λ (z : Move). z.op))
 
-module _ {Set : Type 0} (v : View Set) (front back : Layers Set) (e : Suffix) (moves : List Move) (all : AreMoves v back e.cost e.state moves) where
+module _ {Set : Type 0} {v : View Set} {back : Layers Set} (e : Suffix) {moves : List Move} (all : AreMoves v back e.cost e.state moves) where
   pub one_move : (m : Move) (i : ℕ) → i < length moves → m ≡ get_or moves i m → IsMove v back e.cost e.state m
   one_move m i lt is = subst (λ (z : Move). IsMove v back e.cost e.state z) (sym is) (all.each i m lt)
 
   -- there is no child by an operator of which there is no move
-  pub misses_no_move : (f b listed : ℕ) → EntryOk v (After e) → Ready v.system v front back f b listed (plain v (After e)) → MissesNone v.system (member_in v front) (member_in v back) (plain v (After e)) (ops_of moves)
-  misses_no_move f b listed ok ready = record {
+  pub misses_no_move : (front : Layers Set) (f b listed : ℕ) → EntryOk v (After e) → Ready v.system v front back f b listed (plain v (After e))
+      → MissesNone v.system (member_in v front) (member_in v back) (plain v (After e)) (ops_of moves)
+  misses_no_move front f b listed ok ready = record {
     rising = all.rising;
-    range = All-map (λ k. k < v.system.operators) (λ (z : Move). z.op) moves (All-weaker (IsMove v back e.cost e.state) (λ z. z.op < v.system.operators) (λ z move. move.number) moves all.each);
-    others = λ k number missing. no_child v front back k number f b listed (After e) ok ready (λ a s t le at j. all.others k number missing a t le at (subst (λ (z : State). Leads v.system k z t) j.1 j.0) j.2);
+    range = All-map (λ k. k < v.system.operators) (λ (z : Move). z.op) moves
+        (All-weaker (IsMove v back e.cost e.state) (λ z. z.op < v.system.operators)
+        (λ z move. move.number) moves all.each);
+    others = λ k number missing. no_child v front back k number f b listed (After e) ok ready
+        (λ a s t le at j. all.others k number missing a t le at
+        (subst (λ (z : State). Leads v.system k z t) j.1 j.0) j.2);
   }

@@ -27,12 +27,14 @@ same_test false false f g = refl
 in_whole : {Set : Type 0} (v : View Set) (o : Option Set) (a : Set) (s : State) → o ≡ Some a → in_some v o s ≡ v.has a s
 in_whole v o a s e = ap (λ (x : Option _). in_some v x s) e
 
-module _ {Set : Type 0} (v v1 w : View Set) (front back : Layers Set) (op : ℕ) (within a : Set) (number : op < v.system.operators) (k1 : Kept v v1) (k2 : Kept v1 w) where
+module _ {Set : Type 0} {v v1 w : View Set} {op : ℕ} (number : op < v.system.operators) (k1 : Kept v v1) (k2 : Kept v1 w) where
   abbrev y : System
   y = v.system
 
   -- a prefix
-  module _ (e c : Prefix Set) (ok : EntryOk v (Before e)) (le : y.cost op ≤ e.cost) (at : whole_at front (e.cost - y.cost op) ≡ Some within) (held : Held v front) (found : IsChildSet v v1 e op within a) (grown : GrownBefore v1 front e op (y.cost op) a c) where
+  module _ {front : Layers Set} {within a : Set} {e c : Prefix Set} (ok : EntryOk v (Before e))
+      (le : y.cost op ≤ e.cost) (at : whole_at front (e.cost - y.cost op) ≡ Some within) (held : Held v front)
+      (found : IsChildSet v v1 e op within a) (grown : GrownBefore v1 front e op (y.cost op) a c) where
     leads_on : LeadOn w a (op ∷ e.operators.items)
     leads_on s h =
         let m = (found.means s).0 (sym (k2.same a found.new.valid s) ∙ h) in
@@ -60,7 +62,7 @@ module _ {Set : Type 0} (v v1 w : View Set) (front back : Layers Set) (op : ℕ)
         (λ h. let m = (found.means s).0 h in wanted_by s m.0 m.1.0 m.1.1 m.1.2)
         (λ h. (found.means s).1 (let m = wants s h in (m.0, (m.1, m.2, m.3))))
 
-    module _ (f b listed : ℕ) (ready : Ready y v front back f b listed (plain v (Before e))) where
+    module _ (back : Layers Set) (f b listed : ℕ) (ready : Ready y v front back f b listed (plain v (Before e))) where
       below : e.cost - y.cost op < f
       below = omega (arith, ready.stands.4)
 
@@ -76,7 +78,8 @@ module _ {Set : Type 0} (v v1 w : View Set) (front back : Layers Set) (op : ℕ)
           let bwd : ToGoalAt y (cost_of y rest) t.0 = (rest, r.1, joined y e.operators.items r.0 t.0 m.0 r.1 m.1 r.2, r.3, refl) in
           (g, record { before = (e.cost - y.cost op, g); after = (y.cost op + cost_of y rest, bwd_more y (cost_of y rest) op s t.0 t.2 bwd) })
 
-      at_ring : (s : State) (n : ℕ) → wanted s ≡ true → FwdIn y (e.cost - y.cost op) n s → (c.ring ≤ n) × ((t : State) × StandsIn v1 front (e.cost - y.cost op) c.ring t × Has v1 a t)
+      at_ring : (s : State) (n : ℕ) → wanted s ≡ true → FwdIn y (e.cost - y.cost op) n s → (c.ring ≤ n)
+          × ((t : State) × StandsIn v1 front (e.cost - y.cost op) c.ring t × Has v1 a t)
       at_ring s n h g =
           let m = member s h in
           let there = ready.sides.front_rings.there (e.cost - y.cost op) n s below m.1 g in
@@ -92,7 +95,8 @@ module _ {Set : Type 0} (v v1 w : View Set) (front back : Layers Set) (op : ℕ)
           let g0 = ends_of_fwd y (e.cost - y.cost op) s0 (member s0 h0).0 in
           let r0 = (at_ring s0 (zeros y g0.0) h0 (g0.0, g0.1, g0.2, refl)).1 in
           let h1 : wanted r0.0 ≡ true = sym (has r0.0) ∙ r0.2 in
-          let in_ring = ready.sides.front_rings.sound (e.cost - y.cost op) c.ring r0.0 below (member r0.0 h1).1 ((stands_kept v v1 k1 front (e.cost - y.cost op) c.ring r0.0 held).0 r0.1) in (
+          let in_ring = ready.sides.front_rings.sound (e.cost - y.cost op) c.ring r0.0 below (member r0.0 h1).1
+          ((stands_kept v v1 k1 front (e.cost - y.cost op) c.ring r0.0 held).0 r0.1) in (
             same,
             grown.cost_is,
             grown.operators_are,
@@ -103,7 +107,10 @@ module _ {Set : Type 0} (v v1 w : View Set) (front back : Layers Set) (op : ℕ)
           )
 
 -- a suffix, in one view
-module _ {Set : Type 0} (v : View Set) (front back : Layers Set) (op : ℕ) (within : Set) (to : State) (number : op < v.system.operators) (e c : Suffix) (ok : EntryOk v (After e)) (le : v.system.cost op ≤ e.cost) (at : whole_at back (e.cost - v.system.cost op) ≡ Some within) (found : Joins v (After e) op within e.state to) (grown : GrownAfter v back e op (v.system.cost op) to c) where
+module _ {Set : Type 0} {v : View Set} {back : Layers Set} {op : ℕ} {within : Set} {to : State}
+    (number : op < v.system.operators) {e c : Suffix} (ok : EntryOk v (After e)) (le : v.system.cost op ≤ e.cost)
+    (at : whole_at back (e.cost - v.system.cost op) ≡ Some within) (found : Joins v (After e) op within e.state to)
+    (grown : GrownAfter v back e op (v.system.cost op) to c) where
   abbrev z : System
   z = v.system
 
@@ -113,7 +120,7 @@ module _ {Set : Type 0} (v : View Set) (front back : Layers Set) (op : ℕ) (wit
   pub after_ok : EntryOk v (After c)
   after_ok = rw (grown.state_is, grown.operators_are) longer
 
-  module _ (f b listed : ℕ) (ready : Ready z v front back f b listed (plain v (After e))) where
+  module _ (front : Layers Set) (f b listed : ℕ) (ready : Ready z v front back f b listed (plain v (After e))) where
     near : e.cost - z.cost op < b
     near = omega (arith, ready.stands.2)
 
@@ -145,7 +152,12 @@ module _ {Set : Type 0} (v : View Set) (front back : Layers Set) (op : ℕ) (wit
           on,
           grown.cost_is,
           grown.operators_are,
-          (to, subst (λ (x : List ℕ). Runs z z.initial x to) (sym grown.operators_are) longer, subst (λ (x : ℕ). BwdIn z x c.ring to) (sym grown.cost_is) in_ring),
+          (
+            to,
+            subst (λ (x : List ℕ). Runs z z.initial x to) (sym grown.operators_are) longer,
+            subst
+                (λ (x : ℕ). BwdIn z x c.ring to) (sym grown.cost_is) in_ring,
+          ),
           (λ s n r g.
               let is : s ≡ to = one s (subst (λ (x : List ℕ). Runs z z.initial x s) grown.operators_are r) in
               (ring_at_end n (subst (λ (x : State). BwdIn z (e.cost - z.cost op) n x) is (subst (λ (x : ℕ). BwdIn z x n s) grown.cost_is g))).0),

@@ -25,13 +25,15 @@ use Rattle.entry_turns.proofs.Kept.{stands_kept}
 use Rattle.entry_turns.proofs.Sets.{new_of, new_stays, new_before, new_after}
 use Rattle.entry_turns.proofs.OneChild.{same_test}
 use Rattle.plan_cuts.specs.Cuts.{IsCutAt}
-use Rattle.entry_turns.specs.Opened.{OpensCross, Opened}
+use Rattle.entry_turns.specs.Opened.{OpensCross, Opened, OpenedCross}
 
 in_whole : {Set : Type 0} (v : View Set) (o : Option Set) (a : Set) (s : State) → o ≡ Some a → in_some v o s ≡ v.has a s
 in_whole v o a s e = ap (λ (x : Option _). in_some v x s) e
 
 -- not cut
-module _ {Set : Type 0} (v : View Set) (front back : Layers Set) (cost : ℕ) (e : Suffix) (state : e.state ≡ v.system.initial) (cost_is : e.cost ≡ cost) (none : e.operators.items ≡ []) (least : IsFirst v back cost e.state e.ring) where
+module _ {Set : Type 0} (v : View Set) (front back : Layers Set) (cost : ℕ) (e : Suffix)
+    (state : e.state ≡ v.system.initial) (cost_is : e.cost ≡ cost) (none : e.operators.items ≡ [])
+    (least : IsFirst v back cost e.state e.ring) where
   abbrev y : System
   y = v.system
 
@@ -74,7 +76,11 @@ module _ {Set : Type 0} (v : View Set) (front back : Layers Set) (cost : ℕ) (e
   }
 
 -- cut at an operator
-module _ {Set : Type 0} (v v1 w : View Set) (front back : Layers Set) (cost x op r : ℕ) (before after set : Set) (e : Prefix Set) (held : Held v front) (number : op < v.system.operators) (is_front : whole_at front x ≡ Some before) (is_back : whole_at back r ≡ Some after) (k1 : Kept v v1) (g : Gives v v1 (Preimage v op after before) set) (s1 : Stays v1 w) (o : OpensCross v1 front x op r set e) where
+module _ {Set : Type 0} {v v1 w : View Set} {front : Layers Set} (back : Layers Set) {x op r : ℕ}
+    {before after set : Set} {e : Prefix Set} (held : Held v front) (number : op < v.system.operators)
+    (is_front : whole_at front x ≡ Some before) (is_back : whole_at back r ≡ Some after) (k1 : Kept v v1)
+    (g : Gives v v1 (Preimage v op after before) set) (s1 : Stays v1 w)
+    (o : OpensCross v1 front x op r set e) where
   abbrev z : System
   z = v.system
 
@@ -106,9 +112,12 @@ module _ {Set : Type 0} (v v1 w : View Set) (front back : Layers Set) (cost x op
   pub plain_cross : plain w (Before e) ≡ Head meets x e.ring (op ∷ []) r
   plain_cross =
       let same : w.has e.set ≡ meets = λ i s. (ap (λ (q : Set). w.has q s) o.set_is ∙ s1.kept.same set g.valid s ∙ has_meets s) i in
-      ap (λ (h : State → Bool). Head h e.cost e.ring e.operators.items e.after) same ∙ ap (λ (n : ℕ). Head meets n e.ring e.operators.items e.after) o.cost_is ∙ ap (λ (q : List ℕ). Head meets x e.ring q e.after) o.operators_are ∙ ap (λ (n : ℕ). Head meets x e.ring (op ∷ []) n) o.after_is
+      ap (λ (h : State → Bool). Head h e.cost e.ring e.operators.items e.after) same
+      ∙ ap (λ (n : ℕ). Head meets n e.ring e.operators.items e.after) o.cost_is
+      ∙ ap (λ (q : List ℕ). Head meets x e.ring q e.after) o.operators_are
+      ∙ ap (λ (n : ℕ). Head meets x e.ring (op ∷ []) n) o.after_is
 
-  module _ (f b : ℕ) (sides : RightSides z v front back f b) (lt : cost < f + b) (c : IsCutAt z b cost (Cross x op r)) where
+  module _ (cost f b : ℕ) (sides : RightSides z v front back f b) (lt : cost < f + b) (c : IsCutAt z b cost (Cross x op r)) where
     inside : (x + z.cost op + r ≡ cost_of z c.0) × (x < f) × (r < b) × (0 < z.cost op)
     inside = cut_inside z f b c.0 x op r c.2 (omega (arith, c.1.1, lt))
 
@@ -136,16 +145,20 @@ module _ {Set : Type 0} (v v1 w : View Set) (front back : Layers Set) (cost x op
         (l.0, h, sides.front_rings.sound x e.ring l.0 inside.1 (serves_at l.0 h).1 ((stands_kept v v1 k1 front x e.ring l.0 held).0 l.1))
 
     pub cross_stand : Stands z f b cost (plain w (Before e))
-    cross_stand = subst (λ (q : Plain). Stands z f b cost q) (sym plain_cross) (cross_stands z (member_in v front) (member_in v back) f b sides.tables x op r e.ring cost number inside.1 inside.2 (omega (arith, inside.0, c.1.1)) in_first)
+    cross_stand = subst (λ (q : Plain). Stands z f b cost q) (sym plain_cross)
+        (cross_stands z (member_in v front) (member_in v back) f b sides.tables x op r e.ring cost number inside.1
+        inside.2 (omega (arith, inside.0, c.1.1)) in_first)
 
     pub cross_hit : (p : List ℕ) → IsPlan z p → entry_hits z (plain w (Before e)) p ≡ ind (same_cut (cut_of z b p) (Cross x op r))
-    cross_hit p plan = ap (λ (q : Plain). entry_hits z q p) plain_cross ∙ cross_hits z (member_in v front) (member_in v back) f b sides.tables x op r e.ring p inside.1 inside.2 far plan
+    cross_hit p plan = ap (λ (q : Plain). entry_hits z q p) plain_cross
+        ∙ cross_hits z (member_in v front) (member_in v back) f b sides.tables x op r e.ring p
+        inside.1 inside.2 far plan
 
-  pub cross_opened : Opened v w front back cost (Cross x op r) (Before e)
-  cross_opened = record {
+  pub cross_opened : OpenedCross v w front back x op r (Before e)
+  cross_opened cost = record {
     kept = kept_trans k1 s1.kept;
     new = new_before v w e (subst (λ (q : Set). IsNew v w q) (sym o.set_is) new_cross);
     fine = cross_fine;
-    stands = λ f b sides lt c. cross_stand f b sides lt c;
-    hits = λ f b sides lt c p plan is. cross_hit f b sides lt c p plan;
+    stands = λ f b sides lt c. cross_stand cost f b sides lt c;
+    hits = λ f b sides lt c p plan is. cross_hit cost f b sides lt c p plan;
   }

@@ -17,7 +17,8 @@ use Rattle.space_api.specs.View.{View}
 use Rattle.entry_laws.proofs.Paths.{joined, parted, run_one}
 use Rattle.entry_turns.specs.Ways.{IsReached, GoesTo}
 
-runs_listed : (task : TaskParts) → Fits task → (ops : List ℕ) (s t : State) → Listed (system_of task).states s → Runs (system_of task) s ops t → Listed (system_of task).states t
+runs_listed : (task : TaskParts) → Fits task → (ops : List ℕ) (s t : State) → Listed (system_of task).states s
+    → Runs (system_of task) s ops t → Listed (system_of task).states t
 runs_listed task fits [] s t from run = subst (λ (x : State). Listed (system_of task).states x) run from
 runs_listed task fits (op ∷ ops) s t from run = runs_listed task fits ops run.0 t (leads_listed task s op run.0 fits from run.1) run.2
 
@@ -59,7 +60,8 @@ module _ {Set : Type 0} (v : View Set) (task : TaskParts) (fits : Fits task) (is
   goes_some op s t h applies after state = (subst (λ (x : TaskParts). IsState x t) same state, (leads_task op s t (reached_state s h)).1 (applies, after))
 
 -- one operator more of those that lead on
-module _ (y : System) (ops : List ℕ) (i : ℕ) (lt : i < length ops) (s end : State) (all : Runs y y.initial ops end) (run : Runs y y.initial (take i ops) s) where
+module _ (y : System) (ops : List ℕ) (i : ℕ) (lt : i < length ops) (s end : State) (all : Runs y y.initial ops end)
+    (run : Runs y y.initial (take i ops) s) where
   more : take (i + 1) ops ≡ take i ops ++ (get_or ops i 0 ∷ [])
   more = take_more ops i 0 lt
 

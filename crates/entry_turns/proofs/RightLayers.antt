@@ -20,7 +20,8 @@ falsum : false ≡ true → ⊥
 falsum e = cc
 
 -- whole and rings have the same states
-whole_rings : {Set : Type 0} (v : View Set) (rs : List Set) (o : Option Set) (s : State) → MatchOption o (rs ≡ []) (IsLayer v rs) → (in_some v o s ≡ true) ↔ ((i : ℕ) × RingAt v rs i s)
+whole_rings : {Set : Type 0} (v : View Set) (rs : List Set) (o : Option Set) (s : State)
+    → MatchOption o (rs ≡ []) (IsLayer v rs) → (in_some v o s ≡ true) ↔ ((i : ℕ) × RingAt v rs i s)
 whole_rings v rs None s e = (
   (λ h. absurd (falsum h)),
   (λ h. absurd (none_at h.0 (subst (λ (xs : List _). RingAt v xs h.0 s) e h.1))),
@@ -75,7 +76,13 @@ zeros_walk y (op ∷ q) (suc n) = ((λ h. (h.0, (zeros_walk y q n).0 h.1)), (λ 
 
 fwd_in : (y : System) (c n : ℕ) (s : State) → AtCostWith Ahead y c n s ↔ FwdIn y c n s
 fwd_in y c n s = (
-  (λ h. let w = (reached_by_side Ahead y c n s).1 h in (w.0, (ends_walk y w.0 s).0 w.1, sym (cost_walk y w.0) ∙ w.2, (zeros_first y w.0 n).0 ((zeros_walk y w.0 n).0 w.3))),
+  (λ h. let w = (reached_by_side Ahead y c n s).1 h in (
+    w.0,
+    (ends_walk y w.0 s).0 w.1,
+    sym (cost_walk y w.0)
+        ∙ w.2,
+    (zeros_first y w.0 n).0 ((zeros_walk y w.0 n).0 w.3),
+  )),
   (λ h. (reached_by_side Ahead y c n s).0 (h.0, (ends_walk y h.0 s).1 h.1, cost_walk y h.0 ∙ h.2, (zeros_walk y h.0 n).1 ((zeros_first y h.0 n).1 h.3))),
 )
 
@@ -91,7 +98,9 @@ fwd_at y c n s h = subst (λ (k : ℕ). ReachedAt y k s) h.2 (fwd_of_ends y h.0 
 bwd_at : (y : System) (c n : ℕ) (s : State) → BwdIn y c n s → ToGoalAt y c s
 bwd_at y c n s h = (h.0, h.1, h.2, h.3, h.4)
 
-module _ {Set : Type 0} (v : View Set) (front back : Layers Set) (f b : ℕ) (hf : Held v front) (hb : Held v back) (rf : (c : ℕ) → c < f → IsRightLayer Ahead Every v.system (StandsIn v front) c) (rb : (c : ℕ) → c < b → IsRightLayer Back Every v.system (StandsIn v back) c) where
+module _ {Set : Type 0} (v : View Set) (front back : Layers Set) (f b : ℕ) (hf : Held v front) (hb : Held v back)
+    (rf : (c : ℕ) → c < f → IsRightLayer Ahead Every v.system (StandsIn v front) c)
+    (rb : (c : ℕ) → c < b → IsRightLayer Back Every v.system (StandsIn v back) c) where
   pub serve : RightSides v.system v front back f b
   serve = record {
     tables = record {

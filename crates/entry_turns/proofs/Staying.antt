@@ -32,7 +32,8 @@ module _ {Set : Type 0} (v w : View Set) (l : Layers Set) (h : Held v l) (f : (a
   pub stands_same : (c i : ℕ) (s : State) → StandsIn w l c i s ↔ StandsIn v l c i s
   stands_same c i s = ring_same v w (rings_at l c) i s (λ a is. (f a (inl (c, i, is))).1 s)
 
-  each_in : (c : ℕ) (o : Option Set) → whole_at l c ≡ o → MatchOption o (rings_at l c ≡ []) (IsLayer v (rings_at l c)) → MatchOption o (rings_at l c ≡ []) (IsLayer w (rings_at l c))
+  each_in : (c : ℕ) (o : Option Set) → whole_at l c ≡ o → MatchOption o (rings_at l c ≡ []) (IsLayer v (rings_at l c))
+      → MatchOption o (rings_at l c ≡ []) (IsLayer w (rings_at l c))
   each_in c None e k = k
   each_in c (Some a) e k =
       let o = f a (whole_kept v l c a h e) in
@@ -66,7 +67,12 @@ module _ {Set : Type 0} (v w : View Set) (l : Layers Set) (h : Held v l) (f : (a
     fits = rw sys move.fits;
     cost_is = rw sys move.cost_is;
     leads = rw sys move.leads;
-    lands = rw sys (move.lands.0, move.lands.1, (f move.lands.0 (whole_kept v l (c - v.system.cost m.op) move.lands.0 h move.lands.1)).1 m.state ∙ move.lands.2);
+    lands = rw sys (
+      move.lands.0,
+      move.lands.1,
+      (f move.lands.0
+          (whole_kept v l (c - v.system.cost m.op) move.lands.0 h move.lands.1)).1 m.state ∙ move.lands.2,
+    );
     least = rw sys (first_same (c - v.system.cost m.op) m.state m.ring move.least);
     small = move.small;
   }
@@ -83,10 +89,14 @@ module _ {Set : Type 0} (v w : View Set) (l : Layers Set) (h : Held v l) (f : (a
         end = rw sys now.end;
       }
 
-pub sides_same : {Set : Type 0} (y : System) (v w : View Set) (front back : Layers Set) (f b : ℕ) → member_in w front ≡ member_in v front → member_in w back ≡ member_in v back
-    → ((c i : ℕ) (s : State) → StandsIn w front c i s ↔ StandsIn v front c i s) → ((c i : ℕ) (s : State) → StandsIn w back c i s ↔ StandsIn v back c i s) → RightSides y v front back f b → RightSides y w front back f b
-sides_same y v w front back f b mf mb sf sb r = record {
-  tables = subst (λ (q : ℕ → State → Bool). Tables y (member_in w front) q f b) (sym mb) (subst (λ (p : ℕ → State → Bool). Tables y p (member_in v back) f b) (sym mf) r.tables);
+pub sides_same : {Set : Type 0} {y : System} {v w : View Set} {front back : Layers Set} {f b : ℕ}
+    → member_in w front ≡ member_in v front → member_in w back ≡ member_in v back
+    → ((c i : ℕ) (s : State) → StandsIn w front c i s ↔ StandsIn v front c i s)
+    → ((c i : ℕ) (s : State) → StandsIn w back c i s ↔ StandsIn v back c i s) → RightSides y v front back f b
+    → RightSides y w front back f b
+sides_same {y = y} {v = v} {w = w} {front = front} {back = back} {f = f} {b = b} mf mb sf sb r = record {
+  tables = subst (λ (q : ℕ → State → Bool). Tables y (member_in w front) q f b) (sym mb)
+      (subst (λ (p : ℕ → State → Bool). Tables y p (member_in v back) f b) (sym mf) r.tables);
   front_rings = record {
     sound = λ c n s lt use1 at. r.front_rings.sound c n s lt use1 ((sf c n s).0 at);
     there = λ c n s lt use1 g. let m = r.front_rings.there c n s lt use1 g in (m.0, m.1, (sf c m.0 s).1 m.2);
@@ -98,7 +108,8 @@ sides_same y v w front back f b mf mb sf sb r = record {
 }
 
 -- sets that an owner trades, and layers that keep none of its old ones
-module _ {Set : Type 0} (u v : View Set) (old new : List (Entry Set)) (t : Trades u v (SetIn old) (SetIn new)) (l : Layers Set) (h : Held u l) (apart : AreApart old l) where
+module _ {Set : Type 0} (u v : View Set) (old new : List (Entry Set)) (t : Trades u v (SetIn old) (SetIn new))
+    (l : Layers Set) (h : Held u l) (apart : AreApart old l) where
   pub traded : (a : Set) → Keeps l a → Valid v a × ((s : State) → v.has a s ≡ u.has a s)
   traded a k =
       let ok : Valid u a = kept_valid u (rings_at l) (whole_at l) h a k in
@@ -111,12 +122,17 @@ module _ {Set : Type 0} (u v : View Set) (old new : List (Entry Set)) (t : Trade
 
   -- moves that were found since are right in the view before
   pub right_before : (x : Expansions) → AreRight v l x → AreRight u l x
-  right_before x right = right_same v u l (held_in u v l h traded) (λ a k. (kept_valid u (rings_at l) (whole_at l) h a k, λ s. sym ((traded a k).1 s))) (sym t.system) x right
+  right_before x right = right_same v u l (held_in u v l h traded)
+      (λ a k. (kept_valid u (rings_at l) (whole_at l) h a k, λ s. sym ((traded a k).1 s))) (sym t.system) x right
 
 -- moves that were found in one turn are right after it
-pub right_on : {Set : Type 0} (u v w : View Set) (old now new : List (Entry Set)) → Trades u v (SetIn old) (SetIn now) → Trades v w (SetIn now) (SetIn new) → (l : Layers Set) → Held u l → AreApart old l → (x : Expansions) → AreRight v l x → AreRight w l x
-right_on u v w old now new t t2 l h apart x right = right_there u w old new (trades_trans t t2) l h apart x (right_before u v old now t l h apart x right)
+pub right_on : {Set : Type 0} {u v w : View Set} (old now new : List (Entry Set)) → Trades u v (SetIn old) (SetIn now)
+    → Trades v w (SetIn now) (SetIn new) → (l : Layers Set) → Held u l → AreApart old l
+    → (x : Expansions) → AreRight v l x → AreRight w l x
+right_on {u = u} {v = v} {w = w} old now new t t2 l h apart x right =
+    right_there u w old new (trades_trans t t2) l h apart x (right_before u v old now t l h apart x right)
 
 -- all sets stay
 pub right_kept : {Set : Type 0} (v w : View Set) (l : Layers Set) (x : Expansions) → Held v l → Kept v w → AreRight v l x → AreRight w l x
-right_kept v w l x h k right = right_same v w l h (λ a keeps. let ok = kept_valid v (rings_at l) (whole_at l) h a keeps in (k.valid a ok, k.same a ok)) k.system x right
+right_kept v w l x h k right = right_same v w l h (λ a keeps.
+    let ok = kept_valid v (rings_at l) (whole_at l) h a keeps in (k.valid a ok, k.same a ok)) k.system x right

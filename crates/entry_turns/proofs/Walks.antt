@@ -16,39 +16,41 @@ use Rattle.plan_cuts.specs.declared.Cut.{Cut}
 use Rattle.entry_laws.specs.Entries.{Plain, Goes, Gives, Owed, Lawful, Stands, height, weight}
 use Rattle.entry_laws.proofs.Queue.{last_by, goes_lawful, goes_owed, goes_on, gives_lawful, gives_gave, gives_weight}
 use Rattle.entry_turns.specs.Entries.{plains, SetIn, member_in, RightSides}
-use Rattle.entry_turns.specs.Turned.{IsQueue, Turns}
+use Rattle.entry_turns.specs.Turned.{IsQueue, Turns, GoesOrGives}
 use Rattle.entry_turns.specs.declared.entries.Entry.{Entry}
 use Rattle.entry_turns.proofs.Kept.{plains_kept}
 use Rattle.entry_turns.specs.Walked.{AreApart, IsLawful, IsOwed, OwesOn, GaveFrom}
 use Rattle.entry_turns.proofs.Staying.{traded, member_same, stands_same, sides_same}
 
 -- the queue so far, by the layers at the start
-module _ {Set : Type 0} (u : View Set) (front back : Layers Set) (listed : ℕ) (start : List (Entry Set)) where
-  abbrev pub LawfulAt : List Plain → (Cut → Bool) → Type 0
-  LawfulAt es undrawn = Lawful u.system (member_in u front) (member_in u back) (known_of front) (known_of back) listed es undrawn
+module _ {Set : Type 0} (u : View Set) (front back : Layers Set) (start : List (Entry Set)) where
+  abbrev pub LawfulAt : ℕ → List Plain → (Cut → Bool) → Type 0
+  LawfulAt listed es undrawn = Lawful u.system (member_in u front) (member_in u back) (known_of front) (known_of back) listed es undrawn
 
-  abbrev pub OwedAt : List Plain → (Cut → Bool) → List ℕ → Type 0
-  OwedAt es undrawn p = Owed u.system (known_of back) listed es undrawn p
+  abbrev pub OwedAt : ℕ → List Plain → (Cut → Bool) → List ℕ → Type 0
+  OwedAt listed es undrawn p = Owed u.system (known_of back) listed es undrawn p
 
   pub record WalkedTo (es : List Plain) : Type 0 where
-    pub lawful : (undrawn : Cut → Bool) × LawfulAt es undrawn
-    pub owes : (undrawn : Cut → Bool) → LawfulAt (plains u start) undrawn → LawfulAt es undrawn × ((p : List ℕ) → OwedAt es undrawn p ↔ OwedAt (plains u start) undrawn p)
+    pub lawful : (listed : ℕ) × (undrawn : Cut → Bool) × LawfulAt listed es undrawn
+    pub owes : (listed : ℕ) (undrawn : Cut → Bool) → LawfulAt listed (plains u start) undrawn
+        → LawfulAt listed es undrawn × ((p : List ℕ) → OwedAt listed es undrawn p ↔ OwedAt listed (plains u start) undrawn p)
 
-  pub walked_first : (undrawn : Cut → Bool) → LawfulAt (plains u start) undrawn → WalkedTo (plains u start)
-  walked_first undrawn ok = record { lawful = (undrawn, ok); owes = λ other fine. (fine, λ p. ((λ h. h), (λ h. h))) }
+  pub walked_first : (listed : ℕ) × (undrawn : Cut → Bool) × LawfulAt listed (plains u start) undrawn → WalkedTo (plains u start)
+  walked_first ok = record { lawful = ok; owes = λ listed undrawn fine. (fine, λ p. ((λ h. h), (λ h. h))) }
 
-  pub walked_on : (es fs : List Plain) → WalkedTo es → Goes u.system (member_in u front) (member_in u back) es fs → WalkedTo fs × (last_by height fs < last_by height es) × (last_by weight fs ≡ last_by weight es + 1)
+  pub walked_on : (es fs : List Plain) → WalkedTo es → Goes u.system (member_in u front) (member_in u back) es fs
+      → WalkedTo fs × (last_by height fs < last_by height es) × (last_by weight fs ≡ last_by weight es + 1)
   walked_on es fs w g =
       let y = u.system in
       let fr = member_in u front in
       let bk = member_in u back in
       let f = known_of front in
       let b = known_of back in
-      let on = goes_on y fr bk f b listed w.lawful.0 es fs w.lawful.1 g in (
+      let on = goes_on y fr bk f b w.lawful.0 w.lawful.1 es fs w.lawful.2 g in (
         record {
-          lawful = (w.lawful.0, goes_lawful y fr bk f b listed w.lawful.0 es fs w.lawful.1 g);
-          owes = λ undrawn ok.
-              let o = w.owes undrawn ok in
+          lawful = (w.lawful.0, w.lawful.1, goes_lawful y fr bk f b w.lawful.0 w.lawful.1 es fs w.lawful.2 g);
+          owes = λ listed undrawn ok.
+              let o = w.owes listed undrawn ok in
               let iff = goes_owed y fr bk f b listed undrawn es fs o.0 g in
               (goes_lawful y fr bk f b listed undrawn es fs o.0 g, λ p. ((λ h. (o.1 p).0 ((iff p).0 h)), (λ h. (iff p).1 ((o.1 p).1 h))));
         },
@@ -56,15 +58,19 @@ module _ {Set : Type 0} (u : View Set) (front back : Layers Set) (listed : ℕ) 
         on.1,
       )
 
-  pub walked_given : (es fs : List Plain) (p : List ℕ) → WalkedTo es → Gives u.system (member_in u front) (member_in u back) es fs p → ((most : Option ℕ) → listed ≤ top most → (undrawn : Cut → Bool) → LawfulAt (plains u start) undrawn → LawfulAt fs undrawn × Gave u.system TopK most (OwedAt (plains u start) undrawn) (OwedAt fs undrawn) p) × (last_by weight es ≡ length p + 1)
+  pub walked_given : (es fs : List Plain) (p : List ℕ) → WalkedTo es → Gives u.system (member_in u front) (member_in u back) es fs p
+      → ((listed : ℕ) (most : Option ℕ) → listed ≤ top most → (undrawn : Cut → Bool)
+      → LawfulAt listed (plains u start) undrawn → LawfulAt listed fs undrawn
+      × Gave u.system TopK most (OwedAt listed (plains u start) undrawn) (OwedAt listed fs undrawn) p)
+      × (last_by weight es ≡ length p + 1)
   walked_given es fs p w g =
       let y = u.system in
       let fr = member_in u front in
       let bk = member_in u back in
       let f = known_of front in
       let b = known_of back in (
-        (λ most range undrawn ok.
-            let o = w.owes undrawn ok in
+        (λ listed most range undrawn ok.
+            let o = w.owes listed undrawn ok in
             let c = gives_gave y fr bk f b listed undrawn es fs o.0 p g most range in (
               gives_lawful y fr bk f b listed undrawn es fs o.0 p g,
               record {
@@ -74,13 +80,15 @@ module _ {Set : Type 0} (u : View Set) (front back : Layers Set) (listed : ℕ) 
                 rest = λ q. ((λ k. let r = (c.rest q).0 k in ((o.1 q).0 r.0, r.1)), (λ k. (c.rest q).1 ((o.1 q).1 k.0, k.1)));
               },
             )),
-        gives_weight y fr bk f b listed w.lawful.0 es fs w.lawful.1 p g,
+        gives_weight y fr bk f b w.lawful.0 w.lawful.1 es fs w.lawful.2 p g,
       )
 
 -- in a later view that keeps the layers' sets
-module _ {Set : Type 0} (u v : View Set) (front back : Layers Set) (listed : ℕ) (sys : v.system ≡ u.system) (mf : member_in v front ≡ member_in u front) (mb : member_in v back ≡ member_in u back) where
-  pub to_view : (es : List (Entry Set)) (undrawn : Cut → Bool) → LawfulAt u front back listed es (plains v es) undrawn → IsLawful v front back listed es undrawn
-  to_view es undrawn l =
+module _ {Set : Type 0} (u v : View Set) (front back : Layers Set) (sys : v.system ≡ u.system)
+    (mf : member_in v front ≡ member_in u front) (mb : member_in v back ≡ member_in u back) where
+  pub to_view : (listed : ℕ) (es : List (Entry Set)) (undrawn : Cut → Bool)
+      → LawfulAt u front back es listed (plains v es) undrawn → IsLawful v front back listed es undrawn
+  to_view listed es undrawn l =
       let f = known_of front in
       let b = known_of back in
       let l1 = subst (λ (y : System). Lawful y (member_in u front) (member_in u back) f b listed (plains v es) undrawn) (sym sys) l in
@@ -93,21 +101,26 @@ module _ {Set : Type 0} (u v : View Set) (front back : Layers Set) (listed : ℕ
       let g2 = subst (λ (p : ℕ → State → Bool). Goes u.system p (member_in v back) es fs) mf g1 in
       subst (λ (p : ℕ → State → Bool). Goes u.system (member_in u front) p es fs) mb g2
 
-  pub gives_at : (es fs : List Plain) (p : List ℕ) → Gives v.system (member_in v front) (member_in v back) es fs p → Gives u.system (member_in u front) (member_in u back) es fs p
+  pub gives_at : (es fs : List Plain) (p : List ℕ) → Gives v.system (member_in v front) (member_in v back) es fs p
+      → Gives u.system (member_in u front) (member_in u back) es fs p
   gives_at es fs p g =
       let g1 = subst (λ (y : System). Gives y (member_in v front) (member_in v back) es fs p) sys g in
       let g2 = subst (λ (q : ℕ → State → Bool). Gives u.system q (member_in v back) es fs p) mf g1 in
       subst (λ (q : ℕ → State → Bool). Gives u.system (member_in u front) q es fs p) mb g2
 
-  pub owed_at : (es : List (Entry Set)) (undrawn : Cut → Bool) (p : List ℕ) → OwedAt u front back listed es (plains v es) undrawn p ↔ IsOwed v back listed es undrawn p
-  owed_at es undrawn p = (
+  pub owed_at : (listed : ℕ) (es : List (Entry Set)) (undrawn : Cut → Bool) (p : List ℕ)
+      → OwedAt u front back es listed (plains v es) undrawn p ↔ IsOwed v back listed es undrawn p
+  owed_at listed es undrawn p = (
     (λ h. subst (λ (y : System). Owed y (known_of back) listed (plains v es) undrawn p) (sym sys) h),
     (λ h. subst (λ (y : System). Owed y (known_of back) listed (plains v es) undrawn p) sys h),
   )
 
 -- one turn of the walk, from the view u at its start
-module _ {Set : Type 0} (u v w : View Set) (front back : Layers Set) (listed : ℕ) (start old new : List (Entry Set)) (hf : Held u front) (hb : Held u back) (af : AreApart start front) (ab : AreApart start back)
-    (sides : RightSides u.system u front back (known_of front) (known_of back)) (t : Trades u v (SetIn start) (SetIn old)) (t2 : Trades u w (SetIn start) (SetIn new)) (walked : WalkedTo u front back listed start (plains v old)) where
+module _ {Set : Type 0} {u v w : View Set} {front back : Layers Set} (start old new : List (Entry Set))
+    (hf : Held u front) (hb : Held u back) (af : AreApart start front) (ab : AreApart start back)
+    (sides : RightSides u.system u front back (known_of front) (known_of back))
+    (t : Trades u v (SetIn start) (SetIn old)) (t2 : Trades u w (SetIn start) (SetIn new))
+    (walked : WalkedTo u front back start (plains v old)) where
   ff : (a : Set) → Keeps front a → Valid v a × ((s : State) → v.has a s ≡ u.has a s)
   ff = traded u v start old t front hf af
 
@@ -127,24 +140,39 @@ module _ {Set : Type 0} (u v w : View Set) (front back : Layers Set) (listed : �
   wb = member_same u w back hb (traded u w start new t2 back hb ab)
 
   sides_v : RightSides v.system v front back (known_of front) (known_of back)
-  sides_v = subst (λ (y : System). RightSides y v front back (known_of front) (known_of back)) (sym t.system) (sides_same u.system u v front back (known_of front) (known_of back) mf mb (stands_same u v front hf ff) (stands_same u v back hb fb) sides)
+  sides_v = subst (λ (y : System). RightSides y v front back (known_of front) (known_of back)) (sym t.system)
+      (sides_same mf mb (stands_same u v front hf ff) (stands_same u v back hb fb) sides)
 
-  stands_v : AllByRecursion (Stands v.system (known_of front) (known_of back) listed) (plains v old)
-  stands_v = subst (λ (y : System). AllByRecursion (Stands y (known_of front) (known_of back) listed) (plains v old)) (sym t.system) walked.lawful.1.stands
+  stands_v : AllByRecursion (Stands v.system (known_of front) (known_of back) walked.lawful.0) (plains v old)
+  stands_v = subst (λ (y : System). AllByRecursion (Stands y (known_of front) (known_of back) walked.lawful.0)
+      (plains v old)) (sym t.system) walked.lawful.2.stands
 
-  pub turn_goes : Turns v w front back old new None → WalkedTo u front back listed start (plains w new) × (last_by height (plains w new) < last_by height (plains v old)) × (last_by weight (plains w new) ≡ last_by weight (plains v old) + 1)
-  turn_goes turns = walked_on u front back listed start (plains v old) (plains w new) walked (goes_at u v front back listed t.system mf mb (plains v old) (plains w new) (turns (known_of front) (known_of back) listed sides_v stands_v))
+  turned : (o : Option (List ℕ)) → Turns v w front back old new o → GoesOrGives v.system (member_in v front) (member_in v back) (plains v old) (plains w new) o
+  turned o turns = turns (known_of front) (known_of back) walked.lawful.0 sides_v stands_v
+
+  pub turn_goes : Turns v w front back old new None → WalkedTo u front back start (plains w new)
+      × (last_by height (plains w new) < last_by height (plains v old))
+      × (last_by weight (plains w new) ≡ last_by weight (plains v old) + 1)
+  turn_goes turns = walked_on u front back start (plains v old) (plains w new) walked
+      (goes_at u v front back t.system mf mb (plains v old) (plains w new) (turned None turns))
 
   pub turn_left : Turns v w front back old new None → 0 < length (plains w new)
-  turn_left turns = let g = turns (known_of front) (known_of back) listed sides_v stands_v in omega (arith, ap length g.is, length-append g.others (g.pushed ++ g.last ∷ []), length-append g.pushed (g.last ∷ []))
+  turn_left turns = let g = turned None turns in omega (
+    arith,
+    ap length g.is,
+    length-append g.others
+        (g.pushed ++ g.last ∷ []),
+    length-append g.pushed (g.last ∷ []),
+  )
 
-  pub turn_gives : (p : List ℕ) → Turns v w front back old new (Some p) → GaveFrom u w front back listed start new p × (last_by weight (plains v old) ≡ length p + 1)
+  pub turn_gives : (p : List ℕ) → Turns v w front back old new (Some p) → GaveFrom u w front back start new p × (last_by weight (plains v old) ≡ length p + 1)
   turn_gives p turns =
-      let r = walked_given u front back listed start (plains v old) (plains w new) p walked (gives_at u v front back listed t.system mf mb (plains v old) (plains w new) p (turns (known_of front) (known_of back) listed sides_v stands_v)) in (
-        (λ most range undrawn ok.
-            let q = r.0 most range undrawn ok in
-            let iff = owed_at u w front back listed t2.system wf wb new undrawn in (
-              to_view u w front back listed t2.system wf wb new undrawn q.0,
+      let r = walked_given u front back start (plains v old) (plains w new) p walked
+      (gives_at u v front back t.system mf mb (plains v old) (plains w new) p (turned (Some p) turns)) in (
+        (λ listed most range undrawn ok.
+            let q = r.0 listed most range undrawn ok in
+            let iff = owed_at u w front back t2.system wf wb listed new undrawn in (
+              to_view u w front back t2.system wf wb listed new undrawn q.0,
               record {
                 pended = q.1.pended;
                 fits = q.1.fits;
@@ -156,19 +184,21 @@ module _ {Set : Type 0} (u v w : View Set) (front back : Layers Set) (listed : �
       )
 
 -- a refused turn
-module _ {Set : Type 0} (u v w : View Set) (front back : Layers Set) (listed : ℕ) (start old : List (Entry Set)) (hf : Held u front) (hb : Held u back) (af : AreApart start front) (ab : AreApart start back)
-    (t2 : Trades u w (SetIn start) (SetIn old)) (walked : WalkedTo u front back listed start (plains v old)) (q : IsQueue v old) (s : Stays v w) where
-  pub turn_refused : OwesOn u w front back listed start old
-  turn_refused undrawn ok =
-      let o = walked.owes undrawn ok in
+module _ {Set : Type 0} {u v w : View Set} {front back : Layers Set} (start old : List (Entry Set))
+    (hf : Held u front) (hb : Held u back) (af : AreApart start front) (ab : AreApart start back)
+    (t2 : Trades u w (SetIn start) (SetIn old)) (walked : WalkedTo u front back start (plains v old)) (q : IsQueue v old) (s : Stays v w) where
+  pub turn_refused : OwesOn u w front back start old
+  turn_refused listed undrawn ok =
+      let o = walked.owes listed undrawn ok in
       let wf = member_same u w front hf (traded u w start old t2 front hf af) in
       let wb = member_same u w back hb (traded u w start old t2 back hb ab) in
       let same = plains_kept v w s.kept old q.each in
-      let l = subst (λ (es : List Plain). LawfulAt u front back listed start es undrawn) (sym same) o.0 in
-      let iff = owed_at u w front back listed t2.system wf wb old undrawn in (
-        to_view u w front back listed t2.system wf wb old undrawn l,
+      let l = subst (λ (es : List Plain). LawfulAt u front back start listed es undrawn) (sym same) o.0 in
+      let iff = owed_at u w front back t2.system wf wb listed old undrawn in (
+        to_view u w front back t2.system wf wb listed old undrawn l,
         (λ p.
-            let there = subst (λ (es : List Plain). OwedAt u front back listed start es undrawn p ↔ OwedAt u front back listed start (plains u start) undrawn p) (sym same) (o.1 p) in
+            let there = subst (λ (es : List Plain). OwedAt u front back start listed es undrawn p
+            ↔ OwedAt u front back start listed (plains u start) undrawn p) (sym same) (o.1 p) in
             ((λ h. there.0 ((iff p).1 h)), (λ h. (iff p).0 (there.1 h)))),
       )
 

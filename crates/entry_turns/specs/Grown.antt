@@ -3,10 +3,12 @@ use Rattle.std.specs.Prelude.{◌≡◌, ℕ, ◌-◌, ◌^◌, ◌<◌, ◌≤�
 use Rattle.std.specs.List.{AllByRecursion}
 use Rattle.task_system.specs.System.{State}
 use Rattle.space_api.specs.View.{View}
+use Rattle.cost_layers.specs.Layers.{Held}
 use Rattle.cost_layers.specs.declared.layers.Layers.{Layers}
 use Rattle.entry_laws.specs.Growing.{Added, Gathered}
 use Rattle.entry_turns.specs.Entries.{cost_in, ring_in, plain, plains, EntryOk, Makes, member_in, Ready}
 use Rattle.entry_turns.specs.Ways.{IsLeast, IsFirst}
+use Rattle.entry_turns.specs.Moves.{AreMoves}
 use Rattle.entry_turns.specs.declared.moves.Move.{Move}
 use Rattle.entry_turns.specs.declared.entries.Prefix.{Prefix}
 use Rattle.entry_turns.specs.declared.entries.Suffix.{Suffix}
@@ -64,9 +66,29 @@ AddsChild v w front back e op level falling level2 falling2 = (f b listed : ℕ)
     → Ready v.system v front back f b listed (plain v e)
     → Added v.system (member_in v front) (member_in v back) (plain v e) op (plains v level) (plains v falling) (plains w level2) (plains w falling2)
 
+-- by a prefix, whatever layers stand behind it
+abbrev pub AddsBefore : {Set : Type 0} → View Set → View Set → Layers Set → Prefix Set → ℕ → List (Entry Set) → List (Entry Set) → List (Entry Set) → List (Entry Set) → Type 0
+AddsBefore {Set} v w front e op level falling level2 falling2 = (back : Layers Set) → Held v back → AddsChild v w front back (Before e) op level falling level2 falling2
+
 -- where the layers are right, all children were gathered
 abbrev pub Gathers : {Set : Type 0} → View Set → View Set → Layers Set → Layers Set → Entry Set → List (Entry Set) → List (Entry Set) → Type 0
 Gathers v w front back e level falling = (f b listed : ℕ) → Ready v.system v front back f b listed (plain v e) → Gathered v.system (member_in v front) (member_in v back) (plain v e) (plains w level) (plains w falling)
+
+-- of a prefix, whatever layers stand behind it
+abbrev pub GathersBefore : {Set : Type 0} → View Set → View Set → Layers Set → Prefix Set → List (Entry Set) → List (Entry Set) → Type 0
+GathersBefore {Set} v w front e level falling = (back : Layers Set) → Held v back → Gathers v w front back (Before e) level falling
+
+-- of a suffix, whatever layers stand in front
+abbrev pub GathersAfter : {Set : Type 0} → View Set → Layers Set → Suffix → List (Entry Set) → List (Entry Set) → Type 0
+GathersAfter {Set} v back e level falling = (front : Layers Set) → Gathers v v front back (After e) level falling
+
+-- in whatever view and by whatever layers these are all moves from the suffix's state: the children were made
+abbrev pub MakesMoves : {Set : Type 0} → Suffix → List Move → List (Entry Set) → Type 0
+MakesMoves {Set} e moves es = (v : View Set) (back : Layers Set) → EntryOk v (After e) → AreMoves v back e.cost e.state moves → Makes v v es
+
+-- and where they are right, all children were gathered
+abbrev pub GathersMoves : {Set : Type 0} → Suffix → List Move → List (Entry Set) → List (Entry Set) → Type 0
+GathersMoves {Set} e moves level falling = (v : View Set) (back : Layers Set) → EntryOk v (After e) → AreMoves v back e.cost e.state moves → GathersAfter v back e level falling
 
 -- the entries are new ones: all children, the falling ones last
 abbrev pub Expands : {Set : Type 0} → View Set → View Set → Layers Set → Layers Set → Entry Set → List (Entry Set) → Type 0

@@ -36,3 +36,11 @@ pub record Opened {Set : Type 0} (v w : View Set) (front back : Layers Set) (cos
   pub fine : EntryOk w e
   pub stands : (f b : ℕ) → RightSides v.system v front back f b → cost < f + b → IsCutAt v.system b cost cut → Stands v.system f b cost (plain w e)
   pub hits : (f b : ℕ) → RightSides v.system v front back f b → cost < f + b → IsCutAt v.system b cost cut → (p : List ℕ) → IsPlan v.system p → cost_of v.system p ≡ cost → entry_hits v.system (plain w e) p ≡ ind (same_cut (cut_of v.system b p) cut)
+
+-- of plans that are not cut: whatever layers stand in front
+abbrev pub OpenedWhole : {Set : Type 0} → View Set → Layers Set → ℕ → Entry Set → Type 0
+OpenedWhole {Set} v back cost e = (front : Layers Set) → Opened v v front back cost Whole e
+
+-- of plans that are cut at an operator, whatever they cost
+abbrev pub OpenedCross : {Set : Type 0} → View Set → View Set → Layers Set → Layers Set → ℕ → ℕ → ℕ → Entry Set → Type 0
+OpenedCross v w front back x op y e = (cost : ℕ) → Opened v w front back cost (Cross x op y) e

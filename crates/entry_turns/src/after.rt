@@ -1,12 +1,11 @@
 //! The children of a suffix: by the moves from its one state, and with no set.
 
-ghost use Rattle.std.specs.Prelude.{◌≡◌, ◌++◌, ◌∷◌, [], IfOk, OnOk, OnErr};
+ghost use Rattle.std.specs.Prelude.{◌≡◌, ◌++◌, [], IfOk, OnOk, OnErr};
 ghost use Rattle.space_api.specs.View.{View};
 ghost use Rattle.cost_layers.specs.Layers.{Held};
 ghost use Rattle.entry_turns.specs.Entries.{EntryOk, Makes};
-ghost use Rattle.entry_turns.specs.Moves.{IsMove, AreMoves};
 ghost use Rattle.entry_turns.specs.Expansions.{AreRight};
-ghost use Rattle.entry_turns.specs.Grown.{GrownBy, PutsBy, MakesOn, AddsChild, Gathers};
+ghost use Rattle.entry_turns.specs.Grown.{GrownBy, PutsBy, MakesMoves, GathersMoves, GathersAfter};
 
 use crate::children::Children;
 use crate::entries::{Entry, Suffix, append};
@@ -47,49 +46,21 @@ fn put_grown<T: Copy>(
     children.put_after(suffix.cost, suffix.ring, child)
 }
 
-/// Adds the child by this move.
-fn add_after<S: Space>(
-    alloc: Global,
-    space: &S,
-    front: &Layers<S::Set>,
-    back: &Layers<S::Set>,
-    suffix: &Suffix,
-    step: &Move,
-    children: &mut Children<S::Set>,
-) -> Result<(), SpaceFault>
-    requires entry { EntryOk (S.view space.now) (Entry.After suffix.now) }
-    requires step { IsMove (S.view space.now) back.now suffix.now.cost suffix.now.state step.now }
-    ensures makes { MakesOn (S.view space.now) (S.view space.now)
-        (children.old.level.items ++ children.old.falling.items)
-        (children.new.level.items ++ children.new.falling.items) }
-    ensures added { OnOk result (AddsChild (S.view space.now) (S.view space.now) front.now back.now
-        (Entry.After suffix.now) step.now.op children.old.level.items children.old.falling.items
-        children.new.level.items children.new.falling.items) }
-{
-    put_grown(alloc, suffix, step, children)
-}
-
 /// Adds the children by all moves, in their order. After a refusal the children so far are there.
-fn add_all<S: Space>(
+fn add_all<T: Copy>(
     alloc: Global,
-    space: &S,
-    front: &Layers<S::Set>,
-    back: &Layers<S::Set>,
     suffix: &Suffix,
     moves: &[Move],
-    children: &mut Children<S::Set>,
-) -> Result<(), SpaceFault>
-    requires entry { EntryOk (S.view space.now) (Entry.After suffix.now) }
-    requires moves { AreMoves (S.view space.now) back.now suffix.now.cost suffix.now.state moves.now }
+    children: &mut Children<T>,
+) -> Result<(), Memory>
     requires level { children.old.level.items ≡ [] }
     requires falling { children.old.falling.items ≡ [] }
-    ensures makes { Makes (S.view space.now) (S.view space.now)
-        (children.new.level.items ++ children.new.falling.items) }
-    ensures ok { OnOk result (Gathers (S.view space.now) (S.view space.now) front.now back.now
-        (Entry.After suffix.now) children.new.level.items children.new.falling.items) }
+    ensures makes { MakesMoves suffix.now moves.now (children.new.level.items ++ children.new.falling.items) }
+    ensures ok { OnOk result (GathersMoves suffix.now moves.now children.new.level.items
+        children.new.falling.items) }
 {
     'moves: for step in moves {
-        add_after(alloc, space, front, back, suffix, step, children)?;
+        put_grown(alloc, suffix, step, children)?;
     }
     Ok(())
 }
@@ -98,7 +69,6 @@ fn add_all<S: Space>(
 fn find_after<S: Space>(
     alloc: Global,
     space: &S,
-    front: &Layers<S::Set>,
     back: &Layers<S::Set>,
     suffix: &Suffix,
     memo: &mut Expansions,
@@ -112,11 +82,11 @@ fn find_after<S: Space>(
     ensures memo { AreRight (S.view space.now) back.now memo.new }
     ensures makes { Makes (S.view space.now) (S.view space.now)
         (children.new.level.items ++ children.new.falling.items) }
-    ensures ok { OnOk result (Gathers (S.view space.now) (S.view space.now) front.now back.now
-        (Entry.After suffix.now) children.new.level.items children.new.falling.items) }
+    ensures ok { OnOk result (GathersAfter (S.view space.now) back.now suffix.now children.new.level.items
+        children.new.falling.items) }
 {
     let all = successors_of(alloc, space, back, suffix.cost, &suffix.state)?;
-    add_all(alloc, space, front, back, suffix, &all.moves, children)?;
+    add_all(alloc, suffix, &all.moves, children)?;
     memo.keep(suffix.cost, &suffix.state, all);
     Ok(())
 }
@@ -126,7 +96,6 @@ fn find_after<S: Space>(
 pub(crate) fn gather_after<S: Space>(
     alloc: Global,
     space: &S,
-    front: &Layers<S::Set>,
     back: &Layers<S::Set>,
     suffix: &Suffix,
     memo: &mut Expansions,
@@ -140,11 +109,11 @@ pub(crate) fn gather_after<S: Space>(
     ensures memo { AreRight (S.view space.now) back.now memo.new }
     ensures makes { Makes (S.view space.now) (S.view space.now)
         (children.new.level.items ++ children.new.falling.items) }
-    ensures ok { OnOk result (Gathers (S.view space.now) (S.view space.now) front.now back.now
-        (Entry.After suffix.now) children.new.level.items children.new.falling.items) }
+    ensures ok { OnOk result (GathersAfter (S.view space.now) back.now suffix.now children.new.level.items
+        children.new.falling.items) }
 {
     match memo.moves_of(suffix.cost, &suffix.state) {
-        Some(moves) => add_all(alloc, space, front, back, suffix, moves, children),
-        None => find_after(alloc, space, front, back, suffix, memo, children),
+        Some(moves) => add_all(alloc, suffix, moves, children),
+        None => find_after(alloc, space, back, suffix, memo, children),
     }
 }

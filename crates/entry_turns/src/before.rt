@@ -1,12 +1,20 @@
 //! The children of a prefix, each with a set of its own.
 
-ghost use Rattle.std.specs.Prelude.{◌≡◌, ◌-◌, ◌<◌, ◌≤◌, ◌++◌, ◌∷◌, [], Some, length, IfOk, OnOk, OnErr};
+/// A step backwards out of a prefix's set: the operator, its cost, and the states from which it leads there.
+#[derive(Clone, Copy)]
+struct StepBack<T: Copy> {
+    op: u32,
+    cost: u64,
+    set: T,
+}
+
+ghost use Rattle.std.specs.Prelude.{◌≡◌, ◌<◌, ◌≤◌, ◌++◌, [], IfOk, OnOk, OnErr};
 ghost use Rattle.space_api.specs.View.{View, Valid};
 ghost use Rattle.space_api.specs.Frames.{Kept, Stays};
-ghost use Rattle.cost_layers.specs.Layers.{Held, whole_at};
+ghost use Rattle.cost_layers.specs.Layers.{Held};
 ghost use Rattle.entry_turns.specs.Entries.{EntryOk, Makes};
 ghost use Rattle.entry_turns.specs.Ways.{IsWay, FoundBefore};
-ghost use Rattle.entry_turns.specs.Grown.{GrownBefore, PutsBefore, MakesOn, AddsChild, Gathers};
+ghost use Rattle.entry_turns.specs.Grown.{GrownBefore, PutsBefore, MakesOn, AddsBefore, GathersBefore};
 
 use crate::children::Children;
 use crate::entries::{Entry, Prefix, prepend};
@@ -15,27 +23,25 @@ use cost_layers::Layers;
 use space_api::{Space, SpaceFault};
 use std::alloc::Global;
 
-/// The prefix that grows by this operator of cost `w`.
+/// The prefix that grows by this step.
 fn grow_before<S: Space>(
     alloc: Global,
     space: &mut S,
     front: &Layers<S::Set>,
     prefix: &Prefix<S::Set>,
-    op: u32,
-    w: u64,
-    set: S::Set,
+    step: StepBack<S::Set>,
 ) -> Result<Prefix<S::Set>, SpaceFault>
     requires held { Held (S.view space.old) front.now }
-    requires set { Valid (S.view space.old) set }
-    requires fits { w ≤ prefix.now.cost }
+    requires set { Valid (S.view space.old) step.set }
+    requires fits { step.cost ≤ prefix.now.cost }
     ensures stays { Stays (S.view space.old) (S.view space.new) }
-    ensures ok { IfOk result (GrownBefore (S.view space.old) front.now prefix.now op w set) }
+    ensures ok { IfOk result (GrownBefore (S.view space.old) front.now prefix.now step.op step.cost step.set) }
 {
-    let cost = prefix.cost - w;
-    let ring = least_ring(space, front, cost, set)?;
-    let operators = prepend(alloc, op, &prefix.operators)?;
+    let cost = prefix.cost - step.cost;
+    let ring = least_ring(space, front, cost, step.set)?;
+    let operators = prepend(alloc, step.op, &prefix.operators)?;
     Ok(Prefix {
-        set,
+        set: step.set,
         cost,
         ring,
         operators,
@@ -43,27 +49,25 @@ fn grow_before<S: Space>(
     })
 }
 
-/// The child by this operator is made and put last. A refusal leaves the children as they were.
+/// The child by this step is made and put last. A refusal leaves the children as they were.
 fn put_grown<S: Space>(
     alloc: Global,
     space: &mut S,
     front: &Layers<S::Set>,
     prefix: &Prefix<S::Set>,
-    op: u32,
-    w: u64,
-    set: S::Set,
+    step: StepBack<S::Set>,
     children: &mut Children<S::Set>,
 ) -> Result<(), SpaceFault>
     requires front { Held (S.view space.old) front.now }
-    requires set { Valid (S.view space.old) set }
-    requires fits { w ≤ prefix.now.cost }
+    requires set { Valid (S.view space.old) step.set }
+    requires fits { step.cost ≤ prefix.now.cost }
     ensures stays { Stays (S.view space.old) (S.view space.new) }
-    ensures ok { OnOk result (PutsBefore (S.view space.old) front.now prefix.now op w set
+    ensures ok { OnOk result (PutsBefore (S.view space.old) front.now prefix.now step.op step.cost step.set
         children.old.level.items children.old.falling.items children.new.level.items children.new.falling.items) }
     ensures level { OnErr result (children.new.level.items ≡ children.old.level.items) }
     ensures falling { OnErr result (children.new.falling.items ≡ children.old.falling.items) }
 {
-    let child = grow_before(alloc, space, front, prefix, op, w, set)?;
+    let child = grow_before(alloc, space, front, prefix, step)?;
     children.put_before(prefix.cost, prefix.ring, child)
 }
 
@@ -89,57 +93,17 @@ fn set_before<S: Space>(
     Ok(Some(found))
 }
 
-/// Adds the child by this operator, if the operator leads on into the layer.
+/// Adds the child by this operator, if there is one.
 fn add_before<S: Space>(
     alloc: Global,
     space: &mut S,
     front: &Layers<S::Set>,
-    back: &Layers<S::Set>,
-    prefix: &Prefix<S::Set>,
-    op: u32,
-    w: u64,
-    within: S::Set,
-    children: &mut Children<S::Set>,
-) -> Result<(), SpaceFault>
-    requires front { Held (S.view space.old) front.now }
-    requires back { Held (S.view space.old) back.now }
-    requires entry { EntryOk (S.view space.old) (Entry.Before prefix.now) }
-    requires op { op < (S.view space.old).system.operators }
-    requires cost { w ≡ (S.view space.old).system.cost op }
-    requires fits { w ≤ prefix.now.cost }
-    requires within { whole_at front.now (prefix.now.cost - w) ≡ Some within }
-    ensures makes { MakesOn (S.view space.old) (S.view space.new)
-        (children.old.level.items ++ children.old.falling.items)
-        (children.new.level.items ++ children.new.falling.items) }
-    ensures added { OnOk result (AddsChild (S.view space.old) (S.view space.new) front.now back.now
-        (Entry.Before prefix.now) op children.old.level.items children.old.falling.items children.new.level.items
-        children.new.falling.items) }
-{
-    match set_before(space, prefix, op, within)? {
-        None => Ok(()),
-        Some(set) => match put_grown(alloc, space, front, prefix, op, w, set, children) {
-            Ok(()) => Ok(()),
-            Err(fault) => {
-                space.forget(set);
-                Err(fault)
-            }
-        },
-    }
-}
-
-/// Adds the child by this operator, if there is one.
-fn try_before<S: Space>(
-    alloc: Global,
-    space: &mut S,
-    front: &Layers<S::Set>,
-    back: &Layers<S::Set>,
     prefix: &Prefix<S::Set>,
     way: Way<S::Set>,
     op: u32,
     children: &mut Children<S::Set>,
 ) -> Result<(), SpaceFault>
     requires front { Held (S.view space.old) front.now }
-    requires back { Held (S.view space.old) back.now }
     requires entry { EntryOk (S.view space.old) (Entry.Before prefix.now) }
     requires op { op < (S.view space.old).system.operators }
     requires cost { way.cost ≡ (S.view space.old).system.cost op }
@@ -147,15 +111,28 @@ fn try_before<S: Space>(
     ensures makes { MakesOn (S.view space.old) (S.view space.new)
         (children.old.level.items ++ children.old.falling.items)
         (children.new.level.items ++ children.new.falling.items) }
-    ensures added { OnOk result (AddsChild (S.view space.old) (S.view space.new) front.now back.now
-        (Entry.Before prefix.now) op children.old.level.items children.old.falling.items children.new.level.items
-        children.new.falling.items) }
+    ensures added { OnOk result (AddsBefore (S.view space.old) (S.view space.new) front.now prefix.now op
+        children.old.level.items children.old.falling.items children.new.level.items children.new.falling.items) }
 {
-    match way.layer {
+    let Some(within) = way.layer else {
+        return Ok(());
+    };
+    match set_before(space, prefix, op, within)? {
         None => Ok(()),
-        Some(within) => add_before(
-            alloc, space, front, back, prefix, op, way.cost, within, children,
-        ),
+        Some(set) => {
+            let step = StepBack {
+                op,
+                cost: way.cost,
+                set,
+            };
+            match put_grown(alloc, space, front, prefix, step, children) {
+                Ok(()) => Ok(()),
+                Err(fault) => {
+                    space.forget(set);
+                    Err(fault)
+                }
+            }
+        }
     }
 }
 
@@ -165,25 +142,23 @@ pub(crate) fn gather_before<S: Space>(
     alloc: Global,
     space: &mut S,
     front: &Layers<S::Set>,
-    back: &Layers<S::Set>,
     prefix: &Prefix<S::Set>,
     children: &mut Children<S::Set>,
 ) -> Result<(), SpaceFault>
     requires front { Held (S.view space.old) front.now }
-    requires back { Held (S.view space.old) back.now }
     requires entry { EntryOk (S.view space.old) (Entry.Before prefix.now) }
     requires level { children.old.level.items ≡ [] }
     requires falling { children.old.falling.items ≡ [] }
     ensures makes { Makes (S.view space.old) (S.view space.new)
         (children.new.level.items ++ children.new.falling.items) }
-    ensures ok { OnOk result (Gathers (S.view space.old) (S.view space.new) front.now back.now
-        (Entry.Before prefix.now) children.new.level.items children.new.falling.items) }
+    ensures ok { OnOk result (GathersBefore (S.view space.old) (S.view space.new) front.now prefix.now
+        children.new.level.items children.new.falling.items) }
 {
     let ops = space.operators_into(alloc, prefix.set)?;
     let mut way = way_for(front, prefix.cost, 0);
     'operators: for op in &ops {
         way = way_after(front, prefix.cost, way, space.cost_of(*op));
-        try_before(alloc, space, front, back, prefix, way, *op, children)?;
+        add_before(alloc, space, front, prefix, way, *op, children)?;
     }
     Ok(())
 }

@@ -40,8 +40,8 @@ fn gather<S: Space>(
         children.new.level.items children.new.falling.items) }
 {
     match entry {
-        Entry::Before(prefix) => gather_before(alloc, space, front, back, prefix, children),
-        Entry::After(suffix) => gather_after(alloc, space, front, back, suffix, memo, children),
+        Entry::Before(prefix) => gather_before(alloc, space, front, prefix, children),
+        Entry::After(suffix) => gather_after(alloc, space, back, suffix, memo, children),
     }
 }
 

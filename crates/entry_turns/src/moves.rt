@@ -2,6 +2,7 @@
 //! whether a plan ends there.
 
 use symk_task::State;
+use task_run::Closed;
 
 /// An operator that leads on: to which state, what is left of the cost there, and the first ring that has the state.
 #[derive(Drop)]
@@ -12,6 +13,14 @@ pub(crate) struct Move {
     pub(crate) ring: u64,
 }
 
+/// A state that operators reach, with the values of all its variables, where so much of the cost is left.
+#[derive(Clone, Copy)]
+struct Node<'a> {
+    cost: u64,
+    state: &'a State,
+    values: &'a Closed,
+}
+
 /// All that follows of a state where so much of the cost is left: the moves, and whether a plan ends there.
 #[derive(Drop)]
 pub(crate) struct Successors {
@@ -19,10 +28,10 @@ pub(crate) struct Successors {
     pub(crate) ends: bool,
 }
 
-ghost use Rattle.std.specs.Prelude.{◌≡◌, ◌-◌, ◌<◌, ◌≤◌, ◌↔◌, ◌++◌, Some, IsTrue, IfOk, OnOk, option_to_list};
+ghost use Rattle.std.specs.Prelude.{◌≡◌, ◌<◌, ◌↔◌, ◌++◌, IsTrue, IfOk, OnOk, option_to_list};
 ghost use Rattle.task_run.specs.Values.{Valued};
 ghost use Rattle.space_api.specs.View.{View, Valid};
-ghost use Rattle.cost_layers.specs.Layers.{Held, whole_at};
+ghost use Rattle.cost_layers.specs.Layers.{Held};
 ghost use Rattle.entry_turns.specs.Ways.{IsReached, IsWay, LandsIn};
 ghost use Rattle.entry_turns.specs.Moves.{FoundMove, AreMoves, IsEnd, AreSuccessors};
 
@@ -31,24 +40,22 @@ use crate::ways::{Way, first_ring, way_after, way_for};
 use cost_layers::Layers;
 use space_api::{Space, SpaceFault};
 use std::alloc::Global;
-use task_run::Closed;
 
 /// The state to which the operator leads. None where it doesn't lead into the layer.
 fn state_after<S: Space>(
     alloc: Global,
     space: &S,
-    state: &State,
-    values: &Closed,
+    node: Node<'_>,
     op: u32,
     within: S::Set,
 ) -> Result<Option<State>, SpaceFault>
-    requires state { IsReached (S.view space.now) state.now }
-    requires valued { Valued (S.view space.now).task state.now values.now }
+    requires state { IsReached (S.view space.now) node.state.now }
+    requires valued { Valued (S.view space.now).task node.state.now node.values.now }
     requires within { Valid (S.view space.now) within }
     requires op { op < (S.view space.now).system.operators }
-    ensures { IfOk result (LandsIn (S.view space.now) state.now op within) }
+    ensures { IfOk result (LandsIn (S.view space.now) node.entry.state.now op within) }
 {
-    match next_state(alloc, space, op, state, values)? {
+    match next_state(alloc, space, op, node.state, node.values)? {
         None => Ok(None),
         Some(next) => {
             if space.has(within, &next) {
@@ -60,65 +67,38 @@ fn state_after<S: Space>(
     }
 }
 
-/// The move by this operator of cost `w`. None where it doesn't lead into the layer.
-fn move_into<S: Space>(
-    alloc: Global,
-    space: &S,
-    back: &Layers<S::Set>,
-    cost: u64,
-    state: &State,
-    values: &Closed,
-    op: u32,
-    w: u64,
-    within: S::Set,
-) -> Result<Option<Move>, SpaceFault>
-    requires back { Held (S.view space.now) back.now }
-    requires state { IsReached (S.view space.now) state.now }
-    requires valued { Valued (S.view space.now).task state.now values.now }
-    requires op { op < (S.view space.now).system.operators }
-    requires cost { w ≡ (S.view space.now).system.cost op }
-    requires fits { w ≤ cost }
-    requires within { whole_at back.now (cost - w) ≡ Some within }
-    ensures { IfOk result (FoundMove (S.view space.now) back.now cost state.now op) }
-{
-    match state_after(alloc, space, state, values, op, within)? {
-        None => Ok(None),
-        Some(next) => {
-            let ring = first_ring(space, back, cost - w, &next);
-            Ok(Some(Move {
-                op,
-                state: next,
-                cost: cost - w,
-                ring,
-            }))
-        }
-    }
-}
-
 /// The move by this operator. None where there is none.
 fn move_by<S: Space>(
     alloc: Global,
     space: &S,
     back: &Layers<S::Set>,
-    cost: u64,
-    state: &State,
-    values: &Closed,
+    node: Node<'_>,
     way: Way<S::Set>,
     op: u32,
 ) -> Result<Option<Move>, SpaceFault>
     requires back { Held (S.view space.now) back.now }
-    requires state { IsReached (S.view space.now) state.now }
-    requires valued { Valued (S.view space.now).task state.now values.now }
+    requires state { IsReached (S.view space.now) node.state.now }
+    requires valued { Valued (S.view space.now).task node.state.now node.values.now }
     requires op { op < (S.view space.now).system.operators }
     requires cost { way.cost ≡ (S.view space.now).system.cost op }
-    requires way { IsWay back.now cost way }
-    ensures { IfOk result (FoundMove (S.view space.now) back.now cost state.now op) }
+    requires way { IsWay back.now node.cost way }
+    ensures { IfOk result (FoundMove (S.view space.now) back.now node.entry.cost node.entry.state.now op) }
 {
-    match way.layer {
+    let Some(within) = way.layer else {
+        return Ok(None);
+    };
+    match state_after(alloc, space, node, op, within)? {
         None => Ok(None),
-        Some(within) => move_into(
-            alloc, space, back, cost, state, values, op, way.cost, within,
-        ),
+        Some(next) => {
+            let cost = node.cost - way.cost;
+            let ring = first_ring(space, back, cost, &next);
+            Ok(Some(Move {
+                op,
+                state: next,
+                cost,
+                ring,
+            }))
+        }
     }
 }
 
@@ -132,37 +112,34 @@ fn put_move(moves: &mut Vec<Move>, found: Option<Move>) -> Result<(), SpaceFault
     Ok(())
 }
 
-/// The moves from a state that operators reach, all of whose values are known, where so much of the cost is left. They
-/// stand in the order of the operators.
+/// The moves from a state, in the order of the operators.
 fn moves_from<S: Space>(
     alloc: Global,
     space: &S,
     back: &Layers<S::Set>,
-    cost: u64,
-    state: &State,
-    values: &Closed,
+    node: Node<'_>,
 ) -> Result<Vec<Move>, SpaceFault>
     requires back { Held (S.view space.now) back.now }
-    requires state { IsReached (S.view space.now) state.now }
-    requires valued { Valued (S.view space.now).task state.now values.now }
-    ensures { IfOk result (λ moves. AreMoves (S.view space.now) back.now cost state.now moves.items) }
+    requires state { IsReached (S.view space.now) node.state.now }
+    requires valued { Valued (S.view space.now).task node.state.now node.values.now }
+    ensures { IfOk result (λ moves. AreMoves (S.view space.now) back.now node.entry.cost node.entry.state.now moves.items) }
 {
     let mut moves = Vec::new(alloc);
-    let mut way = way_for(back, cost, 0);
+    let mut way = way_for(back, node.cost, 0);
     'operators: for op in 0..space.operators() {
-        way = way_after(back, cost, way, space.cost_of(op));
-        let found = move_by(alloc, space, back, cost, state, values, way, op)?;
+        way = way_after(back, node.cost, way, space.cost_of(op));
+        let found = move_by(alloc, space, back, node, way, op)?;
         put_move(&mut moves, found)?;
     }
     Ok(moves)
 }
 
 /// Nothing is left to place, and the state is a goal.
-fn is_end<S: Space>(space: &S, cost: u64, state: &State, values: &Closed) -> bool
-    requires { Valued (S.view space.now).task state.now values.now }
-    ensures { IsTrue result ↔ IsEnd (S.view space.now) cost state.now }
+fn is_end<S: Space>(space: &S, node: Node<'_>) -> bool
+    requires { Valued (S.view space.now).task node.state.now node.values.now }
+    ensures { IsTrue result ↔ IsEnd (S.view space.now) node.entry.cost node.entry.state.now }
 {
-    cost == 0 && is_goal(space, state, values)
+    node.cost == 0 && is_goal(space, node.state, node.values)
 }
 
 /// All that follows of a state that operators reach, where so much of the cost is left.
@@ -178,7 +155,12 @@ pub(crate) fn successors_of<S: Space>(
     ensures { IfOk result (λ all. AreSuccessors (S.view space.now) back.now cost state.now all.moves.items all.ends) }
 {
     let values = values_of(alloc, space, state)?;
-    let moves = moves_from(alloc, space, back, cost, state, &values)?;
-    let ends = is_end(space, cost, state, &values);
+    let node = Node {
+        cost,
+        state,
+        values: &values,
+    };
+    let moves = moves_from(alloc, space, back, node)?;
+    let ends = is_end(space, node);
     Ok(Successors { moves, ends })
 }

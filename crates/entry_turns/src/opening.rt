@@ -1,10 +1,10 @@
 //! Cuts, opened.
 
-ghost use Rattle.std.specs.Prelude.{◌≡◌, ℕ, ◌<◌, Some, IfOk, OnErr};
+ghost use Rattle.std.specs.Prelude.{IfOk, OnErr};
 ghost use Rattle.space_api.specs.View.{View, Valid};
 ghost use Rattle.space_api.specs.Frames.{Stays};
-ghost use Rattle.cost_layers.specs.Layers.{Held, whole_at};
-ghost use Rattle.entry_turns.specs.Opened.{IsDrawable, OpensCross, Opened};
+ghost use Rattle.cost_layers.specs.Layers.{Held};
+ghost use Rattle.entry_turns.specs.Opened.{IsDrawable, OpensCross, Opened, OpenedWhole, OpenedCross};
 
 use crate::entries::{Entry, Prefix, Suffix};
 use crate::states::start;
@@ -18,12 +18,11 @@ use std::alloc::{AllocError, Global};
 fn open_whole<S: Space>(
     alloc: Global,
     space: &S,
-    front: &Layers<S::Set>,
     back: &Layers<S::Set>,
     cost: u64,
 ) -> Result<Entry<S::Set>, SpaceFault>
     requires back { Held (S.view space.now) back.now }
-    ensures { IfOk result (Opened (S.view space.now) (S.view space.now) front.now back.now cost Cut.Whole) }
+    ensures { IfOk result (OpenedWhole (S.view space.now) back.now cost) }
 {
     let state = start(alloc, space)?;
     let ring = first_ring(space, back, cost, &state);
@@ -68,28 +67,28 @@ fn open_cross<S: Space>(
     space: &mut S,
     front: &Layers<S::Set>,
     back: &Layers<S::Set>,
-    cost: u64,
     x: u64,
     op: u32,
     y: u64,
-    before: S::Set,
-    after: S::Set,
 ) -> Result<Entry<S::Set>, SpaceFault>
     requires front { Held (S.view space.old) front.now }
     requires back { Held (S.view space.old) back.now }
-    requires op { op < (S.view space.old).system.operators }
-    requires before { whole_at front.now x ≡ Some before }
-    requires after { whole_at back.now y ≡ Some after }
-    ensures ok { IfOk result (Opened (S.view space.old) (S.view space.new) front.now back.now cost (Cut.Cross x op y)) }
+    requires cut { IsDrawable (S.view space.old) front.now back.now (Cut.Cross x op y) }
+    ensures ok { IfOk result (OpenedCross (S.view space.old) (S.view space.new) front.now back.now x op y) }
     ensures err { OnErr result (Stays (S.view space.old) (S.view space.new)) }
 {
-    let set = space.pre_op(op, after, before)?;
-    match cross_from(alloc, space, front, x, op, y, set) {
-        Ok(prefix) => Ok(Entry::Before(prefix)),
-        Err(fault) => {
-            space.forget(set);
-            Err(fault)
+    match (front.layer(x), back.layer(y)) {
+        (Some(before), Some(after)) => {
+            let set = space.pre_op(op, after, before)?;
+            match cross_from(alloc, space, front, x, op, y, set) {
+                Ok(prefix) => Ok(Entry::Before(prefix)),
+                Err(fault) => {
+                    space.forget(set);
+                    Err(fault)
+                }
+            }
         }
+        _ => Err(AllocError),
     }
 }
 
@@ -109,12 +108,7 @@ pub fn open_cut<S: Space>(
     ensures err { OnErr result (Stays (S.view space.old) (S.view space.new)) }
 {
     match cut {
-        Cut::Whole => open_whole(alloc, space, front, back, cost),
-        Cut::Cross { x, op, y } => match (front.layer(x), back.layer(y)) {
-            (Some(before), Some(after)) => open_cross(
-                alloc, space, front, back, cost, x, op, y, before, after,
-            ),
-            _ => Err(AllocError),
-        },
+        Cut::Whole => open_whole(alloc, space, back, cost),
+        Cut::Cross { x, op, y } => open_cross(alloc, space, front, back, x, op, y),
     }
 }

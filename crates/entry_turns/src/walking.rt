@@ -27,7 +27,6 @@ pub fn walk<S: Space, L: Ledger>(
     space: &mut S,
     front: &Layers<S::Set>,
     back: &Layers<S::Set>,
-    cost: u64,
     queue: &mut Queue<S::Set>,
     memo: &mut Expansions,
     steps: &mut Steps<L>,
@@ -41,15 +40,15 @@ pub fn walk<S: Space, L: Ledger>(
     requires front_apart { AreApart queue.old front.now }
     requires back_apart { AreApart queue.old back.now }
     requires memo { AreRight (S.view space.old) back.now memo.old }
-    requires lawful { (undrawn : Cut → Bool) × IsLawful (S.view space.old) front.now back.now cost
+    requires lawful { (cost : ℕ) × (undrawn : Cut → Bool) × IsLawful (S.view space.old) front.now back.now cost
         queue.old undrawn }
     ensures queue { IsQueue (S.view space.new) queue.new }
     ensures trades { Trades (S.view space.old) (S.view space.new) (SetIn queue.old) (SetIn queue.new) }
     ensures memo { AreRight (S.view space.new) back.now memo.new }
-    ensures gave { IfOk result (λ p. GaveFrom (S.view space.old) (S.view space.new) front.now back.now cost
+    ensures gave { IfOk result (λ p. GaveFrom (S.view space.old) (S.view space.new) front.now back.now
         queue.old queue.new p.items) }
     ensures steps { IfOk result (λ p. (steps.old < steps.new) × (steps.new ≤ steps.old + length p.items + 2)) }
-    ensures owes { OnErr result (OwesOn (S.view space.old) (S.view space.new) front.now back.now cost
+    ensures owes { OnErr result (OwesOn (S.view space.old) (S.view space.new) front.now back.now
         queue.old queue.new) }
 {
     'turns: loop {

@@ -29,7 +29,9 @@ none_below y above high none p h =
     let k = to_first y above p h in
     elim (below_or (cost_of y p) high) [ inl lt ↦ absurd (none (cost_of y p) k.1 lt (p, (k.0, refl))) | inr le ↦ le ]
 
-pub plans_next : {Set : Type 0} (y : System) (above most : Option ℕ) (front back : Layers Set) (c : ℕ) → first_cost above ≤ c → c ≤ top most → c < known_of front + known_of back → HasPlanAt y c → NoPlanIn y (first_cost above) c → IsNextCost y above most front back c
+pub plans_next : {Set : Type 0} (y : System) (above most : Option ℕ) (front back : Layers Set) (c : ℕ)
+    → first_cost above ≤ c → c ≤ top most → c < known_of front + known_of back → HasPlanAt y c
+    → NoPlanIn y (first_cost above) c → IsNextCost y above most front back c
 plans_next y above most front back c low wanted settled plan none = record {
   settled = settled;
   wanted = wanted;
@@ -38,15 +40,23 @@ plans_next y above most front back c low wanted settled plan none = record {
 }
 
 -- what going on answers where every plan is wanted
-pub next_advances : {Set : Type 0} (y : System) (above : Option ℕ) (front back : Layers Set) → first_cost above ≤ 2 ^ 64 → (r : Next) → IsNext y above (known_of front + known_of back) r → Advances y above None front back r
+pub next_advances : {Set : Type 0} (y : System) (above : Option ℕ) (front back : Layers Set)
+    → first_cost above ≤ 2 ^ 64 → (r : Next) → IsNext y above (known_of front + known_of back) r
+    → Advances y above None front back r
 next_advances y above front back range (Plans c) n = plans_next y above None front back c n.0 (omega (arith, n.1)) n.2 n.3 n.4
-next_advances y above front back range Beyond n = ((n.1.0, from_first y above n.1.0 n.1.1 (omega (arith, range, n.1.2))), (λ q h. let far = none_below y above (2 ^ 64) n.0 q h in omega (arith, far)))
+next_advances y above front back range Beyond n = (
+  (n.1.0, from_first y above n.1.0 n.1.1 (omega (arith, range, n.1.2))),
+  (λ q h. let far = none_below y above (2 ^ 64) n.0 q h in omega (arith, far)),
+)
 next_advances y above front back range Never n = λ q h. let k = to_first y above q h in let lt = n q k.0 in omega (arith, k.1, lt)
 
-pub ok_advances : {Set : Type 0} {E : Type 0} (y : System) (above : Option ℕ) (front back : Layers Set) → first_cost above ≤ 2 ^ 64 → (r : Result Next E) → IfOk r (IsNext y above (known_of front + known_of back)) → IfOk r (Advances y above None front back)
+pub ok_advances : {Set : Type 0} {E : Type 0} (y : System) (above : Option ℕ) (front back : Layers Set)
+    → first_cost above ≤ 2 ^ 64 → (r : Result Next E) → IfOk r (IsNext y above (known_of front + known_of back))
+    → IfOk r (Advances y above None front back)
 ok_advances y above front back range (Ok r) h = next_advances y above front back range r h
 ok_advances y above front back range (Err e) h = tt
 
 -- nothing above is wanted
-pub past_advances : {Set : Type 0} (y : System) (above : Option ℕ) (most : ℕ) (front back : Layers Set) → NoPlanIn y (first_cost above) (most + 1) → Advances y above (Some most) front back Never
+pub past_advances : {Set : Type 0} (y : System) (above : Option ℕ) (most : ℕ) (front back : Layers Set)
+    → NoPlanIn y (first_cost above) (most + 1) → Advances y above (Some most) front back Never
 past_advances y above most front back none = λ q h. let far = none_below y above (most + 1) none q h in omega (arith, far)

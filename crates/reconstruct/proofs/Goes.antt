@@ -25,12 +25,17 @@ pub record IsFresh (place : Place) (cost : ℕ) : Type 0 where
   pub left : place.left ≡ true
   pub ready : place.ready.items ≡ []
 
-pub first_listing : {Set : Type 0} (v : View Set) (Uses : Set → Type 0) (front back : Layers Set) (above most : Option ℕ) (cost : ℕ) (place : Place) (y : System) → IsFresh place cost → AreRightLayers v front back → IsNextCost y above most front back cost → IsListing v Uses front back place []
-first_listing v Uses front back above most cost place y f r n = record {
+pub first_listing : {Set : Type 0} {v : View Set} {Uses : Set → Type 0} {front back : Layers Set}
+    {above most : Option ℕ} {cost : ℕ} {place : Place} {y : System} → IsFresh place cost
+    → AreRightLayers v front back
+    → IsNextCost y above most front back cost → IsListing v Uses front back place []
+first_listing {v = v} {front = front} {back = back} {cost = cost} {place = place} f r n = record {
   queue_is = record { each = tt; distinct = tt };
   apart = λ a h. absurd h;
   settled = subst (λ (c : ℕ). c < known_of front + known_of back) (sym f.cost_is) n.settled;
-  lawful = at_place (λ c o x. IsLawful v front back c [] (undrawn x o)) place cost None true f.cost_is f.after f.left (next_lawful v.system (member_in v front) (member_in v back) (known_of front) (known_of back) cost (sides_of v front back r).tables);
+  lawful = at_place (λ c o x. IsLawful v front back c [] (undrawn x o)) place cost None true f.cost_is f.after f.left
+      (next_lawful v.system (member_in v front) (member_in v back) (known_of front) (known_of back) cost
+      (sides_of v front back r).tables);
   ready = subst (AreReady v.system (known_of back) place.cost place.after) (sym f.ready) tt;
 }
 
@@ -38,11 +43,16 @@ from_cost : (y : System) (l : Option ℕ) (q p : List ℕ) → Above y l q → I
 from_cost y None q p h plan le = plan
 from_cost y (Some c) q p h plan le = (plan, omega (arith, h.1, le))
 
-module _ {Set : Type 0} (v v1 w : View Set) (Uses : Set → Type 0) (front back : Layers Set) (most : Option ℕ) (old : Option Place) (cost : ℕ) (place : Place) (queue : List (Entry Set)) (sys : v1.system ≡ v.system) (w_sys : w.system ≡ v.system) (n : IsNextCost v.system (cost_at old) most front back cost) (l : IsListing w Uses front back place queue) (same : place.cost ≡ cost)
+module _ {Set : Type 0} (v v1 w : View Set) (Uses : Set → Type 0) (front back : Layers Set) (most : Option ℕ)
+    (old : Option Place) (cost : ℕ) (place : Place) (queue : List (Entry Set)) (sys : v1.system ≡ v.system)
+    (w_sys : w.system ≡ v.system) (n : IsNextCost v.system (cost_at old) most front back cost)
+    (l : IsListing w Uses front back place queue) (same : place.cost ≡ cost)
     (start : Place) (f : IsFresh start cost) (owes : (p : List ℕ) → OwedAt w back place queue p ↔ OwedAt v1 back start [] p) where
   first_owed : (p : List ℕ) → OwedAt v1 back start [] p ↔ Above v.system (cost_at old) p
   first_owed p =
-      let base = next_owed v.system (known_of back) (known_of back) (cost_at old) cost n.least (λ q plan le. from_cost v.system (cost_at old) n.plan.0 q n.plan.1 plan (omega (arith, n.plan.2, le))) p in
+      let base = next_owed v.system (known_of back) (known_of back) (cost_at old) cost n.least
+      (λ q plan le. from_cost v.system (cost_at old) n.plan.0 q n.plan.1 plan (omega (arith, n.plan.2, le)))
+      p in
       at_place (λ c o x. IsOwed v1 back c [] (undrawn x o) p ↔ Above v.system (cost_at old) p) start cost None true f.cost_is f.after f.left
       (subst (λ (y : System). Owed y (known_of back) cost [] (undrawn true None) p ↔ Above v.system (cost_at old) p) (sym sys) base)
 
@@ -68,7 +78,9 @@ module _ {Set : Type 0} (v v1 w : View Set) (Uses : Set → Type 0) (front back 
   }
 
 -- what the sides trade, and then what the queue gets
-pub trades_on : {Set : Type 0} (v v1 w : View Set) (Old Mid : Set → Type 0) (queue queue2 : List (Entry Set)) → queue ≡ [] → ((a : Set) → Mid a → Valid v1 a) → Trades v v1 Old Mid → Trades v1 w (SetIn queue) (SetIn queue2) → Trades v w Old (λ a. Mid a ⊎ SetIn queue2 a)
+pub trades_on : {Set : Type 0} (v v1 w : View Set) (Old Mid : Set → Type 0) (queue queue2 : List (Entry Set))
+    → queue ≡ [] → ((a : Set) → Mid a → Valid v1 a) → Trades v v1 Old Mid → Trades v1 w (SetIn queue) (SetIn queue2)
+    → Trades v w Old (λ a. Mid a ⊎ SetIn queue2 a)
 trades_on v v1 w Old Mid queue queue2 empty valid j k =
     let none : (a : _) → ¬ SetIn queue a = λ a h. subst (λ (q : List (Entry _)). SetIn q a) empty h in
     let both = trades_beside Mid k (λ a h. (valid a h, none a)) in
@@ -83,7 +95,8 @@ trades_on v v1 w Old Mid queue queue2 empty valid j k =
     } in
     trades_trans first both
 
-pub trades_alone : {Set : Type 0} (v w : View Set) (Old New : Set → Type 0) (queue : List (Entry Set)) → queue ≡ [] → Trades v w Old New → Trades v w Old (λ a. New a ⊎ SetIn queue a)
+pub trades_alone : {Set : Type 0} (v w : View Set) (Old New : Set → Type 0) (queue : List (Entry Set)) → queue ≡ []
+    → Trades v w Old New → Trades v w Old (λ a. New a ⊎ SetIn queue a)
 trades_alone v w Old New queue empty j =
     let none : (a : _) → ¬ SetIn queue a = λ a h. subst (λ (q : List (Entry _)). SetIn q a) empty h in
     record {

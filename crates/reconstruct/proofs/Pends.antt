@@ -11,8 +11,8 @@ use Rattle.lazy_plans.specs.declared.stop.Stop.{Stop}
 use Rattle.lazy_plans.specs.declared.stop.Stop.TheVariants.{Memory}
 use Rattle.lazy_plans.proofs.Told.{equal_is, equal_self}
 use Rattle.lazy_plans.proofs.Given.{turned_from}
-use Rattle.entry_turns.specs.declared.entries.Entry.{Entry}
 use Rattle.reconstruct.specs.declared.drawing.Place.{Place}
+use Rattle.reconstruct.specs.declared.next_plan.Agenda.{Agenda}
 use Rattle.reconstruct.specs.Working.{Owes}
 use Rattle.reconstruct.specs.Pending.{Pending}
 
@@ -25,22 +25,25 @@ memory_stops y None before = tt
 memory_stops y (Some c) before = tt
 
 -- what pends where no plan is held
-pub pends_owed : {Set : Type 0} (v : View Set) (back : Layers Set) (listed : Option Place) (queue : List (Entry Set)) (p : List ℕ) → Pending v back listed queue None p ↔ Owes v back listed queue p
-pends_owed v back listed queue p = ((λ h. elim h [ inl o ↦ o | inr e ↦ absurd (none_some e) ]), (λ o. inl o))
+pub pends_owed : {Set : Type 0} (v : View Set) (back : Layers Set) (agenda : Agenda Set) (p : List ℕ)
+    → Pending v back agenda None p ↔ Owes v back agenda.listed agenda.queue p
+pends_owed v back agenda p = ((λ h. elim h [ inl o ↦ o | inr e ↦ absurd (none_some e) ]), (λ o. inl o))
   where
     none_some : None ≡ Some p → ⊥
     none_some e = cc
 
 -- at first every plan pends
-pub pends_all : {Set : Type 0} (u v : View Set) (back : Layers Set) (queue : List (Entry Set)) → v.system ≡ u.system → (p : List ℕ) → Pending v back None queue None p ↔ IsPlan u.system p
-pends_all u v back queue e p =
-    let k = pends_owed v back None queue p in (
+pub pends_all : {Set : Type 0} (u v : View Set) (back : Layers Set) (agenda : Agenda Set) → agenda.listed ≡ None
+    → v.system ≡ u.system → (p : List ℕ) → Pending v back agenda None p ↔ IsPlan u.system p
+pends_all u v back agenda first e p =
+    let k = subst (λ (l : Option Place). Pending v back agenda None p ↔ Owes v back l agenda.queue p) first (pends_owed v back agenda p) in (
       (λ h. subst (λ (y : System). IsPlan y p) e (k.0 h)),
       (λ h. k.1 (subst (λ (y : System). IsPlan y p) (sym e) h)),
     )
 
 -- the law, told of a later value of which the same pends
-pub turned_to : (y : System) (m : Mode) (most : Option ℕ) (a b c : List ℕ → Type 0) (r : Result (Option (List ℕ)) Stop) → Turned y m most a b r → Stays b c → Turned y m most a c r
+pub turned_to : (y : System) (m : Mode) (most : Option ℕ) (a b c : List ℕ → Type 0)
+    (r : Result (Option (List ℕ)) Stop) → Turned y m most a b r → Stays b c → Turned y m most a c r
 turned_to y m most a b c (Ok (Some p)) g s = record {
   pended = g.pended;
   fits = g.fits;
@@ -50,7 +53,8 @@ turned_to y m most a b c (Ok (Some p)) g s = record {
 turned_to y m most a b c (Ok None) g s = (g.0, λ q. ((λ h. (g.1 q).0 ((s q).0 h)), (λ h. (s q).1 ((g.1 q).1 h))))
 turned_to y m most a b c (Err stop) g s = (g.0, λ q. ((λ h. (g.1 q).0 ((s q).0 h)), (λ h. (s q).1 ((g.1 q).1 h))))
 
-pub turned_both : (y : System) (m : Mode) (most : Option ℕ) (a a2 b b2 : List ℕ → Type 0) (r : Result (Option (List ℕ)) Stop) → Stays a2 a → Turned y m most a b r → Stays b b2 → Turned y m most a2 b2 r
+pub turned_both : (y : System) (m : Mode) (most : Option ℕ) (a a2 b b2 : List ℕ → Type 0)
+    (r : Result (Option (List ℕ)) Stop) → Stays a2 a → Turned y m most a b r → Stays b b2 → Turned y m most a2 b2 r
 turned_both y m most a a2 b b2 r s t u = turned_from y m most a2 a b2 r s (turned_to y m most a b b2 r t u)
 
 -- the plan that was found is held

@@ -13,19 +13,23 @@ alike_ready y b cost a [] h = tt
 alike_ready y b cost a (c ∷ cs) h = (h.0, alike_ready y b cost c cs h.2)
 
 -- those that the search names
-pub found_ready : (y : System) (b cost : ℕ) (after : Option Cut) (cs ready : List Cut) → ready ≡ cs → AreNextCuts y b cost after cs → AreReady y b cost after ready
+pub found_ready : (y : System) (b cost : ℕ) (after : Option Cut) (cs ready : List Cut) → ready ≡ cs
+    → AreNextCuts y b cost after cs → AreReady y b cost after ready
 found_ready y b cost after cs ready e h = subst (AreReady y b cost after) (sym e) (named cs h)
   where
     named : (ds : List Cut) → AreNextCuts y b cost after ds → AreReady y b cost after ds
     named [] k = tt
     named (c ∷ ds) k = (k.0, alike_ready y b cost c ds k.1)
 
-pub found_none : (y : System) (b cost : ℕ) (after : Option Cut) (cs ready : List Cut) → ready ≡ cs → AreNextCuts y b cost after cs → ready ≡ [] → IsNextCut y b cost after None
+pub found_none : (y : System) (b cost : ℕ) (after : Option Cut) (cs ready : List Cut) → ready ≡ cs
+    → AreNextCuts y b cost after cs → ready ≡ [] → IsNextCut y b cost after None
 found_none y b cost after [] ready e h empty = h
 found_none y b cost after (c ∷ cs) ready e h empty = absurd (omega (arith, ap length e, ap length empty))
 
 -- the first of those that are ready is the next, and the rest are ready after it
-pub ready_next : (y : System) (b cost : ℕ) (after : Option Cut) (cuts : List Cut) (cut : Cut) → AreReady y b cost after cuts → slice_get cuts 0 ≡ Some cut → IsNextCut y b cost after (Some cut) × AreReady y b cost (Some cut) (drop 1 cuts)
+pub ready_next : (y : System) (b cost : ℕ) (after : Option Cut) (cuts : List Cut) (cut : Cut)
+    → AreReady y b cost after cuts → slice_get cuts 0 ≡ Some cut → IsNextCut y b cost after (Some cut)
+    × AreReady y b cost (Some cut) (drop 1 cuts)
 ready_next y b cost after [] cut r e = absurd (none_some e)
   where
     none_some : None ≡ Some cut → ⊥

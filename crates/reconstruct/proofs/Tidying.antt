@@ -24,7 +24,11 @@ module _ {Set : Type 0} (v w : View Set) (Uses : Set → Type 0) (front back : L
     queue_is = record { each = all_kept v w queue s.kept l.queue_is.each; distinct = l.queue_is.distinct };
     apart = l.apart;
     settled = l.settled;
-    lawful = subst (λ (es : List Plain). Lawful w.system (member_in w front) (member_in w back) (known_of front) (known_of back) place.cost es (undrawn place.left place.after)) (sym (plains_kept v w s.kept queue l.queue_is.each)) (lawful_on v w front back s.kept r.front_held r.back_held place.cost (plains v queue) (undrawn place.left place.after) l.lawful);
+    lawful = subst (λ (es : List Plain). Lawful w.system (member_in w front) (member_in w back) (known_of front)
+        (known_of back) place.cost es (undrawn place.left place.after))
+        (sym (plains_kept v w s.kept queue l.queue_is.each))
+        (lawful_on v w front back s.kept r.front_held r.back_held place.cost (plains v queue)
+        (undrawn place.left place.after) l.lawful);
     ready = subst (λ (y : System). AreReadyAt y (known_of back) place) (sym s.kept.system) l.ready;
   }
 
@@ -33,8 +37,12 @@ module _ {Set : Type 0} (v w : View Set) (Uses : Set → Type 0) (front back : L
   at_kept (Some place) queue (inl at) = inl at
   at_kept (Some place) queue (inr l) = inr (listing_kept place queue l)
 
-  owed_kept : (place : Place) (queue : List (Entry Set)) → plains w queue ≡ plains v queue → (p : List ℕ) → OwedAt w back place queue p ↔ OwedAt v back place queue p
-  owed_kept place queue same p = subst (λ (es : List Plain). Owed w.system (known_of back) place.cost es (undrawn place.left place.after) p ↔ OwedAt v back place queue p) (sym same) (owed_on v w front back s.kept r.front_held r.back_held (known_of back) place.cost (plains v queue) (undrawn place.left place.after) p)
+  owed_kept : (place : Place) (queue : List (Entry Set)) → plains w queue ≡ plains v queue → (p : List ℕ)
+      → OwedAt w back place queue p ↔ OwedAt v back place queue p
+  owed_kept place queue same p = subst (λ (es : List Plain). Owed w.system (known_of back) place.cost es
+      (undrawn place.left place.after) p ↔ OwedAt v back place queue p) (sym same)
+      (owed_on v w front back s.kept r.front_held r.back_held (known_of back) place.cost (plains v queue)
+      (undrawn place.left place.after) p)
 
   none_kept : (queue : List (Entry Set)) → queue ≡ [] → plains w queue ≡ plains v queue
   none_kept queue e = rw e refl
@@ -42,7 +50,8 @@ module _ {Set : Type 0} (v w : View Set) (Uses : Set → Type 0) (front back : L
   plan_kept : (p : List ℕ) → IsPlan w.system p ↔ IsPlan v.system p
   plan_kept p = subst (λ (y : System). IsPlan y p ↔ IsPlan v.system p) (sym s.kept.system) (same_way (IsPlan v.system p))
 
-  pub owes_kept : (listed : Option Place) (queue : List (Entry Set)) → IsAt v Uses front back listed queue → (p : List ℕ) → Owes w back listed queue p ↔ Owes v back listed queue p
+  pub owes_kept : (listed : Option Place) (queue : List (Entry Set)) → IsAt v Uses front back listed queue
+      → (p : List ℕ) → Owes w back listed queue p ↔ Owes v back listed queue p
   owes_kept None queue at p = plan_kept p
   owes_kept (Some place) queue (inl at) p = owed_kept place queue (none_kept queue at.1) p
   owes_kept (Some place) queue (inr l) p = owed_kept place queue (plains_kept v w s.kept queue l.queue_is.each) p

@@ -22,18 +22,18 @@ ended_by x = x.ended
 
 -- what is still owed, and the same computed
 abbrev pub Pends : {S P Set : Type 0} → (S → View Set) → TopPlans S P Set → List ℕ → Type 0
-Pends view x p = Pending (view x.space) (back_layers x.both) x.listed x.queue x.held p
+Pends view x p = Pending (view x.space) (back_layers x.both) x.agenda x.held p
 
 abbrev pub tells : {S P Set : Type 0} → (S → View Set) → TopPlans S P Set → List ℕ → Bool
-tells view x p = tells_pending (view x.space) (back_layers x.both) x.listed x.queue x.held p
+tells view x p = tells_pending (view x.space) (back_layers x.both) x.agenda x.held p
 
 -- what it meets between two calls
 abbrev pub IsEngine : {S P Set : Type 0} → (S → View Set) → TopPlans S P Set → Type 0
-IsEngine view x = IsSound (view x.space) x.both x.most x.within x.listed x.queue x.memo x.held x.ended
+IsEngine view x = IsSound (view x.space) x.both x.most x.within x.agenda x.held x.ended
 
 -- every valid set stands in a ring or layer, has all states or the useful ones, is an entry's, or was handed over
 abbrev pub KeepsAll : {S P Set : Type 0} → (S → View Set) → TopPlans S P Set → Type 0
-KeepsAll {S} {P} {Set} view x = (a : Set) → Valid (view x.space) a → IsKept x.both x.within x.queue a
+KeepsAll {S} {P} {Set} view x = (a : Set) → Valid (view x.space) a → IsKept x.both x.within x.agenda.queue a
 
 -- no more is held than twice what was needed last, and 1,000
 abbrev pub HasRoom : {S P Set : Type 0} → (S → View Set) → TopPlans S P Set → Type 0

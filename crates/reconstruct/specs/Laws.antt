@@ -15,6 +15,7 @@ use Rattle.entry_turns.specs.Entries.{plains}
 use Rattle.entry_turns.specs.declared.entries.Entry.{Entry}
 use Rattle.entry_laws.specs.Drawing.{undrawn}
 use Rattle.reconstruct.specs.declared.drawing.Place.{Place}
+use Rattle.reconstruct.specs.declared.next_plan.Agenda.{Agenda}
 use Rattle.reconstruct.specs.Working.{Owes, InRange}
 use Rattle.reconstruct.specs.Pending.{Pending, tells_owed, tells_held, tells_pending, IsHeld}
 use Rattle.bidirectional.specs.Both.{back_layers}
@@ -46,8 +47,9 @@ held_told (Some q) p = Decides-like (are_equal q p) (λ e. ap (λ (x : List ℕ)
     inner : (x z : List ℕ) → Some x ≡ Some z → x ≡ z
     inner x z e = cc
 
-pending_told : {Set : Type 0} (v : View Set) (back : Layers Set) (listed : Option Place) (queue : List (Entry Set)) (held : Option (List ℕ)) (p : List ℕ) → Decides (tells_pending v back listed queue held p) (Pending v back listed queue held p)
-pending_told v back listed queue held p = Decides-or (tells_owed v back listed queue p) (tells_held held p) (owed_told v back listed queue p) (held_told held p)
+pending_told : {Set : Type 0} (v : View Set) (back : Layers Set) (agenda : Agenda Set) (held : Option (List ℕ)) (p : List ℕ) → Decides (tells_pending v back agenda held p) (Pending v back agenda held p)
+pending_told v back agenda held p =
+    Decides-or (tells_owed v back agenda.listed agenda.queue p) (tells_held held p) (owed_told v back agenda.listed agenda.queue p) (held_told held p)
 
 -- what pends is fair
 owed_plan : {Set : Type 0} (v : View Set) (back : Layers Set) (listed : Option Place) (queue : List (Entry Set)) (p : List ℕ) → Owes v back listed queue p → IsPlan v.system p
@@ -68,15 +70,16 @@ dear_owed : {Set : Type 0} (most : Option ℕ) (v : View Set) (back : Layers Set
 dear_owed most v back None queue p range plan lt = plan
 dear_owed most v back (Some place) queue p range plan lt = (plan, inl (omega (arith, range, lt)))
 
-pending_fair : {Set : Type 0} (most : Option ℕ) (v : View Set) (back : Layers Set) (listed : Option Place) (queue : List (Entry Set)) (held : Option (List ℕ)) (ended : Last) → InRange most listed → IsHeld v.system held ended → Fair v.system TopK most (Pending v back listed queue held)
-pending_fair most v back listed queue held ended range holds = record {
-  members = λ p h. elim h [ inl o ↦ owed_plan v back listed queue p o | inr e ↦ held_plan v.system held ended p holds e ];
-  dearer = λ p plan lt. inl (dear_owed most v back listed queue p range plan lt);
+pending_fair : {Set : Type 0} (most : Option ℕ) (v : View Set) (back : Layers Set) (agenda : Agenda Set) (held : Option (List ℕ)) (ended : Last) → InRange most agenda.listed → IsHeld v.system held ended
+    → Fair v.system TopK most (Pending v back agenda held)
+pending_fair most v back agenda held ended range holds = record {
+  members = λ p h. elim h [ inl o ↦ owed_plan v back agenda.listed agenda.queue p o | inr e ↦ held_plan v.system held ended p holds e ];
+  dearer = λ p plan lt. inl (dear_owed most v back agenda.listed agenda.queue p range plan lt);
 }
 
 -- the same of an engine
 pub engine_fair : {S P Set : Type 0} (view : S → View Set) (x : TopPlans S P Set) → IsEngine view x → Fair (system_of view x) TopK (most_of x) (Pends view x)
-engine_fair view x l = pending_fair x.most (view x.space) (back_layers x.both) x.listed x.queue x.held x.ended l.ready.range l.holds
+engine_fair view x l = pending_fair x.most (view x.space) (back_layers x.both) x.agenda x.held x.ended l.ready.range l.holds
 
 pub engine_told : {S P Set : Type 0} (view : S → View Set) (x : TopPlans S P Set) (p : List ℕ) → Decides (tells view x p) (Pends view x p)
-engine_told view x p = pending_told (view x.space) (back_layers x.both) x.listed x.queue x.held p
+engine_told view x p = pending_told (view x.space) (back_layers x.both) x.agenda x.held p

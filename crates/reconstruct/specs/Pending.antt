@@ -13,16 +13,15 @@ use Rattle.entry_laws.specs.Entries.{places}
 use Rattle.entry_laws.specs.Drawing.{undrawn}
 use Rattle.entry_turns.specs.Entries.{plains}
 use Rattle.entry_turns.specs.declared.entries.Entry.{Entry}
-use Rattle.entry_turns.specs.Expansions.{AreRight}
-use Rattle.entry_turns.specs.declared.expansions.Expansions.{Expansions}
 use Rattle.bidirectional.specs.Both.{IsOwnOf, back_layers}
 use Rattle.bidirectional.specs.declared.search.Both.{Both}
 use Rattle.reconstruct.specs.declared.drawing.Place.{Place}
+use Rattle.reconstruct.specs.declared.next_plan.Agenda.{Agenda}
 use Rattle.reconstruct.specs.Working.{IsWorking, InRange, Owes, Keeping}
 
 -- what is owed, and the plan that is held
-abbrev pub Pending : {Set : Type 0} → View Set → Layers Set → Option Place → List (Entry Set) → Option (List ℕ) → List ℕ → Type 0
-Pending v back listed queue held p = Owes v back listed queue p ⊎ (held ≡ Some p)
+abbrev pub Pending : {Set : Type 0} → View Set → Layers Set → Agenda Set → Option (List ℕ) → List ℕ → Type 0
+Pending v back agenda held p = Owes v back agenda.listed agenda.queue p ⊎ (held ≡ Some p)
 
 -- the same, computed
 abbrev pub tells_owed : {Set : Type 0} → View Set → Layers Set → Option Place → List (Entry Set) → List ℕ → Bool
@@ -33,8 +32,8 @@ abbrev pub tells_held : Option (List ℕ) → List ℕ → Bool
 tells_held None p = false
 tells_held (Some q) p = are_equal q p
 
-abbrev pub tells_pending : {Set : Type 0} → View Set → Layers Set → Option Place → List (Entry Set) → Option (List ℕ) → List ℕ → Bool
-tells_pending v back listed queue held p = tells_owed v back listed queue p || tells_held held p
+abbrev pub tells_pending : {Set : Type 0} → View Set → Layers Set → Agenda Set → Option (List ℕ) → List ℕ → Bool
+tells_pending v back agenda held p = tells_owed v back agenda.listed agenda.queue p || tells_held held p
 
 -- no more is held than twice what was needed last, and 1,000
 abbrev pub IsTidy : {Set : Type 0} → View Set → Type 0
@@ -49,19 +48,18 @@ IsHeld y (Some p) ended = IsPlan y p × (ended ≡ Some (Some Memory))
 abbrev pub IsKept : {Set P : Type 0} → Both Set P → Option Set → List (Entry Set) → Set → Type 0
 IsKept both within queue a = Keeping (IsOwnOf both) queue a ⊎ (within ≡ Some a)
 
--- the queue and the cuts that are left are lawful, what is remembered is right, and no set is valid but those that are kept
-pub record IsReady {Set P : Type 0} (v : View Set) (both : Both Set P) (most : Option ℕ) (within : Option Set) (listed : Option Place) (queue : List (Entry Set)) (memo : Expansions) : Type 0 where
-  pub working : IsWorking v both listed queue
-  pub moves : AreRight v (back_layers both) memo
-  pub range : InRange most listed
-  pub keeps : (a : Set) → Valid v a → IsKept both within queue a
+-- the search and the agenda stand, of a cost that is wanted, and no set is valid but those that are kept
+pub record IsReady {Set P : Type 0} (v : View Set) (both : Both Set P) (most : Option ℕ) (within : Option Set) (agenda : Agenda Set) : Type 0 where
+  pub working : IsWorking v both agenda
+  pub range : InRange most agenda.listed
+  pub keeps : (a : Set) → Valid v a → IsKept both within agenda.queue a
 
 -- what every engine meets between two calls: it is ready, what was answered last still holds, and where no plan was left the
 -- space is tidy
-pub record IsSound {Set P : Type 0} (v : View Set) (both : Both Set P) (most : Option ℕ) (within : Option Set) (listed : Option Place) (queue : List (Entry Set)) (memo : Expansions) (held : Option (List ℕ)) (ended : Last) : Type 0 where
-  pub ready : IsReady v both most within listed queue memo
+pub record IsSound {Set P : Type 0} (v : View Set) (both : Both Set P) (most : Option ℕ) (within : Option Set) (agenda : Agenda Set) (held : Option (List ℕ)) (ended : Last) : Type 0 where
+  pub ready : IsReady v both most within agenda
   pub holds : IsHeld v.system held ended
-  pub said : Ended v.system most (Pending v (back_layers both) listed queue held) ended
+  pub said : Ended v.system most (Pending v (back_layers both) agenda held) ended
   pub room : ended ≡ Some None → IsTidy v
 
 -- what one call gives: the law, and a tidy space after a plan or None

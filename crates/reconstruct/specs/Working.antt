@@ -8,11 +8,13 @@ use Rattle.lazy_plans.specs.Law.{top, NoneLeft, Stops}
 use Rattle.lazy_plans.specs.declared.stop.Stop.{Stop}
 use Rattle.lazy_plans.specs.declared.stop.Stop.TheVariants.{CostRange}
 use Rattle.entry_turns.specs.Entries.{SetIn}
+use Rattle.entry_turns.specs.Expansions.{AreRight}
 use Rattle.entry_turns.specs.declared.entries.Entry.{Entry}
 use Rattle.bidirectional.specs.Both.{IsBeneath, IsBoth, IsOwnOf, front_layers, back_layers}
 use Rattle.bidirectional.specs.declared.search.Both.{Both}
 use Rattle.reconstruct.specs.Listing.{IsListing, OwedAt}
 use Rattle.reconstruct.specs.declared.drawing.Place.{Place}
+use Rattle.reconstruct.specs.declared.next_plan.Agenda.{Agenda}
 use Rattle.reconstruct.specs.declared.going.Filled.{Filled}
 use Rattle.reconstruct.specs.declared.going.Filled.TheVariants.{Ready, Never, Beyond}
 
@@ -31,10 +33,15 @@ abbrev pub Owes : {Set : Type 0} → View Set → Layers Set → Option Place �
 Owes v back None queue p = IsPlan v.system p
 Owes v back (Some place) queue p = OwedAt v back place queue p
 
--- the search stands, and the queue and the cuts that are left are lawful
-pub record IsWorking {Set P : Type 0} (v : View Set) (both : Both Set P) (listed : Option Place) (queue : List (Entry Set)) : Type 0 where
+-- the same, by the search from both ends
+abbrev pub OwedBy : {Set P : Type 0} → View Set → Both Set P → Agenda Set → List ℕ → Type 0
+OwedBy v both agenda p = Owes v (back_layers both) agenda.listed agenda.queue p
+
+-- the search stands, the queue and the cuts that are left are lawful, and what is remembered is right
+pub record IsWorking {Set P : Type 0} (v : View Set) (both : Both Set P) (agenda : Agenda Set) : Type 0 where
   pub stands : IsBoth v both
-  pub at : IsAt v (IsBeneath both) (front_layers both) (back_layers both) listed queue
+  pub at : IsAt v (IsBeneath both) (front_layers both) (back_layers both) agenda.listed agenda.queue
+  pub moves : AreRight v (back_layers both) agenda.memo
 
 -- the sets that are kept by the sides and for the queue
 abbrev pub Keeping : {Set : Type 0} → (Set → Type 0) → List (Entry Set) → Set → Type 0
@@ -47,12 +54,12 @@ pub record Moved {Set : Type 0} (v w : View Set) (Owns Owns2 Uses2 : Set → Typ
   pub owes : (p : List ℕ) → Owes w back2 listed2 queue2 p ↔ Owes v back listed queue p
 
 -- the same, by the search from both ends
-abbrev pub Moves : {Set P : Type 0} → View Set → View Set → Both Set P → Both Set P → Option Place → Option Place → List (Entry Set) → List (Entry Set) → Type 0
-Moves v w both both2 listed listed2 queue queue2 = Moved v w (IsOwnOf both) (IsOwnOf both2) (IsBeneath both2) (back_layers both) (front_layers both2) (back_layers both2) listed listed2 queue queue2
+abbrev pub Moves : {Set P : Type 0} → View Set → View Set → Both Set P → Both Set P → Agenda Set → Agenda Set → Type 0
+Moves v w both both2 old new = Moved v w (IsOwnOf both) (IsOwnOf both2) (IsBeneath both2) (back_layers both) (front_layers both2) (back_layers both2) old.listed new.listed old.queue new.queue
 
 -- the sets of both change hands, and those of the queue
-abbrev pub TradesAll : {Set P : Type 0} → View Set → View Set → Both Set P → Both Set P → List (Entry Set) → List (Entry Set) → Type 0
-TradesAll v w both both2 queue queue2 = Trades v w (Keeping (IsOwnOf both) queue) (Keeping (IsOwnOf both2) queue2)
+abbrev pub TradesAll : {Set P : Type 0} → View Set → View Set → Both Set P → Both Set P → Agenda Set → Agenda Set → Type 0
+TradesAll v w both both2 old new = Trades v w (Keeping (IsOwnOf both) old.queue) (Keeping (IsOwnOf both2) new.queue)
 
 -- an entry stands in the queue, or nothing that is owed is wanted, or all that is owed costs more than 64 bits hold
 abbrev pub Fills : {Set : Type 0} → System → Option ℕ → (List ℕ → Type 0) → List (Entry Set) → Filled → Type 0

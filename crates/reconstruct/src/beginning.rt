@@ -7,6 +7,7 @@ ghost use Rattle.bidirectional.specs.Both.{IsBoth, IsOwnOf};
 ghost use Rattle.reconstruct.specs.Engine.{IsReadyFor, IsNew};
 
 use crate::engine::TopPlans;
+use crate::next_plan::Agenda;
 use bidirectional::{Both, Choose};
 use entry_turns::{Expansions, Queue};
 use space_api::Space;
@@ -48,9 +49,11 @@ fn begin<S: Space + Drop, P: Choose + Drop>(
         both,
         most,
         within,
-        listed: None,
-        queue: Queue::new(alloc),
-        memo: Expansions::new(alloc),
+        agenda: Agenda {
+            listed: None,
+            queue: Queue::new(alloc),
+            memo: Expansions::new(alloc),
+        },
         held: None,
         ended: None,
     })

@@ -1,8 +1,7 @@
 //! The engine: all plans of a task, the cheapest first.
 
-use crate::drawing::Place;
+use crate::next_plan::Agenda;
 use bidirectional::{Both, Choose};
-use entry_turns::{Expansions, Queue};
 use lazy_plans::Stop;
 use space_api::Space;
 use std::alloc::Global;
@@ -17,10 +16,7 @@ pub struct TopPlans<S: Space, P: Choose> {
     pub(crate) most: Option<u64>,
     /// The set to which the backward side was kept at first, where one was handed over.
     pub(crate) within: Option<S::Set>,
-    pub(crate) listed: Option<Place>,
-    pub(crate) queue: Queue<S::Set>,
-    /// What leads on from states, of the cost that is listed.
-    pub(crate) memo: Expansions,
+    pub(crate) agenda: Agenda<S::Set>,
     /// A plan that was found when the space could not be tidied.
     pub(crate) held: Option<Plan>,
     /// The answer that ended it: no plan is left, or why it stopped.
@@ -54,9 +50,7 @@ impl<S: Space, P: Choose> TopPlans<S, P> {
             &mut self.space,
             &mut self.both,
             self.most,
-            &mut self.listed,
-            &mut self.queue,
-            &mut self.memo,
+            &mut self.agenda,
             steps,
         ) {
             Err(stop) => {

@@ -1,19 +1,28 @@
 //! The next plan, by the parts of an engine.
 
-ghost use Rattle.std.specs.Prelude.{◌≡◌, ◌<◌, [], length, IfOk, OnOk};
+use crate::drawing::Place;
+use entry_turns::{Expansions, Queue};
+
+/// What is left to list: the cost at hand with its cuts, the entries that grow, and what leads on from states of them.
+#[derive(Drop)]
+pub(crate) struct Agenda<T> {
+    pub(crate) listed: Option<Place>,
+    pub(crate) queue: Queue<T>,
+    /// What leads on from states, of the cost that is listed.
+    pub(crate) memo: Expansions,
+}
+
+ghost use Rattle.std.specs.Prelude.{◌≡◌, ◌<◌, [], Option, ℕ, length, IfOk, OnOk};
 ghost use Rattle.space_api.specs.View.{View};
 ghost use Rattle.symk_task.specs.declared.parts.Mode.TheVariants.{TopK};
 ghost use Rattle.lazy_plans.specs.Law.{Turned};
-ghost use Rattle.space_api.specs.Frames.{Kept};
-ghost use Rattle.entry_turns.specs.Expansions.{AreRight};
-ghost use Rattle.bidirectional.specs.Both.{IsBoth, back_layers};
 ghost use Rattle.reconstruct.specs.Going.{cost_at, HasMore};
-ghost use Rattle.reconstruct.specs.Working.{IsWorking, InRange, Owes, Moves, TradesAll, Fills, FewTurns};
+ghost use Rattle.reconstruct.specs.Working.{IsWorking, InRange, OwedBy, Moves, TradesAll, Fills, FewTurns};
 
-use crate::drawing::{Place, draw};
+use crate::drawing::draw;
 use crate::going::{Filled, go_on};
 use bidirectional::{Both, Choose};
-use entry_turns::{Expansions, Queue, walk};
+use entry_turns::walk;
 use lazy_plans::{Steps, Stop};
 use space_api::{Space, SpaceFault};
 use std::alloc::Global;
@@ -25,23 +34,20 @@ fn draw_next<S: Space, P: Choose>(
     alloc: Global,
     space: &mut S,
     both: &Both<S::Set, P>,
-    listed: &mut Option<Place>,
-    queue: &mut Queue<S::Set>,
+    agenda: &mut Agenda<S::Set>,
 ) -> Result<(), SpaceFault>
-    requires working { IsWorking (S.view space.old) both.now listed.old queue.old }
-    requires empty { queue.old ≡ [] }
-    ensures both { IsBoth (S.view space.new) both.now }
-    ensures moves { Moves (S.view space.old) (S.view space.new) both.now both.now listed.old listed.new
-        queue.old queue.new }
-    ensures kept { Kept (S.view space.old) (S.view space.new) }
-    ensures cost { cost_at listed.new ≡ cost_at listed.old }
-    ensures ok { OnOk result (HasMore queue.new listed.new) }
+    requires working { IsWorking (S.view space.old) both.now agenda.old }
+    requires empty { agenda.old.queue ≡ [] }
+    ensures working { IsWorking (S.view space.new) both.now agenda.new }
+    ensures moves { Moves (S.view space.old) (S.view space.new) both.now both.now agenda.old agenda.new }
+    ensures cost { cost_at agenda.new.listed ≡ cost_at agenda.old.listed }
+    ensures ok { OnOk result (HasMore agenda.new.queue agenda.new.listed) }
 {
-    match listed {
+    match &mut agenda.listed {
         None => Ok(()),
         Some(place) => {
             if place.left {
-                draw(alloc, space, both, place, queue)
+                draw(alloc, space, both, place, &mut agenda.queue)
             } else {
                 Ok(())
             }
@@ -56,30 +62,32 @@ fn fill<S: Space, P: Choose>(
     space: &mut S,
     both: &mut Both<S::Set, P>,
     most: Option<u64>,
-    listed: &mut Option<Place>,
-    queue: &mut Queue<S::Set>,
-    memo: &mut Expansions,
+    agenda: &mut Agenda<S::Set>,
 ) -> Result<Filled, SpaceFault>
-    requires working { IsWorking (S.view space.old) both.old listed.old queue.old }
-    requires range { InRange most listed.old }
-    requires memo { AreRight (S.view space.old) (back_layers both.old) memo.old }
-    ensures both { IsBoth (S.view space.new) both.new }
-    ensures moves { Moves (S.view space.old) (S.view space.new) both.old both.new listed.old listed.new
-        queue.old queue.new }
-    ensures range { InRange most listed.new }
-    ensures memo { AreRight (S.view space.new) (back_layers both.new) memo.new }
+    requires working { IsWorking (S.view space.old) both.old agenda.old }
+    requires range { InRange most agenda.old.listed }
+    ensures working { IsWorking (S.view space.new) both.new agenda.new }
+    ensures moves { Moves (S.view space.old) (S.view space.new) both.old both.new agenda.old agenda.new }
+    ensures range { InRange most agenda.new.listed }
     ensures ok { IfOk result (Fills (S.view space.old).system most
-        (Owes (S.view space.old) (back_layers both.old) listed.old queue.old) queue.new) }
+        (OwedBy (S.view space.old) both.old agenda.old) agenda.new.queue) }
 {
-    if !queue.is_empty() {
+    if !agenda.queue.is_empty() {
         return Ok(Filled::Ready);
     }
-    draw_next(alloc, space, both, listed, queue)?;
-    if !queue.is_empty() {
+    draw_next(alloc, space, both, agenda)?;
+    if !agenda.queue.is_empty() {
         return Ok(Filled::Ready);
     }
-    memo.clear();
-    go_on(alloc, space, both, most, listed, queue)
+    agenda.memo.clear();
+    go_on(
+        alloc,
+        space,
+        both,
+        most,
+        &mut agenda.listed,
+        &mut agenda.queue,
+    )
 }
 
 /// Turns until a plan of the cost that is listed is given. None where no cost is.
@@ -87,35 +95,28 @@ fn walk_on<S: Space, P: Choose, L: Ledger>(
     alloc: Global,
     space: &mut S,
     both: &Both<S::Set, P>,
-    most: Option<u64>,
-    listed: &Option<Place>,
-    queue: &mut Queue<S::Set>,
-    memo: &mut Expansions,
+    agenda: &mut Agenda<S::Set>,
     steps: &mut Steps<L>,
 ) -> Result<Option<Plan>, Stop>
-    requires working { IsWorking (S.view space.old) both.now listed.now queue.old }
-    requires range { InRange most listed.now }
-    requires some { 0 < length queue.old }
-    requires memo { AreRight (S.view space.old) (back_layers both.now) memo.old }
-    ensures working { IsWorking (S.view space.new) both.now listed.now queue.new }
-    ensures memo { AreRight (S.view space.new) (back_layers both.now) memo.new }
-    ensures trades { TradesAll (S.view space.old) (S.view space.new) both.now both.now queue.old queue.new }
-    ensures turned { Turned (S.view space.old).system TopK most
-        (Owes (S.view space.old) (back_layers both.now) listed.now queue.old)
-        (Owes (S.view space.new) (back_layers both.now) listed.now queue.new) result }
+    requires working { IsWorking (S.view space.old) both.now agenda.old }
+    requires some { 0 < length agenda.old.queue }
+    ensures working { IsWorking (S.view space.new) both.now agenda.new }
+    ensures listed { agenda.new.listed ≡ agenda.old.listed }
+    ensures trades { TradesAll (S.view space.old) (S.view space.new) both.now both.now agenda.old agenda.new }
+    ensures turned { (most : Option ℕ) → InRange most agenda.old.listed → Turned (S.view space.old).system TopK most
+        (OwedBy (S.view space.old) both.now agenda.old) (OwedBy (S.view space.new) both.now agenda.new) result }
     ensures steps { FewTurns steps.old steps.new result }
 {
-    match listed {
+    match &agenda.listed {
         None => Ok(None),
-        Some(place) => {
+        Some(_) => {
             match walk(
                 alloc,
                 space,
                 both.forward_layers(),
                 both.backward_layers(),
-                place.cost,
-                queue,
-                memo,
+                &mut agenda.queue,
+                &mut agenda.memo,
                 steps,
             ) {
                 Ok(operators) => Ok(Some(Plan::of(operators))),
@@ -131,27 +132,22 @@ pub(crate) fn give<S: Space, P: Choose, L: Ledger>(
     space: &mut S,
     both: &mut Both<S::Set, P>,
     most: Option<u64>,
-    listed: &mut Option<Place>,
-    queue: &mut Queue<S::Set>,
-    memo: &mut Expansions,
+    agenda: &mut Agenda<S::Set>,
     steps: &mut Steps<L>,
 ) -> Result<Option<Plan>, Stop>
-    requires working { IsWorking (S.view space.old) both.old listed.old queue.old }
-    requires range { InRange most listed.old }
-    requires memo { AreRight (S.view space.old) (back_layers both.old) memo.old }
-    ensures working { IsWorking (S.view space.new) both.new listed.new queue.new }
-    ensures range { InRange most listed.new }
-    ensures memo { AreRight (S.view space.new) (back_layers both.new) memo.new }
-    ensures trades { TradesAll (S.view space.old) (S.view space.new) both.old both.new queue.old queue.new }
+    requires working { IsWorking (S.view space.old) both.old agenda.old }
+    requires range { InRange most agenda.old.listed }
+    ensures working { IsWorking (S.view space.new) both.new agenda.new }
+    ensures range { InRange most agenda.new.listed }
+    ensures trades { TradesAll (S.view space.old) (S.view space.new) both.old both.new agenda.old agenda.new }
     ensures turned { Turned (S.view space.old).system TopK most
-        (Owes (S.view space.old) (back_layers both.old) listed.old queue.old)
-        (Owes (S.view space.new) (back_layers both.new) listed.new queue.new) result }
+        (OwedBy (S.view space.old) both.old agenda.old) (OwedBy (S.view space.new) both.new agenda.new) result }
     ensures steps { FewTurns steps.old steps.new result }
 {
-    match fill(alloc, space, both, most, listed, queue, memo) {
+    match fill(alloc, space, both, most, agenda) {
         Err(_) => Err(Stop::Memory),
         Ok(Filled::Never) => Ok(None),
         Ok(Filled::Beyond) => Err(Stop::CostRange),
-        Ok(Filled::Ready) => walk_on(alloc, space, both, most, listed, queue, memo, steps),
+        Ok(Filled::Ready) => walk_on(alloc, space, both, agenda, steps),
     }
 }

@@ -1,4 +1,4 @@
-use Rattle.std.proofs.Common.{arith, refl}
+use Rattle.std.proofs.Common.{arith}
 use Rattle.cost_layers.specs.Layers.{rings_at, whole_at}
 use Rattle.cost_layers.proofs.Holding.{holds_kept}
 use Rattle.space_api.proofs.Keeping.{kept_refl}
@@ -10,49 +10,57 @@ use Rattle.entry_turns.proofs.before.gather_before.Goals as goal
 pub cost_of-requires : goal.cost_of-requires
 cost_of-requires g c =
     let view = g.S.Space.view in
-    leading_at (view c.args.space.now) (view c.operators.space) c.args.prefix.now.set c.deref-op-items.result.now c.operators.op-index c.operators.invariant.makes.kept (rw c.deref-op-items.ensures.value c.in_ok-ops.ensures) c.operators-test.true
+    leading_at (view c.args.space.now) (view c.operators.space) c.args.prefix.now.set c.deref-op-items.result.now
+    c.operators.op-index c.operators.invariant.makes.kept
+    (rw c.deref-op-items.ensures.value c.in_ok-ops.ensures) c.operators-test.true
 
-pub try_before-requires-clause-op : goal.try_before-requires-clause-op
-try_before-requires-clause-op g c =
+pub add_before-requires-clause-op : goal.add_before-requires-clause-op
+add_before-requires-clause-op g c =
     let view = g.S.Space.view in
-    leading_at (view c.args.space.now) (view c.operators.space) c.args.prefix.now.set c.deref-op-items.result.now c.operators.op-index c.operators.invariant.makes.kept (rw c.deref-op-items.ensures.value c.in_ok-ops.ensures) c.operators-test.true
+    leading_at (view c.args.space.now) (view c.operators.space) c.args.prefix.now.set c.deref-op-items.result.now
+    c.operators.op-index c.operators.invariant.makes.kept
+    (rw c.deref-op-items.ensures.value c.in_ok-ops.ensures) c.operators-test.true
 
-pub try_before-requires-clause-front : goal.try_before-requires-clause-front
-try_before-requires-clause-front g c =
+pub add_before-requires-clause-front : goal.add_before-requires-clause-front
+add_before-requires-clause-front g c =
     let view = g.S.Space.view in
-    holds_kept (view c.args.space.now) (view c.operators.space) (rings_at c.args.front.now) (whole_at c.args.front.now) c.operators.invariant.makes.kept c.requires.front
+    holds_kept (view c.args.space.now) (view c.operators.space) (rings_at c.args.front.now)
+    (whole_at c.args.front.now) c.operators.invariant.makes.kept c.requires.front
 
-pub try_before-requires-clause-back : goal.try_before-requires-clause-back
-try_before-requires-clause-back g c =
-    let view = g.S.Space.view in
-    holds_kept (view c.args.space.now) (view c.operators.space) (rings_at c.args.back.now) (whole_at c.args.back.now) c.operators.invariant.makes.kept c.requires.back
-
-pub returns-in_err-try_before-clause-makes : goal.returns-in_err-try_before-clause-makes
-returns-in_err-try_before-clause-makes g c = c.try_before.ensures.makes (g.S.Space.view c.args.space.now) c.operators.invariant.makes
+pub returns-in_err-add_before-clause-makes : goal.returns-in_err-add_before-clause-makes
+returns-in_err-add_before-clause-makes g c = c.add_before.ensures.makes (g.S.Space.view c.args.space.now) c.operators.invariant.makes
 
 pub operators-preserved : goal.operators-preserved
 operators-preserved g c =
     let view = g.S.Space.view in
     let u = view c.args.space.now in
     let v = view c.operators.space in
-    let w = view c.try_before.new.space in
+    let w = view c.add_before.new.space in
     let i = c.operators.invariant in
     let level = c.operators.children.level.items in
     let falling = c.operators.children.falling.items in
+    let new = c.add_before.new.children in
     record {
       way = c.way_after-way.ensures.way;
-      makes = c.try_before.ensures.makes u i.makes;
-      sofar = sofar_on u v v w c.args.front.now c.args.back.now (Before c.args.prefix.now) c.requires.front c.requires.back c.requires.entry i.makes.kept (kept_refl v) c.deref-op-items.result.now c.operators.op-index _ level falling c.try_before.new.children.level.items c.try_before.new.children.falling.items c.operators-test.true refl i.makes.each i.sofar c.in_ok-try_before.ensures.added;
+      makes = c.add_before.ensures.makes u i.makes;
+      sofar = λ back held. sofar_on u v v w c.args.front.now back (Before c.args.prefix.now) c.requires.front held
+          c.requires.entry i.makes.kept (kept_refl v) c.deref-op-items.result.now c.operators.op-index level falling
+          new.level.items new.falling.items
+          c.operators-test.true i.makes.each (i.sofar back held)
+          (c.in_ok-add_before.ensures.added back (holds_kept u v (rings_at back) (whole_at back) i.makes.kept
+          held));
     }
 
 pub returns-clause-ok : goal.returns-clause-ok
-returns-clause-ok g c =
+returns-clause-ok g c back held =
     let u = g.S.Space.view c.args.space.now in
     let v = g.S.Space.view c.operators.space in
     let e = Before c.args.prefix.now in
     let ops = c.deref-op-items.result.now in
     let level = c.operators.children.level.items in
     let falling = c.operators.children.falling.items in
-    sofar_end u v c.args.front.now c.args.back.now e ops level falling
-    (λ f b listed ready. misses_none u c.args.front.now c.args.back.now f b listed c.args.prefix.now ops c.requires.entry (rw c.deref-op-items.ensures.value c.in_ok-ops.ensures) ready)
-    (sofar_all u v c.args.front.now c.args.back.now e ops c.operators.op-index level falling (omega (arith, c.operators-test.false)) c.operators.invariant.sofar)
+    sofar_end u v c.args.front.now back e ops level falling
+    (λ f b listed ready. misses_none u c.args.front.now back f b listed c.args.prefix.now ops c.requires.entry
+    (rw c.deref-op-items.ensures.value c.in_ok-ops.ensures) ready)
+    (sofar_all u v c.args.front.now back e ops c.operators.op-index level falling
+    (omega (arith, c.operators-test.false)) (c.operators.invariant.sofar back held))

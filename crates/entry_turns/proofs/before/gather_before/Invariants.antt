@@ -1,4 +1,6 @@
 use Rattle.std.proofs.Common.{◌++◌, take}
+use Rattle.cost_layers.specs.Layers.{Held}
+use Rattle.cost_layers.specs.declared.layers.Layers.{Layers}
 use Rattle.entry_turns.specs.Entries.{Makes}
 use Rattle.entry_turns.specs.Ways.{IsWay}
 use Rattle.entry_turns.specs.declared.entries.Entry.TheVariants.{Before}
@@ -13,5 +15,6 @@ invariant-operators g l =
     record {
       way : IsWay l.front l.prefix.cost l.way;
       makes : Makes u v (l.children.level.items ++ l.children.falling.items);
-      sofar : SofarFrom u v l.front l.back (Before l.prefix) (take l.op-index l.op-items) l.children.level.items l.children.falling.items;
+      sofar : (back : Layers _) → Held u back → SofarFrom u v l.front back (Before l.prefix)
+          (take l.op-index l.op-items) l.children.level.items l.children.falling.items;
     }

@@ -7,7 +7,7 @@ operators-init g c =
     let v = g.S.Space.view c.args.space.now in
     record {
       way = c.way_for-way.ensures.way;
-      found = moves_none v c.args.back.now c.args.cost c.args.state.now c.new-moves.result.items c.new-moves.ensures.items;
+      found = moves_none v c.args.back.now c.args.node.cost c.args.node.state.now c.new-moves.result.items c.new-moves.ensures.items;
     }
 
 pub operators-preserved : goal.operators-preserved
@@ -16,10 +16,14 @@ operators-preserved g c =
     let i = c.operators.invariant in
     record {
       way = c.way_after-way.ensures.way;
-      found = moves_next v c.args.back.now c.args.cost c.args.state.now c.operators.op c.operators.moves.items i.found c.in_ok-found.found c.put_move.new.moves.items c.in_ok-put_move.ensures c.in_ok-found.ensures;
+      found = moves_next v c.args.back.now c.args.node.cost c.args.node.state.now c.operators.op
+          c.operators.moves.items i.found c.in_ok-found.found c.put_move.new.moves.items
+          c.in_ok-put_move.ensures c.in_ok-found.ensures;
     }
 
 pub returns : goal.returns
 returns g c =
     let v = g.S.Space.view c.args.space.now in
-    moves_all v c.args.back.now c.args.cost c.args.state.now c.operators.op c.operators.moves.items c.operators.invariant.found (omega (arith, c.operators.auto.op-end, c.operators-test.false, c.operators-op-end.ensures))
+    moves_all v c.args.back.now c.args.node.cost c.args.node.state.now c.operators.op c.operators.moves.items
+    c.operators.invariant.found
+    (omega (arith, c.operators.auto.op-end, c.operators-test.false, c.operators-op-end.ensures))

@@ -6,6 +6,6 @@ abbrev pub invariant-operators : goal.invariant-operators
 invariant-operators g l =
     let v = g.S.Space.view l.space in
     record {
-      way : IsWay l.back l.cost l.way;
-      found : MovesBelow v l.back l.cost l.state l.op l.moves.items;
+      way : IsWay l.back l.node.cost l.way;
+      found : MovesBelow v l.back l.node.cost l.node.state.now l.op l.moves.items;
     }

@@ -1,3 +1,4 @@
+use Rattle.std.proofs.Common.{sym, ◌∙◌, ◌≡◌, Some}
 use Rattle.cost_layers.specs.Layers.{rings_at, whole_at}
 use Rattle.cost_layers.proofs.Holding.{holds_kept}
 use Rattle.entry_turns.proofs.Opens.{cross_opened}
@@ -5,8 +6,11 @@ use Rattle.entry_turns.proofs.opening.open_cross.Goals as goal
 
 pub returns-in-Ok-clause-ok : goal.returns-in-Ok-clause-ok
 returns-in-Ok-clause-ok g c =
-    let view = g.S.Space.view in
-    cross_opened (view c.args.space.now) (view c.pre_op.new.self) (view c.cross_from.new.space) c.args.front.now c.args.back.now c.args.cost c.args.x c.args.op c.args.y c.args.before c.args.after c.in_ok-set.set c.in-Ok.prefix c.requires.front c.requires.op c.requires.before c.requires.after c.in_ok-set.ensures.kept c.in_ok-set.ensures.ok c.cross_from.ensures.stays c.in-Ok.ensures.ok
+    let is_front : whole_at c.args.front.now c.args.x ≡ Some c.in-Some-Some.before = sym c.layer.ensures ∙ c.in-Some-Some.is-0 in
+    let is_back : whole_at c.args.back.now c.args.y ≡ Some c.in-Some-Some.after = sym c.layer-2.ensures ∙ c.in-Some-Some.is-1 in
+    cross_opened c.args.back.now c.requires.front c.requires.cut.0 is_front is_back c.pre_op.ensures.kept
+    c.in_ok-set-in-Some-Some.ensures.ok c.cross_from.ensures.stays c.in-Ok.ensures.ok
 
 pub cross_from-requires-clause-front : goal.cross_from-requires-clause-front
-cross_from-requires-clause-front g c = holds_kept (g.S.Space.view c.args.space.now) (g.S.Space.view c.pre_op.new.self) (rings_at c.args.front.now) (whole_at c.args.front.now) c.pre_op.ensures.kept c.requires.front
+cross_from-requires-clause-front g c = holds_kept (g.S.Space.view c.args.space.now) (g.S.Space.view c.pre_op.new.self)
+    (rings_at c.args.front.now) (whole_at c.args.front.now) c.pre_op.ensures.kept c.requires.front

@@ -6,7 +6,8 @@ pub returns-in-None-clause-ok : goal.returns-in-None-clause-ok
 returns-in-None-clause-ok g c = rw c.in-None.is (sym (append-nil c.args.entries.items))
 
 pub give_back_entries-requires-clause-valid : goal.give_back_entries-requires-clause-valid
-give_back_entries-requires-clause-valid g c = rw (c.deref.ensures.value, c.in-Err.ensures.items) (λ a h. in_valid (g.S.Space.view c.args.space.now) c.args.entries.items a c.requires.made.1.each h)
+give_back_entries-requires-clause-valid g c = rw (c.deref.ensures.value, c.in-Err.ensures.items)
+    (λ a h. in_valid (g.S.Space.view c.args.space.now) c.args.entries.items a c.requires.made.1.each h)
 
 pub returns-in-Err-clause-back : goal.returns-in-Err-clause-back
 returns-in-Err-clause-back g c u m =

@@ -12,7 +12,7 @@ turns-init g c =
       trades = none_traded u c.args.queue.now c.requires.queue;
       queue = c.requires.queue;
       some = c.requires.some;
-      walked = walked_first u c.args.front.now c.args.back.now c.args.cost c.args.queue.now c.requires.lawful.0 c.requires.lawful.1;
+      walked = walked_first u c.args.front.now c.args.back.now c.args.queue.now c.requires.lawful;
       memo = c.requires.memo;
       from = omega arith;
       steps = omega arith;
@@ -23,91 +23,93 @@ turn-requires-clause-front g c =
     let view = g.S.Space.view in
     let u = view c.args.space.now in
     let v = view c.turns.space in
-    held_in u v c.args.front.now c.requires.front (traded u v c.args.queue.now c.turns.queue c.turns.invariant.trades c.args.front.now c.requires.front c.requires.front_apart)
+    held_in u v c.args.front.now c.requires.front (traded u v c.args.queue.now c.turns.queue c.turns.invariant.trades
+    c.args.front.now c.requires.front c.requires.front_apart)
 
 pub turn-requires-clause-back : goal.turn-requires-clause-back
 turn-requires-clause-back g c =
     let view = g.S.Space.view in
     let u = view c.args.space.now in
     let v = view c.turns.space in
-    held_in u v c.args.back.now c.requires.back (traded u v c.args.queue.now c.turns.queue c.turns.invariant.trades c.args.back.now c.requires.back c.requires.back_apart)
+    held_in u v c.args.back.now c.requires.back (traded u v c.args.queue.now c.turns.queue c.turns.invariant.trades
+    c.args.back.now c.requires.back c.requires.back_apart)
 
 pub returns-in_err-plan-clause-owes : goal.returns-in_err-plan-clause-owes
 returns-in_err-plan-clause-owes g c =
     let view = g.S.Space.view in
-    let u = view c.args.space.now in
-    let v = view c.turns.space in
-    let w = view c.turn.new.space in
+    let r = c.requires in
     let i = c.turns.invariant in
-    let t = trades_trans i.trades c.in_err-plan.ensures.trades in
-    let same = c.in_err-plan.ensures.err in
-    let t2 = rw same at t in
-    let owes = turn_refused u v w c.args.front.now c.args.back.now c.args.cost c.args.queue.now c.turns.queue c.requires.front c.requires.back c.requires.front_apart c.requires.back_apart t2 i.walked i.queue c.in_err-plan.ensures.stays in
-    err_of c.from_residual.result (OwesOn u w c.args.front.now c.args.back.now c.args.cost c.args.queue.now c.turn.new.queue) (rw same owes)
+    let start = c.args.queue.now in
+    let e = c.in_err-plan.ensures in
+    let t = rw e.err at (trades_trans i.trades e.trades) in
+    let owes = turn_refused start c.turns.queue r.front r.back r.front_apart r.back_apart t i.walked i.queue e.stays in
+    err_of c.from_residual.result (OwesOn (view c.args.space.now) (view c.turn.new.space) c.args.front.now
+    c.args.back.now start c.turn.new.queue) (rw e.err owes)
 
 pub returns-in-Some-clause-gave : goal.returns-in-Some-clause-gave
 returns-in-Some-clause-gave g c =
-    let view = g.S.Space.view in
-    let u = view c.args.space.now in
-    let v = view c.turns.space in
-    let w = view c.turn.new.space in
+    let r = c.requires in
     let i = c.turns.invariant in
-    let took = rw c.in-Some.is at c.in_ok-plan.ensures.ok in
-    (turn_gives u v w c.args.front.now c.args.back.now c.args.cost c.args.queue.now c.turns.queue c.turn.new.queue c.requires.front c.requires.back c.requires.front_apart c.requires.back_apart c.requires.sides i.trades (trades_trans i.trades c.in_ok-plan.ensures.trades) i.walked c.in-Some.plan.items took).0
+    let e = c.in_ok-plan.ensures in
+    (turn_gives c.args.queue.now c.turns.queue c.turn.new.queue r.front r.back r.front_apart r.back_apart r.sides
+    i.trades (trades_trans i.trades e.trades) i.walked c.in-Some.plan.items (rw c.in-Some.is at e.ok)).0
 
 pub returns-in-Some-clause-steps : goal.returns-in-Some-clause-steps
 returns-in-Some-clause-steps g c =
-    let view = g.S.Space.view in
-    let u = view c.args.space.now in
-    let v = view c.turns.space in
-    let w = view c.turn.new.space in
+    let r = c.requires in
     let i = c.turns.invariant in
-    let took = rw c.in-Some.is at c.in_ok-plan.ensures.ok in
-    let weight = (turn_gives u v w c.args.front.now c.args.back.now c.args.cost c.args.queue.now c.turns.queue c.turn.new.queue c.requires.front c.requires.back c.requires.front_apart c.requires.back_apart c.requires.sides i.trades (trades_trans i.trades c.in_ok-plan.ensures.trades) i.walked c.in-Some.plan.items took).1 in
-    (omega (arith, c.in_ok-plan.ensures.counted, i.from), omega (arith, c.in_ok-plan.ensures.counted, i.steps, weight))
+    let e = c.in_ok-plan.ensures in
+    let weight = (turn_gives c.args.queue.now c.turns.queue c.turn.new.queue r.front r.back r.front_apart r.back_apart
+    r.sides i.trades (trades_trans i.trades e.trades) i.walked c.in-Some.plan.items
+    (rw c.in-Some.is at e.ok)).1 in
+    (omega (arith, e.counted, i.from), omega (arith, e.counted, i.steps, weight))
 
 pub turns-smaller : goal.turns-smaller
 turns-smaller g c =
-    let view = g.S.Space.view in
-    let u = view c.args.space.now in
-    let v = view c.turns.space in
-    let w = view c.turn.new.space in
+    let r = c.requires in
     let i = c.turns.invariant in
-    let went = rw c.in-None.is at c.in_ok-plan.ensures.ok in
-    (turn_goes u v w c.args.front.now c.args.back.now c.args.cost c.args.queue.now c.turns.queue c.turn.new.queue c.requires.front c.requires.back c.requires.front_apart c.requires.back_apart c.requires.sides i.trades (trades_trans i.trades c.in_ok-plan.ensures.trades) i.walked went).1
+    let e = c.in_ok-plan.ensures in
+    (turn_goes c.args.queue.now c.turns.queue c.turn.new.queue r.front r.back r.front_apart r.back_apart r.sides
+    i.trades (trades_trans i.trades e.trades) i.walked (rw c.in-None.is at e.ok)).1
 
 pub turns-preserved : goal.turns-preserved
 turns-preserved g c =
     let view = g.S.Space.view in
     let u = view c.args.space.now in
-    let v = view c.turns.space in
-    let w = view c.turn.new.space in
+    let r = c.requires in
     let i = c.turns.invariant in
-    let went = rw c.in-None.is at c.in_ok-plan.ensures.ok in
-    let t = trades_trans i.trades c.in_ok-plan.ensures.trades in
-    let on = turn_goes u v w c.args.front.now c.args.back.now c.args.cost c.args.queue.now c.turns.queue c.turn.new.queue c.requires.front c.requires.back c.requires.front_apart c.requires.back_apart c.requires.sides i.trades t i.walked went in
-    let left = turn_left u v w c.args.front.now c.args.back.now c.args.cost c.args.queue.now c.turns.queue c.turn.new.queue c.requires.front c.requires.back c.requires.front_apart c.requires.back_apart c.requires.sides i.trades t i.walked went in
+    let start = c.args.queue.now in
+    let old = c.turns.queue in
+    let new = c.turn.new.queue in
+    let e = c.in_ok-plan.ensures in
+    let went = rw c.in-None.is at e.ok in
+    let t = trades_trans i.trades e.trades in
+    let on = turn_goes start old new r.front r.back r.front_apart r.back_apart r.sides i.trades t i.walked went in
+    let left = turn_left start old new r.front r.back r.front_apart r.back_apart r.sides i.trades t i.walked went in
     record {
       trades = t;
-      queue = c.in_ok-plan.ensures.queue;
-      some = omega (arith, left, plains_length w c.turn.new.queue);
+      queue = e.queue;
+      some = omega (arith, left, plains_length (view c.turn.new.space) new);
       walked = on.0;
-      memo = right_before u v c.args.queue.now c.turns.queue i.trades c.args.back.now c.requires.back c.requires.back_apart c.turn.new.memo c.in_ok-plan.ensures.memo;
-      from = omega (arith, c.in_ok-plan.ensures.counted, i.from);
-      steps = omega (arith, c.in_ok-plan.ensures.counted, i.steps, on.2);
+      memo = right_before u (view c.turns.space) start old i.trades c.args.back.now r.back r.back_apart c.turn.new.memo e.memo;
+      from = omega (arith, e.counted, i.from);
+      steps = omega (arith, e.counted, i.steps, on.2);
     }
 
 pub turn-requires-clause-memo : goal.turn-requires-clause-memo
 turn-requires-clause-memo g c =
     let view = g.S.Space.view in
-    right_there (view c.args.space.now) (view c.turns.space) c.args.queue.now c.turns.queue c.turns.invariant.trades c.args.back.now c.requires.back c.requires.back_apart c.turns.memo c.turns.invariant.memo
+    right_there (view c.args.space.now) (view c.turns.space) c.args.queue.now c.turns.queue c.turns.invariant.trades
+    c.args.back.now c.requires.back c.requires.back_apart c.turns.memo c.turns.invariant.memo
 
 pub returns-in_err-plan-clause-memo : goal.returns-in_err-plan-clause-memo
 returns-in_err-plan-clause-memo g c =
-    let view = g.S.Space.view in
-    right_on (view c.args.space.now) (view c.turns.space) (view c.turn.new.space) c.args.queue.now c.turns.queue c.turn.new.queue c.turns.invariant.trades c.in_err-plan.ensures.trades c.args.back.now c.requires.back c.requires.back_apart c.turn.new.memo c.in_err-plan.ensures.memo
+    let e = c.in_err-plan.ensures in
+    right_on c.args.queue.now c.turns.queue c.turn.new.queue c.turns.invariant.trades e.trades c.args.back.now
+    c.requires.back c.requires.back_apart c.turn.new.memo e.memo
 
 pub returns-in-Some-clause-memo : goal.returns-in-Some-clause-memo
 returns-in-Some-clause-memo g c =
-    let view = g.S.Space.view in
-    right_on (view c.args.space.now) (view c.turns.space) (view c.turn.new.space) c.args.queue.now c.turns.queue c.turn.new.queue c.turns.invariant.trades c.in_ok-plan.ensures.trades c.args.back.now c.requires.back c.requires.back_apart c.turn.new.memo c.in_ok-plan.ensures.memo
+    let e = c.in_ok-plan.ensures in
+    right_on c.args.queue.now c.turns.queue c.turn.new.queue c.turns.invariant.trades e.trades c.args.back.now
+    c.requires.back c.requires.back_apart c.turn.new.memo e.memo

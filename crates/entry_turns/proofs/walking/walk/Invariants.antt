@@ -17,7 +17,7 @@ invariant-turns g l =
       trades : Trades u v (SetIn l.fn.queue) (SetIn l.queue);
       queue : IsQueue v l.queue;
       some : 0 < length l.queue;
-      walked : WalkedTo u l.front l.back l.cost l.fn.queue (plains v l.queue);
+      walked : WalkedTo u l.front l.back l.fn.queue (plains v l.queue);
       memo : AreRight u l.back l.memo;
       from : l.fn.steps ≤ l.steps;
       steps : l.steps ≤ l.fn.steps + last_by weight (plains v l.queue);

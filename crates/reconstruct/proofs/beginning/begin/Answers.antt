@@ -1,5 +1,6 @@
-use Rattle.std.proofs.Common.{refl}
+use Rattle.std.proofs.Common.{refl, None}
 use Rattle.bidirectional.specs.Both.{back_layers}
+use Rattle.reconstruct.specs.declared.next_plan.Agenda.{Agenda}
 use Rattle.reconstruct.proofs.Asks.{engine_begins}
 use Rattle.reconstruct.proofs.Pends.{pends_all}
 use Rattle.reconstruct.proofs.beginning.begin.Goals as goal
@@ -11,10 +12,11 @@ returns g c =
     let v = view c.both_of.new.space in
     let both = c.in_ok-both.both in
     let t = c.in_ok-both.ensures.trades in
+    let agenda : Agenda _ = record { listed = None; queue = c.new.result; memo = c.new-2.result } in
     record {
-      lawful = engine_begins c.args.most c.args.within u v both c.new.result c.new-2.result c.requires t c.in_ok-both.ensures.both c.new.ensures c.new-2.ensures;
+      lawful = engine_begins {u = u} {v = v} agenda c.requires t c.in_ok-both.ensures.both refl c.new.ensures c.new-2.ensures;
       system = t.system;
       most_is = refl;
-      all = pends_all u v (back_layers both) c.new.result t.system;
+      all = pends_all u v (back_layers both) agenda refl t.system;
       goes_on = refl;
     }

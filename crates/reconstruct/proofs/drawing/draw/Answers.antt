@@ -12,7 +12,10 @@ returns-in_err-next_entry-clause-draws g c =
     let w = view c.next_entry.new.space in
     let x = c.args.both.now in
     drew_draws v w x c.args.place.now c.next_entry.new.place c.args.queue.now c.args.queue.now c.requires.both
-    (stays_drew v (IsBeneath x) (front_layers x) (back_layers x) c.args.place.now c.args.queue.now (right_ends v x c.requires.both) (valid_ends v x c.requires.both) c.requires.left c.requires.empty c.requires.listing w c.next_entry.new.place c.next_entry.ensures.same c.next_entry.ensures.ready c.in_err-next_entry.ensures.err)
+    (stays_drew v (IsBeneath x) (front_layers x) (back_layers x) c.args.place.now c.args.queue.now
+    (right_ends v x c.requires.both) (valid_ends v x c.requires.both) c.requires.left c.requires.empty
+    c.requires.listing w c.next_entry.new.place c.next_entry.ensures.same c.next_entry.ensures.ready
+    c.in_err-next_entry.ensures.err)
 
 pub returns-in-None-clause-draws : goal.returns-in-None-clause-draws
 returns-in-None-clause-draws g c =
@@ -24,7 +27,9 @@ returns-in-None-clause-draws g c =
     let same = c.next_entry.ensures.same in
     let none = rw (same.cost, same.after) at n.1 in
     drew_draws v w x c.args.place.now _ c.args.queue.now c.args.queue.now c.requires.both
-    (none_drew v (IsBeneath x) (front_layers x) (back_layers x) c.args.place.now c.args.queue.now (right_ends v x c.requires.both) (valid_ends v x c.requires.both) c.requires.left c.requires.empty c.requires.listing w _ same.cost same.after refl c.next_entry.ensures.ready n.0 none)
+    (none_drew v (IsBeneath x) (front_layers x) (back_layers x) c.args.place.now c.args.queue.now
+    (right_ends v x c.requires.both) (valid_ends v x c.requires.both) c.requires.left c.requires.empty
+    c.requires.listing w _ same.cost same.after refl c.next_entry.ensures.ready n.0 none)
 
 pub returns-in-Some-clause-draws : goal.returns-in-Some-clause-draws
 returns-in-Some-clause-draws g c =
@@ -34,4 +39,7 @@ returns-in-Some-clause-draws g c =
     let x = c.args.both.now in
     let n = rw c.in-Some.is at c.in_ok-next_entry.ensures.ok in
     drew_draws v w x c.args.place.now c.put.new.place c.args.queue.now c.put.new.queue c.requires.both
-    (put_drew v (IsBeneath x) (front_layers x) (back_layers x) c.args.place.now c.args.queue.now (right_ends v x c.requires.both) (valid_ends v x c.requires.both) c.requires.left c.requires.empty c.requires.listing (view c.next_entry.new.space) w c.next_entry.new.place c.in-Some.drawn c.put.new.place c.put.new.queue c.put.result c.next_entry.ensures.same c.next_entry.ensures.ready n.0 n.1 c.put.ensures.ok c.put.ensures.err)
+    (put_drew v (IsBeneath x) (front_layers x) (back_layers x) c.args.place.now c.args.queue.now
+    (right_ends v x c.requires.both) (valid_ends v x c.requires.both) c.requires.left c.requires.empty
+    c.requires.listing c.in-Some.drawn c.put.new.place c.put.new.queue c.put.result c.next_entry.ensures.same
+    c.next_entry.ensures.ready n.0 n.1 c.put.ensures.ok c.put.ensures.err)

@@ -11,34 +11,43 @@ draw-requires-clause-listing g c =
     let v1 = view c.next_cost.new.space in
     let x = c.next_cost.new.both in
     let next = rw (c.in-Plans.is, c.cost_of.ensures) at c.in_ok-next_cost.ensures.ok in
-    rw c.requires.empty (first_listing v1 (IsBeneath x) (front_layers x) (back_layers x) _ c.args.most c.in-Plans.cost _ (view c.args.space.now).system (record { cost_is = refl; after = refl; left = refl; ready = c.new.ensures.items }) (right_ends v1 x c.next_cost.ensures.both) next)
+    rw c.requires.empty (first_listing
+    (record { cost_is = refl; after = refl; left = refl; ready = c.new.ensures.items })
+    (right_ends v1 x c.next_cost.ensures.both) next)
 
 pub returns-in_err-next_cost-clause-trades : goal.returns-in_err-next_cost-clause-trades
 returns-in_err-next_cost-clause-trades g c =
     let view = g.S.Space.view in
-    trades_alone (view c.args.space.now) (view c.next_cost.new.space) (IsOwnOf c.args.both.now) (IsOwnOf c.next_cost.new.both) c.args.queue.now c.requires.empty c.next_cost.ensures.trades
+    trades_alone (view c.args.space.now) (view c.next_cost.new.space) (IsOwnOf c.args.both.now)
+    (IsOwnOf c.next_cost.new.both) c.args.queue.now c.requires.empty c.next_cost.ensures.trades
 
 pub returns-in-Never-clause-trades : goal.returns-in-Never-clause-trades
 returns-in-Never-clause-trades g c =
     let view = g.S.Space.view in
-    trades_alone (view c.args.space.now) (view c.next_cost.new.space) (IsOwnOf c.args.both.now) (IsOwnOf c.next_cost.new.both) c.args.queue.now c.requires.empty c.next_cost.ensures.trades
+    trades_alone (view c.args.space.now) (view c.next_cost.new.space) (IsOwnOf c.args.both.now)
+    (IsOwnOf c.next_cost.new.both) c.args.queue.now c.requires.empty c.next_cost.ensures.trades
 
 pub returns-in-Beyond-clause-trades : goal.returns-in-Beyond-clause-trades
 returns-in-Beyond-clause-trades g c =
     let view = g.S.Space.view in
-    trades_alone (view c.args.space.now) (view c.next_cost.new.space) (IsOwnOf c.args.both.now) (IsOwnOf c.next_cost.new.both) c.args.queue.now c.requires.empty c.next_cost.ensures.trades
+    trades_alone (view c.args.space.now) (view c.next_cost.new.space) (IsOwnOf c.args.both.now)
+    (IsOwnOf c.next_cost.new.both) c.args.queue.now c.requires.empty c.next_cost.ensures.trades
 
 pub returns-in_err-draw-in-Plans-clause-trades : goal.returns-in_err-draw-in-Plans-clause-trades
 returns-in_err-draw-in-Plans-clause-trades g c =
     let view = g.S.Space.view in
     let t = c.next_cost.ensures.trades in
-    trades_on (view c.args.space.now) (view c.next_cost.new.space) (view c.draw.new.space) (IsOwnOf c.args.both.now) (IsOwnOf c.next_cost.new.both) c.args.queue.now c.draw.new.queue c.requires.empty t.owned t c.draw.ensures.draws.1.trades
+    trades_on (view c.args.space.now) (view c.next_cost.new.space) (view c.draw.new.space) (IsOwnOf c.args.both.now)
+    (IsOwnOf c.next_cost.new.both) c.args.queue.now c.draw.new.queue c.requires.empty t.owned t
+    c.draw.ensures.draws.1.trades
 
 pub returns-in_ok-draw-in-Plans-clause-trades : goal.returns-in_ok-draw-in-Plans-clause-trades
 returns-in_ok-draw-in-Plans-clause-trades g c =
     let view = g.S.Space.view in
     let t = c.next_cost.ensures.trades in
-    trades_on (view c.args.space.now) (view c.next_cost.new.space) (view c.draw.new.space) (IsOwnOf c.args.both.now) (IsOwnOf c.next_cost.new.both) c.args.queue.now c.draw.new.queue c.requires.empty t.owned t c.draw.ensures.draws.1.trades
+    trades_on (view c.args.space.now) (view c.next_cost.new.space) (view c.draw.new.space) (IsOwnOf c.args.both.now)
+    (IsOwnOf c.next_cost.new.both) c.args.queue.now c.draw.new.queue c.requires.empty t.owned t
+    c.draw.ensures.draws.1.trades
 
 pub returns-in_ok-draw-in-Plans-clause-ok : goal.returns-in_ok-draw-in-Plans-clause-ok
 returns-in_ok-draw-in-Plans-clause-ok g c =
@@ -52,4 +61,7 @@ returns-in_ok-draw-in-Plans-clause-ok g c =
     let next = rw (c.in-Plans.is, c.cost_of.ensures) at c.in_ok-next_cost.ensures.ok in
     let start : Place = record { cost = c.in-Plans.cost; after = None; left = true; ready = c.new.result } in
     let owes = rw c.requires.empty at d.owes in
-    filled v v1 w (IsBeneath z) (front_layers z) (back_layers z) c.args.most c.args.listed.now c.in-Plans.cost c.draw.new.place c.draw.new.queue t.system (d.kept.system ∙ t.system) next d.listing d.cost start (record { cost_is = refl; after = refl; left = refl; ready = c.new.ensures.items }) owes c.in_ok-draw-in-Plans.ensures.ok
+    filled v v1 w (IsBeneath z) (front_layers z) (back_layers z) c.args.most c.args.listed.now c.in-Plans.cost
+    c.draw.new.place c.draw.new.queue t.system (d.kept.system ∙ t.system) next d.listing d.cost start
+    (record { cost_is = refl; after = refl; left = refl; ready = c.new.ensures.items }) owes
+    c.in_ok-draw-in-Plans.ensures.ok

@@ -4,8 +4,7 @@ use Rattle.symk_task.specs.declared.parts.Mode.TheVariants.{TopK}
 use Rattle.space_api.proofs.Trading.{trades_trans}
 use Rattle.lazy_plans.specs.Law.{Turned}
 use Rattle.lazy_plans.proofs.Given.{turned_from}
-use Rattle.bidirectional.specs.Both.{back_layers}
-use Rattle.reconstruct.specs.Working.{Owes}
+use Rattle.reconstruct.specs.Working.{OwedBy}
 use Rattle.reconstruct.proofs.next_plan.give.Goals as goal
 
 pub returns-in-Ok-Never-clause-turned : goal.returns-in-Ok-Never-clause-turned
@@ -25,11 +24,11 @@ pub returns-in-Ok-Ready-clause-turned : goal.returns-in-Ok-Ready-clause-turned
 returns-in-Ok-Ready-clause-turned g c =
     let view = g.S.Space.view in
     let v = view c.args.space.now in
-    let v1 = view c.fill.new.space in
-    let w = view c.walk_on.new.space in
     let m = c.fill.ensures.moves in
-    let before = Owes v (back_layers c.args.both.now) c.args.listed.now c.args.queue.now in
-    let between = Owes v1 (back_layers c.fill.new.both) c.fill.new.listed c.fill.new.queue in
-    let after = Owes w (back_layers c.fill.new.both) c.fill.new.listed c.walk_on.new.queue in
+    let both = c.fill.new.both in
+    let before = OwedBy v c.args.both.now c.args.agenda.now in
+    let between = OwedBy (view c.fill.new.space) both c.fill.new.agenda in
+    let after = OwedBy (view c.walk_on.new.space) both c.walk_on.new.agenda in
     turned_from v.system TopK c.args.most before between after c.walk_on.result m.owes
-    (subst (λ (y : System). Turned y TopK c.args.most between after c.walk_on.result) m.trades.system c.walk_on.ensures.turned)
+    (subst (λ (y : System). Turned y TopK c.args.most between after c.walk_on.result) m.trades.system
+    (c.walk_on.ensures.turned c.args.most c.fill.ensures.range))

@@ -4,4 +4,5 @@ use Rattle.entry_turns.proofs.Remembering.{puts_place}
 use Rattle.entry_turns.proofs.expansions.Expansions.put.Goals as goal
 
 pub returns : goal.returns
-returns c = puts_place c.args.self.now (set c.args.self.now.places.items c.place_of-place.result (Some c.args.expansion)) c.place_of-place.result c.args.expansion refl
+returns c = puts_place c.args.self.now (set c.args.self.now.places.items c.place_of-place.result
+    (Some c.args.expansion)) c.place_of-place.result c.args.expansion refl

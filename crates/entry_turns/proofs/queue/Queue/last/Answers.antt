@@ -6,4 +6,6 @@ use Rattle.entry_turns.proofs.queue.Queue.last.Goals as goal
 pub returns : goal.returns
 returns g c =
     let some : 0 < length c.self.inside.entries.items = rw c.self.view_is c.requires in
-    subst (λ (es : List _). IsLast es c.index.result.now) c.self.view_is (last_is c.self.inside.entries.items c.index.result.now (c.len.result - 1) some (omega (arith, c.len.ensures, some)) c.index.ensures)
+    subst (λ (es : List _). IsLast es c.index.result.now) c.self.view_is
+    (last_is c.self.inside.entries.items c.index.result.now (c.len.result - 1) some
+    (omega (arith, c.len.ensures, some)) c.index.ensures)

@@ -7,5 +7,8 @@ pub returns-clause-ok : goal.returns-clause-ok
 returns-clause-ok g c =
     let some : 0 < length c.self.inside.entries.items = rw c.self.view_is c.requires in
     let es = c.args.next.now.items in
-    let taken = takes_last c.self.inside.entries.items es c.remove.new.self.items c.remove.result (c.len-last.result - 1) some (omega (arith, c.len-last.ensures, some)) (rw c.in_ok-append.ensures.items at c.remove.ensures.value) (rw c.in_ok-append.ensures.items at c.remove.ensures.items) in
+    let taken = takes_last c.self.inside.entries.items es c.remove.new.self.items c.remove.result
+    (c.len-last.result - 1) some (omega (arith, c.len-last.ensures, some))
+    (rw c.in_ok-append.ensures.items at c.remove.ensures.value)
+    (rw c.in_ok-append.ensures.items at c.remove.ensures.items) in
     subst (λ (old : List _). Takes old c.remove.new.self.items es c.remove.result) c.self.view_is taken

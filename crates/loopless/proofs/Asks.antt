@@ -1,5 +1,5 @@
 -- One call, by how it ends.
-use Rattle.std.proofs.Common.{◌≡◌, ℕ, List, Option, Some, None, Result, Ok, Err, refl, sym, subst}
+use Rattle.std.proofs.Common.{◌≡◌, ℕ, List, Option, Some, None, Result, Ok, Err, IfOk, refl, sym, subst}
 use Rattle.task_system.specs.System.{System}
 use Rattle.symk_task.specs.declared.parts.Mode.TheVariants.{Loopless}
 use Rattle.space_api.specs.View.{View}
@@ -11,10 +11,8 @@ use Rattle.lazy_plans.proofs.Given.{ended_by}
 use Rattle.cost_search.specs.Directed.{Backward}
 use Rattle.cost_search.proofs.Directing.{directed_kept}
 use Rattle.prefix_laws.specs.Queue.{Right, Pending}
-use Rattle.loopless.specs.declared.ends.Ends.{Ends}
-use Rattle.prefix_tree.specs.declared.tree.Node.{Node}
-use Rattle.prefix_tree.specs.declared.entry.Entry.{Entry}
-use Rattle.prefix_tree.specs.Entries.{prefixes}
+use Rattle.loopless.specs.declared.front.Front.{Front}
+use Rattle.loopless.specs.Front.{prefixes_of}
 use Rattle.loopless.specs.Standing.{IsReady}
 use Rattle.prefix_laws.specs.Owing.{Owes, IsHeld}
 use Rattle.prefix_laws.proofs.Owed.{owed_law, held_law, held_fine}
@@ -29,53 +27,59 @@ none_some : ◌≡◌ {A = Last} None (Some None) → ⊥
 none_some e = cc
 
 -- the space was tidied, or that was refused
-pub ready_stays : {Set : Type 0} (v w : View Set) (b : Backward Set) (m : Ends) (nodes : List Node) (es : List Entry) → SetsStay v w → IsReady v b m nodes es → IsReady w b m nodes es
-ready_stays v w b m nodes es s z = ready_moved v w b b m m.rests nodes es z.kept (directed_kept v w b s.kept z.alone.backward) (moved_stays v w b z.alone.backward s) z
+pub ready_stays : {Set : Type 0} (v w : View Set) (b : Backward Set) (f : Front) → SetsStay v w → IsReady v b f → IsReady w b f
+ready_stays v w b f s z =
+    ready_moved v w b b f f.rests z.kept (directed_kept v w b s.kept z.alone.backward) (moved_stays v w b z.alone.backward s) z
 
 -- after the turns of a call, and after the space was tidied
-module _ {Set : Type 0} (v w : View Set) (h : Backward Set) (m : Ends) (nodes grown : List Node) (most : Option ℕ) (es new : List Entry)
-    (system : w.system ≡ v.system) (ready : IsReady w h m grown new) (right : Right v.system Loopless most (prefixes grown new)) where
+module _ {Set : Type 0} (v w : View Set) (b : Backward Set) (f h : Front) (most : Option ℕ)
+    (system : w.system ≡ v.system) (ready : IsReady w b h) (right : Right v.system Loopless most (prefixes_of h)) where
   abbrev Before : List ℕ → Type 0
-  Before = Owes v.system Loopless (prefixes nodes es) None
+  Before = Owes v.system Loopless (prefixes_of f) None
+
+  abbrev After : System → Option (List ℕ) → List ℕ → Type 0
+  After y held = Owes y Loopless (prefixes_of h) held
 
   abbrev Law : Result (Option (List ℕ)) Stop → Type 0
-  Law r = Turned v.system Loopless most (Pending v.system Loopless (prefixes nodes es)) (Pending v.system Loopless (prefixes grown new)) r
+  Law r = Turned v.system Loopless most (Pending v.system Loopless (prefixes_of f)) (Pending v.system Loopless (prefixes_of h)) r
 
-  law_on : (r : Result (Option (List ℕ)) Stop) → Law r → Turned v.system Loopless most Before (Owes w.system Loopless (prefixes grown new) None) r
-  law_on r h = subst (λ (y : System). Turned v.system Loopless most Before (Owes y Loopless (prefixes grown new) None) r) (sym system) (owed_law v.system Loopless most (prefixes nodes es) (prefixes grown new) r h)
+  -- what one call gives that ends so
+  abbrev Gives : Option (List ℕ) → Last → Result (Option (List ℕ)) Stop → Type 0
+  Gives held ended r = Answered v w most Before (After w.system held) (IsSound w b h most held ended) ended r
 
-  sound : (held : Option (List ℕ)) (ended : Last) (r : Result (Option (List ℕ)) Stop) → IsHeld w.system Loopless held ended → Turned v.system Loopless most Before (Owes w.system Loopless (prefixes grown new) held) r → ended ≡ last_of r → (ended ≡ Some None → IsTidy w) → IsSound w h m grown most new held ended
-  sound held ended r holds law last room = record {
-    ready = ready;
-    right = subst (λ (y : System). Right y Loopless most (prefixes grown new)) (sym system) right;
-    holds = holds;
-    said = subst (λ (y : System). Ended y most (Owes w.system Loopless (prefixes grown new) held) ended) (sym system) (subst (λ (l : Last). Ended v.system most (Owes w.system Loopless (prefixes grown new) held) l) (sym last) (ended_by v.system Loopless most Before (Owes w.system Loopless (prefixes grown new) held) r law));
-    room = room;
-  }
+  law_on : (r : Result (Option (List ℕ)) Stop) → Law r → Turned v.system Loopless most Before (After w.system None) r
+  law_on r l = subst (λ (y : System). Turned v.system Loopless most Before (After y None) r) (sym system)
+      (owed_law v.system Loopless most (prefixes_of f) (prefixes_of h) r l)
 
-  pub stopped : (stop : Stop) → Law (Err stop) → Answered v w most Before (Owes w.system Loopless (prefixes grown new) None) (IsSound w h m grown most new None (Some (Some stop))) (Some (Some stop)) (Err stop)
-  stopped stop h =
-      let law = law_on (Err stop) h in
-      record { engine = sound None (Some (Some stop)) (Err stop) tt law refl (λ e. absurd (none_left stop e)); system = system; law = law; last = refl; room = tt }
+  given : (held : Option (List ℕ)) (ended : Last) (r : Result (Option (List ℕ)) Stop) → IsHeld w.system Loopless held ended →
+      Turned v.system Loopless most Before (After w.system held) r → ended ≡ last_of r → (ended ≡ Some None → IsTidy w) →
+      IfOk r (λ o. IsTidy w) → Gives held ended r
+  given held ended r holds law last tidy room =
+      let stays = subst (λ (y : System). Right y Loopless most (prefixes_of h)) (sym system) right in
+      let by = ended_by v.system Loopless most Before (After w.system held) r law in
+      let said = subst (λ (y : System). Ended y most (After w.system held) ended) (sym system)
+      (subst (λ (l : Last). Ended v.system most (After w.system held) l) (sym last) by) in
+      let engine : IsSound w b h most held ended = record { ready = ready; right = stays; holds = holds; said = said; room = tidy } in
+      record { engine = engine; system = system; law = law; last = last; room = room }
 
-  pub tidied_none : IsTidy w → Law (Ok None) → Answered v w most Before (Owes w.system Loopless (prefixes grown new) None) (IsSound w h m grown most new None (Some None)) (Some None) (Ok None)
-  tidied_none few h =
-      let law = law_on (Ok None) h in
-      record { engine = sound None (Some None) (Ok None) tt law refl (λ e. few); system = system; law = law; last = refl; room = few }
+  pub stopped : (stop : Stop) → Law (Err stop) → Gives None (Some (Some stop)) (Err stop)
+  stopped stop l = given None (Some (Some stop)) (Err stop) tt (law_on (Err stop) l) refl (λ e. absurd (none_left stop e)) tt
 
-  pub tidied_some : (p : List ℕ) → IsTidy w → Law (Ok (Some p)) → Answered v w most Before (Owes w.system Loopless (prefixes grown new) None) (IsSound w h m grown most new None None) None (Ok (Some p))
-  tidied_some p few h =
-      let law = law_on (Ok (Some p)) h in
-      record { engine = sound None None (Ok (Some p)) tt law refl (λ e. absurd (none_some e)); system = system; law = law; last = refl; room = few }
+  pub tidied_none : IsTidy w → Law (Ok None) → Gives None (Some None) (Ok None)
+  tidied_none few l = given None (Some None) (Ok None) tt (law_on (Ok None) l) refl (λ e. few) few
+
+  pub tidied_some : (p : List ℕ) → IsTidy w → Law (Ok (Some p)) → Gives None None (Ok (Some p))
+  tidied_some p few l = given None None (Ok (Some p)) tt (law_on (Ok (Some p)) l) refl (λ e. absurd (none_some e)) few
 
   -- what is owed, and the plan that is held, are what was owed
-  law_held : (found : Option (List ℕ)) → Law (Ok found) → Turned v.system Loopless most Before (Owes w.system Loopless (prefixes grown new) found) (Err Memory)
-  law_held found h = subst (λ (y : System). Turned v.system Loopless most Before (Owes y Loopless (prefixes grown new) found) (Err Memory)) (sym system) (held_law v.system Loopless most (prefixes nodes es) (prefixes grown new) (λ p q. refl) found h)
+  law_held : (found : Option (List ℕ)) → Law (Ok found) → Turned v.system Loopless most Before (After w.system found) (Err Memory)
+  law_held found l = subst (λ (y : System). Turned v.system Loopless most Before (After y found) (Err Memory)) (sym system)
+      (held_law v.system Loopless most (prefixes_of f) (prefixes_of h) (λ p q. refl) found l)
 
   fine : (found : Option (List ℕ)) → Law (Ok found) → IsHeld w.system Loopless found (Some (Some Memory))
-  fine found h = subst (λ (y : System). IsHeld y Loopless found (Some (Some Memory))) (sym system) (held_fine v.system Loopless most (prefixes nodes es) (prefixes grown new) found h)
+  fine found l = subst (λ (y : System). IsHeld y Loopless found (Some (Some Memory))) (sym system)
+      (held_fine v.system Loopless most (prefixes_of f) (prefixes_of h) found l)
 
-  pub untidied : (found : Option (List ℕ)) → Law (Ok found) → Answered v w most Before (Owes w.system Loopless (prefixes grown new) found) (IsSound w h m grown most new found (Some (Some Memory))) (Some (Some Memory)) (Err Memory)
-  untidied found h =
-      let law = law_held found h in
-      record { engine = sound found (Some (Some Memory)) (Err Memory) (fine found h) law refl (λ e. absurd (none_left Memory e)); system = system; law = law; last = refl; room = tt }
+  pub untidied : (found : Option (List ℕ)) → Law (Ok found) → Gives found (Some (Some Memory)) (Err Memory)
+  untidied found l =
+      given found (Some (Some Memory)) (Err Memory) (fine found l) (law_held found l) refl (λ e. absurd (none_left Memory e)) tt

@@ -1,18 +1,20 @@
 -- Entries while the tree grows, and the children of one, operator after operator.
-use Rattle.std.proofs.Common.{◌≡◌, ℕ, ◌+◌, ◌-◌, ◌<◌, ◌≤◌, ◌^◌, inl, inr, Bool, List, [], ◌∷◌, ◌++◌, length, sym, ap, subst, arith}
+use Rattle.std.proofs.Common.{◌≡◌, ℕ, ◌+◌, ◌-◌, ◌<◌, ◌≤◌, ◌^◌, inl, inr, Bool, List, [], ◌∷◌, ◌++◌, length, sym, subst, arith}
 use Rattle.std.specs.Bool.{Decides}
 use Rattle.std.specs.List.{AllByRecursion}
 use Rattle.std.proofs.lemmas.List.{length-append}
-use Rattle.task_system.specs.System.{State, System, Runs, IsPlan, cost_of}
+use Rattle.task_system.specs.System.{State, System, IsPlan, cost_of}
 use Rattle.prefix_laws.specs.Queue.{Bounds, ChildrenBelow}
 use Rattle.prefix_laws.proofs.Growing as growing
 use Rattle.prefix_laws.proofs.Splits.{cost_join, prefix_join, prefix_front}
 use Rattle.prefix_laws.proofs.Traces.{bounds_by, plan_by, runs_join}
-use Rattle.prefix_tree.specs.StateGraph.{state_at}
-use Rattle.prefix_tree.specs.Tree.{IsTree, Grows, path_at}
+use Rattle.prefix_tree.specs.StateGraph.{IsMove}
+use Rattle.prefix_tree.specs.Tree.{IsTree, Grows, path_at, end_at}
+use Rattle.prefix_tree.specs.declared.state_graph.Move.{Move}
 use Rattle.prefix_tree.specs.declared.tree.Node.{Node}
 use Rattle.prefix_tree.specs.declared.entry.Entry.{Entry}
 use Rattle.prefix_tree.proofs.Entries.{prefixes_like, prefixes_last}
+use Rattle.prefix_tree.proofs.Going.{next_run}
 use Rattle.prefix_tree.proofs.Paths.{path_last, grows_more}
 use Rattle.prefix_tree.specs.Entries.{prefixes}
 use Rattle.symk_task.specs.declared.parts.Mode.TheVariants.{Loopless}
@@ -22,7 +24,8 @@ use Rattle.loopless.specs.Children.{IsEntry, Added, AreChildren}
 use Rattle.loopless.specs.declared.reach.Reached.{Reached}
 
 -- an entry stands where its place has the same prefix
-pub entry_like : (y : System) (a c : List Node) (e : Entry) → length a ≤ length c → ((i : ℕ) → i < length a → path_at c i ≡ path_at a i) → IsEntry y a e → IsEntry y c e
+pub entry_like : (y : System) (a c : List Node) (e : Entry) → length a ≤ length c
+    → ((i : ℕ) → i < length a → path_at c i ≡ path_at a i) → IsEntry y a e → IsEntry y c e
 entry_like y a c e longer same z =
     let path = sym (same e.node z.inside) in
     record {
@@ -35,44 +38,58 @@ entry_like y a c e longer same z =
       plan = subst (λ (p : List ℕ). Decides e.at_goal (IsPlan y p)) path z.plan;
     }
 
-pub each_like : (y : System) (a c : List Node) (es : List Entry) → length a ≤ length c → ((i : ℕ) → i < length a → path_at c i ≡ path_at a i) → AllByRecursion (IsEntry y a) es → AllByRecursion (IsEntry y c) es
+pub each_like : (y : System) (a c : List Node) (es : List Entry) → length a ≤ length c
+    → ((i : ℕ) → i < length a → path_at c i ≡ path_at a i) → AllByRecursion (IsEntry y a) es
+    → AllByRecursion (IsEntry y c) es
 each_like y a c [] longer same z = tt
 each_like y a c (e ∷ es) longer same z = (entry_like y a c e longer same z.0, each_like y a c es longer same z.1)
 
--- one prefix more, at the end of the tree
-module _ (y : System) (ss : List State) (nodes : List Node) (n : Node) (z : IsTree y Loopless ss nodes) (behind : n.parent < length nodes) (r : Reached) (longer : IsLonger y (path_at nodes n.parent ++ n.op ∷ []) r) (within : n.state < length ss) (run : Runs y y.initial (path_at nodes n.parent ++ n.op ∷ []) (state_at ss n.state)) where
-  pub grows_push : Grows y Loopless ss nodes (nodes ++ n ∷ [])
-  grows_push = grows_more y Loopless ss nodes n z behind longer.good within run
+-- one prefix more, at the end of the tree: that of e, longer by the move m
+module _ (y : System) (ss : List State) (nodes : List Node) (e : Entry) (m : Move) (z : IsTree y Loopless ss nodes) (old : IsEntry y nodes e)
+    (step : IsMove y ss (end_at ss nodes e.node) m) (r : Reached) (longer : IsLonger y (path_at nodes e.node ++ m.op ∷ []) r) where
+  abbrev path : List ℕ
+  path = path_at nodes e.node ++ m.op ∷ []
+
+  abbrev more : List Node
+  more = nodes ++ record { parent = e.node; op = m.op; state = m.to } ∷ []
+
+  pub grows_push : Grows y Loopless ss nodes more
+  grows_push =
+      let run = next_run y Loopless ss nodes e.node z old.inside m step in
+      grows_more y Loopless ss nodes (record { parent = e.node; op = m.op; state = m.to }) z old.inside longer.good step.within run
 
   -- the entry of the new prefix
-  pub entry_push : (e k : Entry) → IsEntry y nodes e → e.node ≡ n.parent → k.node ≡ length nodes → k.cost ≡ e.cost + y.cost n.op → k.bound.0 ≡ k.cost + r.left.cost → k.at_goal ≡ r.at_goal → y.cost n.op < 2 ^ 64 → IsEntry y (nodes ++ n ∷ []) k × (path_at (nodes ++ n ∷ []) k.node ≡ path_at nodes n.parent ++ n.op ∷ [])
-  entry_push e k old at place cost bound goal small =
-      let path : path_at (nodes ++ n ∷ []) k.node ≡ path_at nodes n.parent ++ n.op ∷ [] = path_last nodes n k.node z.some place in
-      let same_path : path_at nodes e.node ≡ path_at nodes n.parent = ap (path_at nodes) at in
-      let total : k.cost ≡ cost_of y (path_at nodes n.parent ++ n.op ∷ []) = omega (arith, cost, old.cost, ap (cost_of y) same_path, cost_join y (path_at nodes n.parent) (n.op ∷ [])) in
-      let low = bounds_by y (path_at nodes n.parent ++ n.op ∷ []) longer.good.end longer.good.runs r.left.cost longer.left in
-      let b : k.bound.0 ≡ cost_of y (path_at nodes n.parent ++ n.op ∷ []) + r.left.cost = omega (arith, bound, total) in
-      let plan = plan_by y (path_at nodes n.parent ++ n.op ∷ []) longer.good.end longer.good.runs r.at_goal longer.goal in (
+  pub entry_push : (k : Entry) → k.node ≡ length nodes → k.cost ≡ e.cost + y.cost m.op → k.bound.0 ≡ k.cost + r.left.cost →
+      k.at_goal ≡ r.at_goal → y.cost m.op < 2 ^ 64 → IsEntry y more k × (path_at more k.node ≡ path)
+  entry_push k place cost bound goal small =
+      let n : Node = record { parent = e.node; op = m.op; state = m.to } in
+      let is : path_at more k.node ≡ path = path_last nodes n k.node z.some place in
+      let total : k.cost ≡ cost_of y path = omega (arith, cost, old.cost, cost_join y (path_at nodes e.node) (m.op ∷ [])) in
+      let low = bounds_by y path longer.good.end longer.good.runs r.left.cost longer.left in
+      let b : k.bound.0 ≡ cost_of y path + r.left.cost = omega (arith, bound, total) in
+      let plan = plan_by y path longer.good.end longer.good.runs r.at_goal longer.goal in (
         record {
           inside = omega (arith, place, length-append nodes (n ∷ []));
-          cost = subst (λ (q : List ℕ). k.cost ≡ cost_of y q) (sym path) total;
-          roomy = omega (arith, cost, old.roomy, at, behind, place, small);
+          cost = subst (λ (q : List ℕ). k.cost ≡ cost_of y q) (sym is) total;
+          roomy = omega (arith, cost, old.roomy, old.inside, place, small);
           least = omega (arith, bound);
           span = omega (arith, bound, longer.small);
-          bounds = subst (λ (q : List ℕ). Bounds y q k.bound.0) (sym path) (subst (Bounds y (path_at nodes n.parent ++ n.op ∷ [])) (sym b) low);
-          plan = subst (λ (q : List ℕ). Decides k.at_goal (IsPlan y q)) (sym path) (subst (λ (x : Bool). Decides x (IsPlan y (path_at nodes n.parent ++ n.op ∷ []))) (sym goal) plan);
+          bounds = subst (λ (q : List ℕ). Bounds y q k.bound.0) (sym is) (subst (Bounds y path) (sym b) low);
+          plan = subst (λ (q : List ℕ). Decides k.at_goal (IsPlan y q)) (sym is) (subst (λ (x : Bool). Decides x (IsPlan y path)) (sym goal) plan);
         },
-        path,
+        is,
       )
 
 -- what the bound of an entry leaves after what its prefix costs, and after what a longer one does
-pub ends_after : (y : System) (nodes : List Node) (e : Entry) (low : ℕ) → IsEntry y nodes e → low ≤ e.bound.0 - e.cost → EndsAtLeast y (path_at nodes e.node) low
+pub ends_after : (y : System) (nodes : List Node) (e : Entry) (low : ℕ) → IsEntry y nodes e → low ≤ e.bound.0 - e.cost
+    → EndsAtLeast y (path_at nodes e.node) low
 ends_after y nodes e low z le s run q t more goal =
     let p = path_at nodes e.node in
     let b = z.bounds (p ++ q) (t, runs_join y p q y.initial s t run more, goal) (prefix_join p q) in
     omega (arith, b, z.cost, cost_join y p q, le)
 
-pub ends_longer : (y : System) (nodes : List Node) (e : Entry) (op low : ℕ) → IsEntry y nodes e → low ≤ e.bound.0 - (e.cost + y.cost op) → EndsAtLeast y (path_at nodes e.node ++ op ∷ []) low
+pub ends_longer : (y : System) (nodes : List Node) (e : Entry) (op low : ℕ) → IsEntry y nodes e
+    → low ≤ e.bound.0 - (e.cost + y.cost op) → EndsAtLeast y (path_at nodes e.node ++ op ∷ []) low
 ends_longer y nodes e op low z le s run q t more goal =
     let p = path_at nodes e.node in
     let b = z.bounds ((p ++ op ∷ []) ++ q) (t, runs_join y (p ++ op ∷ []) q y.initial s t run more, goal) (prefix_front p (op ∷ []) q) in
@@ -85,7 +102,8 @@ each_last P (z ∷ xs) x a h = (a.0, each_last P xs x a.1 h)
 pub children_none : (y : System) (nodes : List Node) (e : List ℕ) → AreChildren y nodes e 0 []
 children_none y nodes e = record { each = tt; longer = tt; few = omega arith; counted = growing.children_none y Loopless e }
 
-pub children_like : (y : System) (a c : List Node) (e : List ℕ) (n : ℕ) (kids : List Entry) → length a ≤ length c → ((i : ℕ) → i < length a → path_at c i ≡ path_at a i) → AreChildren y a e n kids → AreChildren y c e n kids
+pub children_like : (y : System) (a c : List Node) (e : List ℕ) (n : ℕ) (kids : List Entry) → length a ≤ length c
+    → ((i : ℕ) → i < length a → path_at c i ≡ path_at a i) → AreChildren y a e n kids → AreChildren y c e n kids
 children_like y a c e n kids longer same g =
     let back = sym (prefixes_like (IsEntry y a) a c kids (λ k z. z.inside) same g.each) in
     record {
@@ -95,7 +113,8 @@ children_like y a c e n kids longer same g =
       counted = subst (ChildrenBelow y Loopless e n) back g.counted;
     }
 
-pub children_next : (y : System) (nodes : List Node) (e : List ℕ) (n : ℕ) (kids new : List Entry) → AreChildren y nodes e n kids → Added y nodes e n kids new → AreChildren y nodes e (n + 1) new
+pub children_next : (y : System) (nodes : List Node) (e : List ℕ) (n : ℕ) (kids new : List Entry)
+    → AreChildren y nodes e n kids → Added y nodes e n kids new → AreChildren y nodes e (n + 1) new
 children_next y nodes e n kids new g (inl (same, lost)) = rw same (record {
   each = g.each;
   longer = g.longer;

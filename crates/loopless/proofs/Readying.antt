@@ -1,5 +1,5 @@
 -- The queue between two turns, after what was done with its first entry.
-use Rattle.std.proofs.Common.{◌≡◌, ℕ, ◌<◌, List, [], ◌∷◌, ◌++◌, length, slice_index_or, Option, Some, None, sym, ap, subst, arith}
+use Rattle.std.proofs.Common.{◌≡◌, ℕ, List, [], ◌∷◌, ◌++◌, slice_index_or, Option, Some, None, refl, sym, ap, subst, arith}
 use Rattle.std.specs.List.{AllByRecursion}
 use Rattle.std.specs.List.Sorted.{IsPermutation}
 use Rattle.task_system.specs.System.{State, System}
@@ -9,67 +9,101 @@ use Rattle.prefix_laws.specs.Queue.{Good, Replaced}
 use Rattle.prefix_laws.proofs.Falls.{back_weight}
 use Rattle.prefix_laws.proofs.Turns as turns
 use Rattle.prefix_tree.specs.StateGraph.{states_of, IsStateGraph}
-use Rattle.loopless.specs.declared.ends.Ends.{Ends}
+use Rattle.loopless.specs.declared.front.Front.{Front}
 use Rattle.loopless.specs.declared.rests.Rests.{Rests}
 use Rattle.loopless.specs.Rests.{IsKept}
 use Rattle.prefix_tree.specs.Tree.{IsTree, path_at}
 use Rattle.prefix_tree.specs.declared.tree.Node.{Node}
 use Rattle.prefix_tree.specs.declared.entry.Entry.{Entry}
-use Rattle.prefix_tree.specs.Entries.{prefixes}
+use Rattle.prefix_tree.specs.Entries.{entries_of}
+use Rattle.prefix_tree.specs.declared.queue.Queue.{Queue}
 use Rattle.symk_task.specs.declared.parts.Mode.TheVariants.{Loopless}
 use Rattle.prefix_tree.proofs.Entries.{first_is, replaced_by, each_new}
 use Rattle.loopless.specs.Children.{IsEntry}
+use Rattle.loopless.specs.Front.{waiting, prefixes_of, IsFirst}
+use Rattle.loopless.specs.Told.{IsInformed}
 use Rattle.loopless.specs.Standing.{Moved, IsBetter, IsReady, GoesOn, listed_of}
 use Rattle.loopless.proofs.Inside.{alone_moved}
 use Rattle.loopless.proofs.Turning.{stale_new, goes}
 
+-- what tells how much is left
+pub ready_informed : {Set : Type 0} (v : View Set) (b : Backward Set) (f : Front) → IsReady v b f → IsInformed v b f.graph f.rests
+ready_informed v b f z = record { backward = z.alone.backward; wide = z.alone.wide; graph = z.graph; kept = z.kept }
+
 -- the search back went on, and what is left from states was learned
-pub ready_moved : {Set : Type 0} (v w : View Set) (b h : Backward Set) (ends : Ends) (rests : Rests) (nodes : List Node) (es : List Entry) → IsKept v.system (states_of ends.graph) rests → IsBackward w h → Moved v w b h → IsReady v b ends nodes es → IsReady w h (record { graph = ends.graph; rests = rests }) nodes es
-ready_moved v w b h ends rests nodes es kept back m z = record {
+pub ready_moved : {Set : Type 0} (v w : View Set) (b h : Backward Set) (f : Front) (rests : Rests) →
+    IsKept v.system (states_of f.graph) rests → IsBackward w h → Moved v w b h → IsReady v b f → IsReady w h (record f { rests = rests })
+ready_moved v w b h f rests kept back m z = record {
   alone = alone_moved v w b h back m z.alone;
-  graph = subst (λ (y : System). IsStateGraph y ends.graph) (sym m.trades.system) z.graph;
-  kept = subst (λ (y : System). IsKept y (states_of ends.graph) rests) (sym m.trades.system) kept;
-  tree = subst (λ (y : System). IsTree y Loopless (states_of ends.graph) nodes) (sym m.trades.system) z.tree;
-  each = subst (λ (y : System). AllByRecursion (IsEntry y nodes) es) (sym m.trades.system) z.each;
+  graph = subst (λ (y : System). IsStateGraph y f.graph) (sym m.trades.system) z.graph;
+  kept = subst (λ (y : System). IsKept y (states_of f.graph) rests) (sym m.trades.system) kept;
+  tree = subst (λ (y : System). IsTree y Loopless (states_of f.graph) f.tree.items) (sym m.trades.system) z.tree;
+  each = subst (λ (y : System). AllByRecursion (IsEntry y f.tree.items) (waiting f)) (sym m.trades.system) z.each;
+}
+
+-- the queue has the same entries
+pub ready_queue : {Set : Type 0} (v : View Set) (b : Backward Set) (f : Front) (q : Queue) →
+    entries_of q ≡ waiting f → IsReady v b f → IsReady v b (record f { queue = q })
+ready_queue v b f q same z = record {
+  alone = z.alone;
+  graph = z.graph;
+  kept = z.kept;
+  tree = z.tree;
+  each = subst (AllByRecursion (IsEntry v.system f.tree.items)) (sym same) z.each;
 }
 
 -- a prefix in the tree is good
-pub good_at : (y : System) (ss : List State) (nodes : List Node) (e : Entry) → IsTree y Loopless ss nodes → IsEntry y nodes e → Good y Loopless (path_at nodes e.node)
+pub good_at : (y : System) (ss : List State) (nodes : List Node) (e : Entry) → IsTree y Loopless ss nodes → IsEntry y nodes e →
+    Good y Loopless (path_at nodes e.node)
 good_at y ss nodes e z entry = (z.each e.node entry.inside).good
 
--- what is learned of the first entry
-learned : (y : System) (nodes : List Node) (es new : List Entry) (e : Entry) (o : Option Entry) → 0 < length es → e ≡ slice_index_or es 0 e → Good y Loopless (path_at nodes e.node) → IsBetter y nodes e o → IsPermutation (es ++ listed_of o) (e ∷ new) → GoesOn y nodes nodes es new
-learned y nodes es new e None some first good lost perm most right =
-    goes y nodes es [] new e perm some first good (turns.none_come y Loopless (path_at nodes e.node) lost) (record { longer = tt; few = omega arith }) tt (turns.no_plan y Loopless (path_at nodes e.node) good lost) most right
-learned y nodes es new e (Some k) some first good h perm most right =
-    let path : path_at nodes k.node ≡ path_at nodes e.node = ap (path_at nodes) h.0 in
-    let r : Replaced (prefixes nodes es) (path_at nodes e.node ∷ []) (path_at nodes e.node) (prefixes nodes new) = subst (λ (p : List ℕ). Replaced (prefixes nodes es) (p ∷ []) (path_at nodes e.node) (prefixes nodes new)) path (replaced_by es (k ∷ []) new e perm nodes) in
-    let w = back_weight y (path_at nodes e.node) (prefixes nodes es) (prefixes nodes new) r in (
-      turns.back_right y Loopless (path_at nodes e.node) (prefixes nodes es) (prefixes nodes new) r most right,
-      turns.back_stays y Loopless (path_at nodes e.node) (prefixes nodes es) (prefixes nodes new) r,
-      omega (arith, w, h.2, stale_new y nodes es (k ∷ []) new e perm),
-    )
-
 -- the first entry gave way to what was learned of it
-module _ {Set : Type 0} (v : View Set) (b : Backward Set) (m : Ends) (nodes : List Node) (es new : List Entry) (e : Entry) (some : 0 < length es) (first : e ≡ slice_index_or es 0 e) (z : IsReady v b m nodes es) (o : Option Entry) (better : IsBetter v.system nodes e o) (perm : IsPermutation (es ++ listed_of o) (e ∷ new)) where
-  each_of : (k : Option Entry) → IsBetter v.system nodes e k → AllByRecursion (IsEntry v.system nodes) (listed_of k)
+module _ {Set : Type 0} (v : View Set) (b : Backward Set) (f : Front) (q : Queue) (e : Entry) (first : IsFirst f e) (z : IsReady v b f) where
+  abbrev new : Front
+  new = record f { queue = q }
+
+  good : Good v.system Loopless (path_at f.tree.items e.node)
+  good = good_at v.system (states_of f.graph) f.tree.items e z.tree (first_is (IsEntry v.system f.tree.items) (waiting f) e first.some first.at z.each)
+
+  each_of : (k : Option Entry) → IsBetter v.system f.tree.items e k → AllByRecursion (IsEntry v.system f.tree.items) (listed_of k)
   each_of None h = tt
   each_of (Some k) h = (h.1, tt)
 
-  pub learned_ready : IsReady v b m nodes new
-  learned_ready = record { alone = z.alone; graph = z.graph; kept = z.kept; tree = z.tree; each = each_new es (listed_of o) new e perm (IsEntry v.system nodes) z.each (each_of o better) }
+  pub learned_ready : (o : Option Entry) → IsBetter v.system f.tree.items e o →
+      IsPermutation (waiting f ++ listed_of o) (e ∷ entries_of q) → IsReady v b new
+  learned_ready o better perm = record {
+    alone = z.alone;
+    graph = z.graph;
+    kept = z.kept;
+    tree = z.tree;
+    each = each_new (waiting f) (listed_of o) (entries_of q) e perm (IsEntry v.system f.tree.items) z.each (each_of o better);
+  }
 
-  pub learned_goes : GoesOn v.system nodes nodes es new
-  learned_goes = learned v.system nodes es new e o some first (good_at v.system (states_of m.graph) nodes e z.tree (first_is (IsEntry v.system nodes) es e some first z.each)) better perm
+  pub learned_goes : (o : Option Entry) → IsBetter v.system f.tree.items e o →
+      IsPermutation (waiting f ++ listed_of o) (e ∷ entries_of q) → GoesOn v.system f new
+  learned_goes None lost perm most right =
+      let path = path_at f.tree.items e.node in
+      goes v.system f new [] e refl perm first good (turns.none_come v.system Loopless path lost)
+      (record { longer = tt; few = omega arith }) tt (turns.no_plan v.system Loopless path good lost) most right
+  learned_goes (Some k) h perm most right =
+      let nodes = f.tree.items in
+      let path = path_at nodes e.node in
+      let same : path_at nodes k.node ≡ path_at nodes e.node = ap (path_at nodes) h.0 in
+      let r : Replaced (prefixes_of f) (path_at nodes e.node ∷ []) (path_at nodes e.node) (prefixes_of new) =
+      subst (λ (p : List ℕ). Replaced (prefixes_of f) (p ∷ []) (path_at nodes e.node) (prefixes_of new)) same
+      (replaced_by (waiting f) (k ∷ []) (entries_of q) e perm nodes) in
+      let w = back_weight v.system path (prefixes_of f) (prefixes_of new) r in (
+        turns.back_right v.system Loopless path (prefixes_of f) (prefixes_of new) r most right,
+        turns.back_stays v.system Loopless path (prefixes_of f) (prefixes_of new) r,
+        omega (arith, w, h.2, stale_new v.system f new (k ∷ []) e refl perm),
+      )
 
--- what the queue has once its first entry gave way to what was learned of it
-pub learned_perm : (es room others new : List Entry) (o : Option Entry) (e : Entry) → room ≡ es → others ≡ listed_of o → e ≡ slice_index_or es 0 e → ((k : Entry) → k ≡ slice_index_or room 0 k → IsPermutation (room ++ others) (k ∷ new)) → IsPermutation (es ++ listed_of o) (e ∷ new)
-learned_perm es room others new o e same is first perm =
-    let there : e ≡ slice_index_or room 0 e = subst (λ (l : List Entry). e ≡ slice_index_or l 0 e) (sym same) first in
-    subst (λ (l : List Entry). IsPermutation (l ++ listed_of o) (e ∷ new)) same (subst (λ (l : List Entry). IsPermutation (room ++ l) (e ∷ new)) is (perm e there))
+-- what the queue has once its first entry gave way to others
+pub replaced_perm : (f : Front) (room others new : List Entry) (e : Entry) → room ≡ waiting f → IsFirst f e →
+    ((k : Entry) → k ≡ slice_index_or room 0 k → IsPermutation (room ++ others) (k ∷ new)) → IsPermutation (waiting f ++ others) (e ∷ new)
+replaced_perm f room others new e same first perm =
+    let there : e ≡ slice_index_or room 0 e = subst (λ (l : List Entry). e ≡ slice_index_or l 0 e) (sym same) first.at in
+    subst (λ (l : List Entry). IsPermutation (l ++ others) (e ∷ new)) same (perm e there)
 
 pub better_as : (y z : System) (nodes : List Node) (e : Entry) (o : Option Entry) → z ≡ y → IsBetter y nodes e o → IsBetter z nodes e o
 better_as y z nodes e o same h = subst (λ (x : System). IsBetter x nodes e o) (sym same) h
-
-pub goes_as_in : (y z : System) (nodes : List Node) (es new : List Entry) → z ≡ y → GoesOn z nodes nodes es new → GoesOn y nodes nodes es new
-goes_as_in y z nodes es new same g = subst (λ (x : System). GoesOn x nodes nodes es new) same g

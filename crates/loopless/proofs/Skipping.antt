@@ -12,11 +12,24 @@ use Rattle.prefix_tree.specs.declared.entry.Entry.{Entry}
 use Rattle.prefix_tree.proofs.Going as going
 use Rattle.loopless.specs.Children.{AreChildren}
 
+-- all moves from where the prefix at place i ends
+pub record AllFrom (y : System) (ss : List State) (nodes : List Node) (i : ℕ) (moves : List Move) : Type 0 where
+  pub tree : IsTree y Loopless ss nodes
+  pub inside : i < length nodes
+  pub all : AreMoves y ss (end_at ss nodes i) moves
+
+-- none of the numbers lies between m and x: those before place k are below m, and from there on none is below x
+pub record AreSkipped (xs : List ℕ) (k m x : ℕ) : Type 0 where
+  pub past : IsPast xs k m
+  pub low : m ≤ x
+  pub none : (j : ℕ) → k ≤ j → j < length xs → x ≤ get_or xs j 0
+
 -- the children by the operators below m are those by the operators below x, where none between is listed
-pub skip_to : (y : System) (ss : List State) (nodes : List Node) (i : ℕ) (moves : List Move) → IsTree y Loopless ss nodes → i < length nodes → AreMoves y ss (end_at ss nodes i) moves → (c : List Node) (kids : List Entry) (k m x : ℕ) → IsPast (ops_of moves) k m → m ≤ x → ((j : ℕ) → k ≤ j → j < length (ops_of moves) → x ≤ get_or (ops_of moves) j 0) → AreChildren y c (path_at nodes i) m kids → AreChildren y c (path_at nodes i) x kids
-skip_to y ss nodes i moves z lt all c kids k m x past le before w = record {
+pub skip_to : {y : System} {ss : List State} {nodes : List Node} {i : ℕ} {moves : List Move} {k m x : ℕ} (c : List Node) (kids : List Entry) →
+    AllFrom y ss nodes i moves → AreSkipped (ops_of moves) k m x → AreChildren y c (path_at nodes i) m kids → AreChildren y c (path_at nodes i) x kids
+skip_to {y} {ss} {nodes} {i} {moves} {k} {m} {x} c kids z s w = record {
   each = w.each;
   longer = w.longer;
-  few = omega (arith, w.few, le);
-  counted = going.skip_to y Loopless ss nodes i z lt moves all (prefixes c kids) k m x past le before w.counted;
+  few = omega (arith, w.few, s.low);
+  counted = going.skip_to y Loopless ss nodes i z.tree z.inside moves z.all (prefixes c kids) k m x s.past s.low s.none w.counted;
 }

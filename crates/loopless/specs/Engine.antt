@@ -6,8 +6,8 @@ use Rattle.run_graph.specs.Reached.{Useful}
 use Rattle.space_api.specs.View.{View, Valid, Has}
 use Rattle.lazy_plans.specs.Law.{Last}
 use Rattle.lazy_plans.specs.declared.stop.Stop.{Stop}
-use Rattle.prefix_tree.specs.Entries.{entries_of, prefixes}
 use Rattle.loopless.specs.declared.engine.LooplessPlans.{LooplessPlans}
+use Rattle.loopless.specs.Front.{prefixes_of}
 use Rattle.loopless.specs.Standing.{IsBeneath}
 use Rattle.prefix_laws.specs.Owing.{Owes, tells_owed}
 use Rattle.loopless.specs.Sound.{IsTidy, IsSound, Answered}
@@ -25,14 +25,14 @@ ended_of x = x.ended
 
 -- what is still owed, and the same computed
 abbrev pub Pends : {S Set : Type 0} → (S → View Set) → LooplessPlans S Set → List ℕ → Type 0
-Pends view x p = Owes (view x.space).system Loopless (prefixes x.tree.items (entries_of x.queue)) x.held p
+Pends view x p = Owes (view x.space).system Loopless (prefixes_of x.front) x.held p
 
 abbrev pub tells : {S Set : Type 0} → (S → View Set) → LooplessPlans S Set → List ℕ → Bool
-tells view x p = tells_owed (view x.space).system Loopless (prefixes x.tree.items (entries_of x.queue)) x.held p
+tells view x p = tells_owed (view x.space).system Loopless (prefixes_of x.front) x.held p
 
 -- what it meets between two calls
 abbrev pub IsEngine : {S Set : Type 0} → (S → View Set) → LooplessPlans S Set → Type 0
-IsEngine view x = IsSound (view x.space) x.backward x.ends x.tree.items x.most (entries_of x.queue) x.held x.ended
+IsEngine view x = IsSound (view x.space) x.backward x.front x.most x.held x.ended
 
 -- every valid set is one of the search back, or the one that it is kept to
 abbrev pub KeepsAll : {S Set : Type 0} → (S → View Set) → LooplessPlans S Set → Type 0

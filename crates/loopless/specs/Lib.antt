@@ -3,6 +3,7 @@ pub mod Rests
 pub mod Told
 pub mod Reach
 pub mod Children
+pub mod Front
 pub mod Standing
 pub mod Turned
 pub mod Sound

@@ -7,10 +7,8 @@ use Rattle.lazy_plans.specs.declared.stop.Stop.{Stop}
 use Rattle.cost_search.specs.Directed.{Backward}
 use Rattle.prefix_laws.specs.Queue.{Right}
 use Rattle.prefix_laws.specs.Owing.{Owes, IsHeld}
-use Rattle.loopless.specs.declared.ends.Ends.{Ends}
-use Rattle.prefix_tree.specs.declared.tree.Node.{Node}
-use Rattle.prefix_tree.specs.declared.entry.Entry.{Entry}
-use Rattle.prefix_tree.specs.Entries.{prefixes}
+use Rattle.loopless.specs.declared.front.Front.{Front}
+use Rattle.loopless.specs.Front.{prefixes_of}
 use Rattle.loopless.specs.Standing.{IsReady}
 
 -- no more is held than twice what was needed last, and 1,000
@@ -19,11 +17,11 @@ IsTidy v = v.held ≤ 2 * v.last + 1000
 
 -- what every engine meets between two calls: the queue stands, what was answered last still holds, and where no plan was left
 -- the space is tidy
-pub record IsSound {Set : Type 0} (v : View Set) (b : Backward Set) (m : Ends) (nodes : List Node) (most : Option ℕ) (es : List Entry) (held : Option (List ℕ)) (ended : Last) : Type 0 where
-  pub ready : IsReady v b m nodes es
-  pub right : Right v.system Loopless most (prefixes nodes es)
+pub record IsSound {Set : Type 0} (v : View Set) (b : Backward Set) (f : Front) (most : Option ℕ) (held : Option (List ℕ)) (ended : Last) : Type 0 where
+  pub ready : IsReady v b f
+  pub right : Right v.system Loopless most (prefixes_of f)
   pub holds : IsHeld v.system Loopless held ended
-  pub said : Ended v.system most (Owes v.system Loopless (prefixes nodes es) held) ended
+  pub said : Ended v.system most (Owes v.system Loopless (prefixes_of f) held) ended
   pub room : ended ≡ Some None → IsTidy v
 
 -- what one call gives: the law, and a tidy space after a plan or None

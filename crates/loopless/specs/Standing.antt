@@ -10,16 +10,16 @@ use Rattle.symk_task.specs.declared.parts.Mode.TheVariants.{Loopless}
 use Rattle.lazy_plans.specs.Law.{Gave, Stays, top}
 use Rattle.prefix_laws.specs.Queue.{Hopeless, Right, Pending}
 use Rattle.prefix_tree.specs.StateGraph.{states_of, IsStateGraph}
-use Rattle.loopless.specs.declared.ends.Ends.{Ends}
+use Rattle.loopless.specs.declared.front.Front.{Front}
 use Rattle.loopless.specs.Rests.{IsKept}
-use Rattle.prefix_tree.specs.Tree.{IsTree, path_at}
+use Rattle.prefix_tree.specs.Tree.{IsTree, Grows, path_at}
 use Rattle.prefix_tree.specs.declared.tree.Node.{Node}
 use Rattle.prefix_tree.specs.declared.entry.Entry.{Entry}
 use Rattle.single_states.specs.States.{IsReached}
-use Rattle.prefix_tree.specs.Entries.{prefixes}
 use Rattle.prefix_laws.specs.Weight.{weight}
 use Rattle.loopless.specs.Left.{IsWide}
 use Rattle.loopless.specs.Children.{IsEntry}
+use Rattle.loopless.specs.Front.{waiting, prefixes_of}
 
 -- the search back went on: its sets alone were traded, and it is kept to the same set as before
 pub record Moved {Set : Type 0} (v w : View Set) (b h : Backward Set) : Type 0 where
@@ -60,17 +60,24 @@ IsBetter y nodes e None = Hopeless y Loopless (path_at nodes e.node)
 IsBetter y nodes e (Some k) = (k.node ≡ e.node) × IsEntry y nodes k × (stale k < stale e)
 
 -- what is left to do
-abbrev pub work : System → List Node → List Entry → ℕ
-work y nodes es = 2 ^ 65 * weight y (prefixes nodes es) + all_stale es
+abbrev pub work : System → Front → ℕ
+work y f = 2 ^ 65 * weight y (prefixes_of f) + all_stale (waiting f)
 
--- The search back, the graph of states and what is left from them, the tree and the entries of the queue stand, and each valid set is one of the search
--- back or the one that it is kept to.
-pub record IsReady {Set : Type 0} (v : View Set) (b : Backward Set) (m : Ends) (nodes : List Node) (es : List Entry) : Type 0 where
+-- The search back, the graph of states and what is left from them, the tree and the entries of the queue stand, and each
+-- valid set is one of the search back or the one that it is kept to.
+pub record IsReady {Set : Type 0} (v : View Set) (b : Backward Set) (f : Front) : Type 0 where
   pub alone : IsAlone v b
-  pub graph : IsStateGraph v.system m.graph
-  pub kept : IsKept v.system (states_of m.graph) m.rests
-  pub tree : IsTree v.system Loopless (states_of m.graph) nodes
-  pub each : AllByRecursion (IsEntry v.system nodes) es
+  pub graph : IsStateGraph v.system f.graph
+  pub kept : IsKept v.system (states_of f.graph) f.rests
+  pub tree : IsTree v.system Loopless (states_of f.graph) f.tree.items
+  pub each : AllByRecursion (IsEntry v.system f.tree.items) (waiting f)
+
+-- prefixes were added, and the same wait
+pub record IsGrown (y : System) (f h : Front) : Type 0 where
+  pub graph : IsStateGraph y h.graph
+  pub kept : IsKept y (states_of h.graph) h.rests
+  pub tree : Grows y Loopless (states_of h.graph) f.tree.items h.tree.items
+  pub queue : waiting h ≡ waiting f
 
 -- the entry alone, or none
 abbrev pub listed_of : Option Entry → List Entry
@@ -78,16 +85,16 @@ listed_of None = []
 listed_of (Some e) = e ∷ []
 
 -- the queue goes on: what pends is the same, and there is less to do
-abbrev pub GoesOn : System → List Node → List Node → List Entry → List Entry → Type 0
-GoesOn y a b old new = (most : Option ℕ) → Right y Loopless most (prefixes a old) → Right y Loopless most (prefixes b new) × Stays (Pending y Loopless (prefixes a old)) (Pending y Loopless (prefixes b new)) × (work y b new < work y a old)
+abbrev pub GoesOn : System → Front → Front → Type 0
+GoesOn y f h = (most : Option ℕ) → Right y Loopless most (prefixes_of f) → Right y Loopless most (prefixes_of h) × Stays (Pending y Loopless (prefixes_of f)) (Pending y Loopless (prefixes_of h)) × (work y h < work y f)
 
 -- the plan of the first entry is given, if no other has a lesser bound and it is cheap enough
-abbrev pub GivesFirst : System → List Node → List Node → Entry → List Entry → List Entry → List ℕ → Type 0
-GivesFirst y a b e old new p = (most : Option ℕ) → Right y Loopless most (prefixes a old) → AllByRecursion (λ (k : Entry). e.bound.0 ≤ k.bound.0) old → e.cost ≤ top most → Right y Loopless most (prefixes b new) × Gave y Loopless most (Pending y Loopless (prefixes a old)) (Pending y Loopless (prefixes b new)) p
+abbrev pub GivesFirst : System → Front → Front → Entry → List ℕ → Type 0
+GivesFirst y f h e p = (most : Option ℕ) → Right y Loopless most (prefixes_of f) → AllByRecursion (λ (k : Entry). e.bound.0 ≤ k.bound.0) (waiting f) → e.cost ≤ top most → Right y Loopless most (prefixes_of h) × Gave y Loopless most (Pending y Loopless (prefixes_of f)) (Pending y Loopless (prefixes_of h)) p
 
-abbrev pub Opens : System → List Node → List Node → Entry → List Entry → List Entry → Option (List ℕ) → Type 0
-Opens y a b e old new None = GoesOn y a b old new
-Opens y a b e old new (Some p) = IsTrue e.at_goal × GivesFirst y a b e old new p
+abbrev pub Opens : System → Front → Front → Entry → Option (List ℕ) → Type 0
+Opens y f h e None = GoesOn y f h
+Opens y f h e (Some p) = IsTrue e.at_goal × GivesFirst y f h e p
 
 -- the plan that the entry is, if it is one
 abbrev pub IsPlanAt : List Node → Entry → Option (List ℕ) → Type 0

@@ -6,9 +6,9 @@ ghost use Rattle.task_system.specs.System.{State, System};
 ghost use Rattle.loopless.specs.Rests.{IsKept};
 ghost use Rattle.loopless.specs.Engine.{system_of, most_of, ended_of, IsEngine, HasNone, HasAlone, HasUseful, OwesAll};
 
-use crate::ends::Ends;
 use crate::engine::LooplessPlans;
 use crate::few_states::find_rests;
+use crate::front::Front;
 use crate::racing::keep_to_reached;
 use crate::rests::Rests;
 use backward_search::{Backward, Kind};
@@ -77,9 +77,12 @@ impl<S: Space + Drop> LooplessPlans<S> {
         Ok(LooplessPlans {
             space,
             backward,
-            ends: Ends { graph, rests },
-            tree,
-            queue,
+            front: Front {
+                graph,
+                rests,
+                tree,
+                queue,
+            },
             most,
             held: None,
             ended: None,

@@ -1,9 +1,8 @@
 //! The engine: loopless plans, the cheapest first.
 
-use crate::ends::Ends;
+use crate::front::Front;
 use backward_search::Backward;
 use lazy_plans::Stop;
-use prefix_tree::{Node, Queue};
 use space_api::Space;
 use symk_task::Plan;
 
@@ -12,12 +11,8 @@ use symk_task::Plan;
 pub struct LooplessPlans<S: Space> {
     pub(crate) space: S,
     pub(crate) backward: Backward<S::Set>,
-    /// The states to which prefixes come, and what is left from them.
-    pub(crate) ends: Ends,
-    /// The prefixes that were made.
-    pub(crate) tree: Vec<Node>,
-    /// Those that may go on.
-    pub(crate) queue: Queue,
+    /// The prefixes, and what is left from where they end.
+    pub(crate) front: Front,
     /// The greatest cost that is wanted, if there is one.
     pub(crate) most: Option<u64>,
     /// A plan that was found when the space could not be tidied.
@@ -30,7 +25,7 @@ ghost use Rattle.std.specs.Prelude.{◌≡◌, ◌≢◌, None, IfOk};
 ghost use Rattle.symk_task.specs.declared.parts.Mode.TheVariants.{Loopless};
 ghost use Rattle.lazy_plans.specs.Law.{Turned, last_of};
 ghost use Rattle.prefix_laws.proofs.Owed.{owed_fair, owed_told};
-ghost use Rattle.prefix_tree.specs.Entries.{entries_of, prefixes};
+ghost use Rattle.loopless.specs.Front.{prefixes_of};
 ghost use Rattle.loopless.specs.Engine.{system_of, most_of, ended_of, Pends, tells, IsEngine, KeepsAll, HasRoom, Answers};
 
 use crate::walk::walk;
@@ -51,10 +46,8 @@ impl<S: Space> LooplessPlans<S> {
             alloc,
             &mut self.space,
             &mut self.backward,
-            &mut self.ends,
-            &mut self.tree,
             self.most,
-            &mut self.queue,
+            &mut self.front,
             steps,
         ) {
             Err(stop) => {
@@ -120,9 +113,8 @@ impl<S: Space> LazyPlans for LooplessPlans<S> {
         }
     }
 
-    ghost fair = { λ x l. owed_fair (S.view x.space).system Loopless x.most
-        (prefixes x.tree.items (entries_of x.queue)) x.held x.ended l.right l.holds };
+    ghost fair = { λ x l. owed_fair (S.view x.space).system Loopless x.most (prefixes_of x.front) x.held x.ended
+        l.right l.holds };
 
-    ghost told = { λ x l p. owed_told (S.view x.space).system Loopless
-        (prefixes x.tree.items (entries_of x.queue)) x.held p };
+    ghost told = { λ x l p. owed_told (S.view x.space).system Loopless (prefixes_of x.front) x.held p };
 }

@@ -2,20 +2,20 @@
 
 ghost use Rattle.std.specs.Prelude.{◌≡◌, ℕ, ◌+◌, ◌<◌, ◌≤◌, ◌*◌, ◌-◌, ◌^◌, [], IfOk, OnOk, length};
 ghost use Rattle.space_api.specs.View.{View};
-ghost use Rattle.cost_search.specs.Directed.{IsBackward};
 ghost use Rattle.prefix_tree.specs.Tree.{IsTree, Grows, path_at, end_at};
-ghost use Rattle.prefix_tree.specs.StateGraph.{states_of, IsStateGraph, IsMove, AreMoves};
-ghost use Rattle.prefix_tree.specs.Entries.{HasRoom, entries_of};
+ghost use Rattle.prefix_tree.specs.StateGraph.{states_of, IsMove, AreMoves};
+ghost use Rattle.prefix_tree.specs.Entries.{HasRoom};
 ghost use Rattle.symk_task.specs.declared.parts.Mode.TheVariants.{Loopless};
-ghost use Rattle.loopless.specs.Left.{IsWide};
-ghost use Rattle.loopless.specs.Rests.{IsKept};
+ghost use Rattle.loopless.specs.Told.{Informs};
 ghost use Rattle.loopless.specs.Children.{IsEntry, Added, AreChildren};
+ghost use Rattle.loopless.specs.Standing.{IsReady, IsGrown};
 
-use crate::left::left_after;
+use crate::front::Front;
+use crate::left::{Heuristic, left_after};
 use crate::reach::reach;
 use crate::rests::Rests;
 use backward_search::Backward;
-use prefix_tree::{Entry, Move, Node, Queue, StateGraph, add, find_moves, node_at};
+use prefix_tree::{Entry, Move, Node, add, find_moves, node_at};
 use space_api::{Space, SpaceFault};
 use std::alloc::Global;
 use std::cmp::Reverse;
@@ -43,34 +43,28 @@ fn entry_of(cost: u128, left: u128, node: usize, settled: bool, at_goal: bool) -
 /// leaves the children as they were.
 fn add_child<S: Space>(
     alloc: Global,
-    space: &S,
-    backward: &Backward<S::Set>,
-    graph: &StateGraph,
+    heuristic: &Heuristic<S>,
     rests: &mut Rests,
     tree: &mut Vec<Node>,
     entry: Entry,
     step: Move,
     children: &mut Vec<Entry>,
 ) -> Result<(), SpaceFault>
-    requires backward { IsBackward (S.view space.now) backward.now }
-    requires wide { IsWide (S.view space.now) backward.now }
-    requires graph { IsStateGraph (S.view space.now).system graph.now }
-    requires kept { IsKept (S.view space.now).system (states_of graph.now) rests.old }
-    requires tree { IsTree (S.view space.now).system Loopless (states_of graph.now) tree.old.items }
-    requires entry { IsEntry (S.view space.now).system tree.old.items entry }
-    requires step { IsMove (S.view space.now).system (states_of graph.now)
-        (end_at (states_of graph.now) tree.old.items entry.node) step }
-    ensures kept { IsKept (S.view space.now).system (states_of graph.now) rests.new }
-    ensures grows { Grows (S.view space.now).system Loopless (states_of graph.now)
+    requires informed { Informs S.view heuristic.now rests.old }
+    requires tree { IsTree (S.view heuristic.now.space.now).system Loopless (states_of heuristic.now.graph.now)
+        tree.old.items }
+    requires entry { IsEntry (S.view heuristic.now.space.now).system tree.old.items entry }
+    requires step { IsMove (S.view heuristic.now.space.now).system (states_of heuristic.now.graph.now)
+        (end_at (states_of heuristic.now.graph.now) tree.old.items entry.node) step }
+    ensures informed { Informs S.view heuristic.now rests.new }
+    ensures grows { Grows (S.view heuristic.now.space.now).system Loopless (states_of heuristic.now.graph.now)
         tree.old.items tree.new.items }
-    ensures added { OnOk result (Added (S.view space.now).system tree.new.items
+    ensures added { OnOk result (Added (S.view heuristic.now.space.now).system tree.new.items
         (path_at tree.old.items entry.node) step.op children.old.items children.new.items) }
 {
-    let cost = entry.cost + space.cost_of(step.op) as u128;
+    let cost = entry.cost + heuristic.space.cost_of(step.op) as u128;
     let low = left_after(entry.bound.0, cost);
-    match reach(
-        alloc, space, backward, graph, rests, tree, entry.node, step, low,
-    )? {
+    match reach(alloc, heuristic, rests, tree, entry.node, step, low)? {
         None => Ok(()),
         Some(to) => {
             let node = add(tree, entry.node, step.op, step.to)?;
@@ -84,34 +78,28 @@ fn add_child<S: Space>(
 /// leaves what came so far.
 fn add_all<S: Space>(
     alloc: Global,
-    space: &S,
-    backward: &Backward<S::Set>,
-    graph: &StateGraph,
+    heuristic: &Heuristic<S>,
     rests: &mut Rests,
     tree: &mut Vec<Node>,
     entry: Entry,
     moves: &[Move],
     children: &mut Vec<Entry>,
 ) -> Result<(), SpaceFault>
-    requires backward { IsBackward (S.view space.now) backward.now }
-    requires wide { IsWide (S.view space.now) backward.now }
-    requires graph { IsStateGraph (S.view space.now).system graph.now }
-    requires kept { IsKept (S.view space.now).system (states_of graph.now) rests.old }
-    requires tree { IsTree (S.view space.now).system Loopless (states_of graph.now) tree.old.items }
-    requires entry { IsEntry (S.view space.now).system tree.old.items entry }
-    requires moves { AreMoves (S.view space.now).system (states_of graph.now)
-        (end_at (states_of graph.now) tree.old.items entry.node) moves.now }
+    requires informed { Informs S.view heuristic.now rests.old }
+    requires tree { IsTree (S.view heuristic.now.space.now).system Loopless (states_of heuristic.now.graph.now)
+        tree.old.items }
+    requires entry { IsEntry (S.view heuristic.now.space.now).system tree.old.items entry }
+    requires moves { AreMoves (S.view heuristic.now.space.now).system (states_of heuristic.now.graph.now)
+        (end_at (states_of heuristic.now.graph.now) tree.old.items entry.node) moves.now }
     requires none { children.old.items ≡ [] }
-    ensures kept { IsKept (S.view space.now).system (states_of graph.now) rests.new }
-    ensures grows { Grows (S.view space.now).system Loopless (states_of graph.now)
+    ensures informed { Informs S.view heuristic.now rests.new }
+    ensures grows { Grows (S.view heuristic.now.space.now).system Loopless (states_of heuristic.now.graph.now)
         tree.old.items tree.new.items }
-    ensures children { OnOk result (AreChildren (S.view space.now).system tree.new.items
-        (path_at tree.old.items entry.node) (S.view space.now).system.operators children.new.items) }
+    ensures children { OnOk result (AreChildren (S.view heuristic.now.space.now).system tree.new.items
+        (path_at tree.old.items entry.node) (S.view heuristic.now.space.now).system.operators children.new.items) }
 {
     'moves: for step in moves {
-        add_child(
-            alloc, space, backward, graph, rests, tree, entry, *step, children,
-        )?;
+        add_child(alloc, heuristic, rests, tree, entry, *step, children)?;
     }
     Ok(())
 }
@@ -121,45 +109,37 @@ pub(crate) fn expand<S: Space>(
     alloc: Global,
     space: &S,
     backward: &Backward<S::Set>,
-    graph: &mut StateGraph,
-    rests: &mut Rests,
-    tree: &mut Vec<Node>,
-    queue: &mut Queue,
+    front: &mut Front,
     entry: Entry,
 ) -> Result<Vec<Entry>, SpaceFault>
-    requires backward { IsBackward (S.view space.now) backward.now }
-    requires wide { IsWide (S.view space.now) backward.now }
-    requires graph { IsStateGraph (S.view space.now).system graph.old }
-    requires kept { IsKept (S.view space.now).system (states_of graph.old) rests.old }
-    requires tree { IsTree (S.view space.now).system Loopless (states_of graph.old) tree.old.items }
-    requires entry { IsEntry (S.view space.now).system tree.old.items entry }
-    ensures graph { IsStateGraph (S.view space.now).system graph.new }
-    ensures kept { IsKept (S.view space.now).system (states_of graph.new) rests.new }
-    ensures queue { entries_of queue.new ≡ entries_of queue.old }
-    ensures grows { Grows (S.view space.now).system Loopless (states_of graph.new)
-        tree.old.items tree.new.items }
-    ensures room { IfOk result (λ kids. HasRoom queue.new (length kids.items)) }
-    ensures children { IfOk result (λ kids. AreChildren (S.view space.now).system tree.new.items
-        (path_at tree.old.items entry.node) (S.view space.now).system.operators kids.items) }
+    requires ready { IsReady (S.view space.now) backward.now front.old }
+    requires entry { IsEntry (S.view space.now).system front.old.tree.items entry }
+    ensures grown { IsGrown (S.view space.now).system front.old front.new }
+    ensures room { IfOk result (λ kids. HasRoom front.new.queue (length kids.items)) }
+    ensures children { IfOk result (λ kids. AreChildren (S.view space.now).system front.new.tree.items
+        (path_at front.old.tree.items entry.node) (S.view space.now).system.operators kids.items) }
 {
-    let here = node_at(tree, entry.node);
-    find_moves(alloc, space, graph, here.state)?;
+    let here = node_at(&front.tree, entry.node);
+    find_moves(alloc, space, &mut front.graph, here.state)?;
     let mut children = Vec::new(alloc);
-    match graph.moves_of(here.state) {
+    match front.graph.moves_of(here.state) {
         None => unreachable!(),
         Some(moves) => {
-            add_all(
-                alloc,
+            let heuristic = Heuristic {
                 space,
                 backward,
-                graph,
-                rests,
-                tree,
+                graph: &front.graph,
+            };
+            add_all(
+                alloc,
+                &heuristic,
+                &mut front.rests,
+                &mut front.tree,
                 entry,
                 moves,
                 &mut children,
             )?;
-            queue.make_room(children.len())?;
+            front.queue.make_room(children.len())?;
             Ok(children)
         }
     }

@@ -4,19 +4,17 @@ ghost use Rattle.std.specs.Prelude.{◌<◌, ◌++◌, ◌∷◌, [], IsTrue, If
 ghost use Rattle.std.specs.Bool.{Decides};
 ghost use Rattle.task_system.specs.System.{State, Leads};
 ghost use Rattle.space_api.specs.View.{View};
-ghost use Rattle.cost_search.specs.Directed.{IsBackward};
 ghost use Rattle.single_states.specs.States.{IsReached};
-ghost use Rattle.prefix_tree.specs.StateGraph.{states_of, state_at, IsStateGraph, IsMove};
+ghost use Rattle.prefix_tree.specs.StateGraph.{states_of, IsMove};
 ghost use Rattle.prefix_tree.specs.Tree.{IsTree, path_at, end_at};
 ghost use Rattle.symk_task.specs.declared.parts.Mode.TheVariants.{Loopless};
-ghost use Rattle.loopless.specs.Left.{IsWide, CostsAtLeast, EndsAtLeast};
-ghost use Rattle.loopless.specs.Rests.{IsKept};
+ghost use Rattle.loopless.specs.Left.{CostsAtLeast, EndsAtLeast};
+ghost use Rattle.loopless.specs.Told.{Informs};
 ghost use Rattle.loopless.specs.Reach.{IsReach};
 
-use crate::left::{Left, left_from};
+use crate::left::{Heuristic, Left, left_from};
 use crate::rests::Rests;
-use backward_search::Backward;
-use prefix_tree::{Move, Node, StateGraph, passes};
+use prefix_tree::{Move, Node, passes};
 use single_states::goal_at;
 use space_api::{Space, SpaceFault};
 use std::alloc::Global;
@@ -50,34 +48,29 @@ fn goal_after<S: Space>(
 /// so. The caller knows that no less than `low` is left there.
 pub(crate) fn reach<S: Space>(
     alloc: Global,
-    space: &S,
-    backward: &Backward<S::Set>,
-    graph: &StateGraph,
+    heuristic: &Heuristic<S>,
     rests: &mut Rests,
     tree: &[Node],
     node: usize,
     step: Move,
     low: u64,
 ) -> Result<Option<Reached>, SpaceFault>
-    requires backward { IsBackward (S.view space.now) backward.now }
-    requires wide { IsWide (S.view space.now) backward.now }
-    requires graph { IsStateGraph (S.view space.now).system graph.now }
-    requires kept { IsKept (S.view space.now).system (states_of graph.now) rests.old }
-    requires tree { IsTree (S.view space.now).system Loopless (states_of graph.now) tree.now }
+    requires informed { Informs S.view heuristic.now rests.old }
+    requires tree { IsTree (S.view heuristic.now.space.now).system Loopless (states_of heuristic.now.graph.now) tree.now }
     requires node { node < length tree.now }
-    requires step { IsMove (S.view space.now).system (states_of graph.now)
-        (end_at (states_of graph.now) tree.now node) step }
-    requires low { EndsAtLeast (S.view space.now).system (path_at tree.now node ++ step.op ∷ []) low }
-    ensures kept { IsKept (S.view space.now).system (states_of graph.now) rests.new }
-    ensures reach { IfOk result (IsReach (S.view space.now).system (path_at tree.now node) step.op) }
+    requires step { IsMove (S.view heuristic.now.space.now).system (states_of heuristic.now.graph.now)
+        (end_at (states_of heuristic.now.graph.now) tree.now node) step }
+    requires low { EndsAtLeast (S.view heuristic.now.space.now).system (path_at tree.now node ++ step.op ∷ []) low }
+    ensures informed { Informs S.view heuristic.now rests.new }
+    ensures reach { IfOk result (IsReach (S.view heuristic.now.space.now).system (path_at tree.now node) step.op) }
 {
     if passes(tree, node, step.to) {
         return Ok(None);
     }
-    match left_from(space, backward, graph, rests, step.to, low) {
+    match left_from(heuristic, rests, step.to, low) {
         None => Ok(None),
         Some(left) => {
-            let at_goal = goal_after(alloc, space, graph.state(step.to), left)?;
+            let at_goal = goal_after(alloc, heuristic.space, heuristic.graph.state(step.to), left)?;
             Ok(Some(Reached { left, at_goal }))
         }
     }

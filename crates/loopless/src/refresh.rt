@@ -3,15 +3,15 @@
 ghost use Rattle.std.specs.Prelude.{◌≡◌, ◌+◌, ◌*◌, ◌-◌, ◌<◌, ◌≤◌, ◌^◌, ◌⊎◌, IsFalse, IfOk};
 ghost use Rattle.space_api.specs.View.{View};
 ghost use Rattle.cost_search.specs.Directed.{IsBackward};
-ghost use Rattle.prefix_tree.specs.StateGraph.{states_of, IsStateGraph};
+ghost use Rattle.prefix_tree.specs.StateGraph.{states_of};
 ghost use Rattle.prefix_tree.specs.Tree.{IsTree};
 ghost use Rattle.symk_task.specs.declared.parts.Mode.TheVariants.{Loopless};
-ghost use Rattle.loopless.specs.Left.{IsWide};
 ghost use Rattle.loopless.specs.Rests.{IsKept};
+ghost use Rattle.loopless.specs.Told.{IsInformed, Informs};
 ghost use Rattle.loopless.specs.Children.{IsEntry};
 ghost use Rattle.loopless.specs.Standing.{Moved, IsBetter, stale};
 
-use crate::left::{Left, left_after, left_from};
+use crate::left::{Heuristic, Left, left_after, left_from};
 use crate::rests::Rests;
 use backward_search::Backward;
 use prefix_tree::{Entry, Node, StateGraph, node_at};
@@ -85,26 +85,21 @@ fn improved(entry: Entry, left: Left) -> Entry
 
 /// The entry with what the search back knows now; None where no plan goes on from it.
 fn improve<S: Space>(
-    space: &S,
-    backward: &Backward<S::Set>,
-    graph: &StateGraph,
+    heuristic: &Heuristic<S>,
     rests: &mut Rests,
     tree: &[Node],
     entry: Entry,
 ) -> Option<Entry>
-    requires backward { IsBackward (S.view space.now) backward.now }
-    requires wide { IsWide (S.view space.now) backward.now }
-    requires graph { IsStateGraph (S.view space.now).system graph.now }
-    requires kept { IsKept (S.view space.now).system (states_of graph.now) rests.old }
-    requires tree { IsTree (S.view space.now).system Loopless (states_of graph.now) tree.now }
-    requires entry { IsEntry (S.view space.now).system tree.now entry }
+    requires informed { Informs S.view heuristic.now rests.old }
+    requires tree { IsTree (S.view heuristic.now.space.now).system Loopless (states_of heuristic.now.graph.now) tree.now }
+    requires entry { IsEntry (S.view heuristic.now.space.now).system tree.now entry }
     requires open { IsFalse entry.settled }
-    ensures kept { IsKept (S.view space.now).system (states_of graph.now) rests.new }
-    ensures better { IsBetter (S.view space.now).system tree.now entry result }
+    ensures informed { Informs S.view heuristic.now rests.new }
+    ensures better { IsBetter (S.view heuristic.now.space.now).system tree.now entry result }
 {
     let low = left_after(entry.bound.0, entry.cost);
     let here = node_at(tree, entry.node);
-    match left_from(space, backward, graph, rests, here.state, low) {
+    match left_from(heuristic, rests, here.state, low) {
         None => None,
         Some(left) => Some(improved(entry, left)),
     }
@@ -121,10 +116,7 @@ pub(crate) fn refresh<S: Space>(
     tree: &[Node],
     entry: Entry,
 ) -> Result<Option<Entry>, SpaceFault>
-    requires backward { IsBackward (S.view space.old) backward.old }
-    requires wide { IsWide (S.view space.old) backward.old }
-    requires graph { IsStateGraph (S.view space.old).system graph.now }
-    requires kept { IsKept (S.view space.old).system (states_of graph.now) rests.old }
+    requires informed { IsInformed (S.view space.old) backward.old graph.now rests.old }
     requires tree { IsTree (S.view space.old).system Loopless (states_of graph.now) tree.now }
     requires entry { IsEntry (S.view space.old).system tree.now entry }
     requires open { IsFalse entry.settled }
@@ -136,5 +128,10 @@ pub(crate) fn refresh<S: Space>(
     let here = node_at(tree, entry.node);
     let is_known = rests.at(here.state).is_some();
     look_further(alloc, space, backward, is_known, entry)?;
-    Ok(improve(space, backward, graph, rests, tree, entry))
+    let heuristic = Heuristic {
+        space,
+        backward,
+        graph,
+    };
+    Ok(improve(&heuristic, rests, tree, entry))
 }

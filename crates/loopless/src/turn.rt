@@ -1,17 +1,17 @@
 //! What is done with the first entry of the queue.
 
-ghost use Rattle.std.specs.Prelude.{◌≡◌, ◌+◌, ◌<◌, IsFalse, IfOk, OnOk, OnErr, length, slice_index_or};
+ghost use Rattle.std.specs.Prelude.{◌≡◌, ◌+◌, ◌<◌, IsFalse, IfOk, OnOk, OnErr, length};
 ghost use Rattle.space_api.specs.View.{View};
 ghost use Rattle.prefix_tree.specs.Tree.{AreLinked};
-ghost use Rattle.prefix_tree.specs.Entries.{entries_of, prefixes};
+ghost use Rattle.loopless.specs.Front.{prefixes_of, IsFirst};
 ghost use Rattle.loopless.specs.Standing.{IsReady, GoesOn, Opens, IsPlanAt, listed_of};
 
-use crate::ends::Ends;
 use crate::expand::expand;
+use crate::front::Front;
 use crate::refresh::refresh;
 use backward_search::Backward;
 use lazy_plans::Steps;
-use prefix_tree::{Entry, Node, Queue, operators_to};
+use prefix_tree::{Entry, Node, operators_to};
 use space_api::{Space, SpaceFault};
 use std::alloc::{AllocError, Global};
 use std::sync::ledger::Ledger;
@@ -37,21 +37,17 @@ pub fn learn<S: Space, L: Ledger>(
     alloc: Global,
     space: &mut S,
     backward: &mut Backward<S::Set>,
-    ends: &mut Ends,
-    tree: &[Node],
-    queue: &mut Queue,
+    front: &mut Front,
     entry: Entry,
     steps: &mut Steps<L>,
 ) -> Result<(), SpaceFault>
-    requires ready { IsReady (S.view space.old) backward.old ends.old tree.now (entries_of queue.old) }
-    requires some { 0 < length (entries_of queue.old) }
-    requires first { entry ≡ slice_index_or (entries_of queue.old) 0 entry }
+    requires ready { IsReady (S.view space.old) backward.old front.old }
+    requires first { IsFirst front.old entry }
     requires open { IsFalse entry.settled }
     ensures system { (S.view space.new).system ≡ (S.view space.old).system }
-    ensures ready { IsReady (S.view space.new) backward.new ends.new tree.now (entries_of queue.new) }
-    ensures ok { OnOk result (GoesOn (S.view space.old).system tree.now tree.now
-        (entries_of queue.old) (entries_of queue.new)) }
-    ensures err { OnErr result (entries_of queue.new ≡ entries_of queue.old) }
+    ensures ready { IsReady (S.view space.new) backward.new front.new }
+    ensures ok { OnOk result (GoesOn (S.view space.old).system front.old front.new) }
+    ensures err { OnErr result (prefixes_of front.new ≡ prefixes_of front.old) }
     ensures one { OnOk result (steps.new ≡ steps.old + 1) }
     ensures none { OnErr result (steps.new ≡ steps.old) }
 {
@@ -59,14 +55,14 @@ pub fn learn<S: Space, L: Ledger>(
         alloc,
         space,
         backward,
-        &ends.graph,
-        &mut ends.rests,
-        tree,
+        &front.graph,
+        &mut front.rests,
+        &front.tree,
         entry,
     )?;
     let others = one_or_none(alloc, better)?;
-    queue.make_room(others.len())?;
-    queue.replace(others, steps);
+    front.queue.make_room(others.len())?;
+    front.queue.replace(others, steps);
     Ok(())
 }
 
@@ -88,34 +84,20 @@ pub fn open<S: Space, L: Ledger>(
     alloc: Global,
     space: &S,
     backward: &Backward<S::Set>,
-    ends: &mut Ends,
-    tree: &mut Vec<Node>,
-    queue: &mut Queue,
+    front: &mut Front,
     entry: Entry,
     steps: &mut Steps<L>,
 ) -> Result<Option<Plan>, SpaceFault>
-    requires ready { IsReady (S.view space.now) backward.now ends.old tree.old.items (entries_of queue.old) }
-    requires some { 0 < length (entries_of queue.old) }
-    requires first { entry ≡ slice_index_or (entries_of queue.old) 0 entry }
-    ensures ready { IsReady (S.view space.now) backward.now ends.new tree.new.items (entries_of queue.new) }
-    ensures ok { IfOk result (Opens (S.view space.now).system tree.old.items tree.new.items entry
-        (entries_of queue.old) (entries_of queue.new)) }
-    ensures err { OnErr result (prefixes tree.new.items (entries_of queue.new) ≡ prefixes tree.old.items
-        (entries_of queue.old)) }
+    requires ready { IsReady (S.view space.now) backward.now front.old }
+    requires first { IsFirst front.old entry }
+    ensures ready { IsReady (S.view space.now) backward.now front.new }
+    ensures ok { IfOk result (Opens (S.view space.now).system front.old front.new entry) }
+    ensures err { OnErr result (prefixes_of front.new ≡ prefixes_of front.old) }
     ensures one { OnOk result (steps.new ≡ steps.old + 1) }
     ensures none { OnErr result (steps.new ≡ steps.old) }
 {
-    let plan = plan_of(alloc, tree, entry)?;
-    let children = expand(
-        alloc,
-        space,
-        backward,
-        &mut ends.graph,
-        &mut ends.rests,
-        tree,
-        queue,
-        entry,
-    )?;
-    queue.replace(children, steps);
+    let plan = plan_of(alloc, &front.tree, entry)?;
+    let children = expand(alloc, space, backward, front, entry)?;
+    front.queue.replace(children, steps);
     Ok(plan)
 }

@@ -1,20 +1,20 @@
 //! Turns of the queue, until a plan is given.
 
-ghost use Rattle.std.specs.Prelude.{◌≡◌, ◌+◌, ◌<◌, IfOk, OnOk, OnErr, length, slice_index_or};
+ghost use Rattle.std.specs.Prelude.{◌≡◌, ◌+◌, ◌<◌, IfOk, OnOk, OnErr};
 ghost use Rattle.std.specs.Bool.{Decides};
 ghost use Rattle.symk_task.specs.declared.parts.Mode.TheVariants.{Loopless};
 ghost use Rattle.space_api.specs.View.{View};
-ghost use Rattle.prefix_tree.specs.Entries.{entries_of, prefixes};
 ghost use Rattle.prefix_laws.specs.Queue.{Right, Pending};
 ghost use Rattle.lazy_plans.specs.Law.{Turned};
+ghost use Rattle.loopless.specs.Front.{prefixes_of, IsFirst};
 ghost use Rattle.loopless.specs.Standing.{IsReady, Opens};
 ghost use Rattle.loopless.specs.Turned.{TurnOf, CountsTurn, IsPast, IsOut};
 
-use crate::ends::Ends;
+use crate::front::Front;
 use crate::turn::{learn, open};
 use backward_search::Backward;
 use lazy_plans::{Steps, Stop};
-use prefix_tree::{Entry, Node, Queue};
+use prefix_tree::Entry;
 use space_api::{Space, SpaceFault};
 use std::alloc::Global;
 use std::sync::ledger::Ledger;
@@ -54,28 +54,23 @@ fn act<S: Space, L: Ledger>(
     alloc: Global,
     space: &mut S,
     backward: &mut Backward<S::Set>,
-    ends: &mut Ends,
-    tree: &mut Vec<Node>,
-    queue: &mut Queue,
+    front: &mut Front,
     entry: Entry,
     steps: &mut Steps<L>,
 ) -> Result<Option<Plan>, SpaceFault>
-    requires ready { IsReady (S.view space.old) backward.old ends.old tree.old.items (entries_of queue.old) }
-    requires some { 0 < length (entries_of queue.old) }
-    requires first { entry ≡ slice_index_or (entries_of queue.old) 0 entry }
+    requires ready { IsReady (S.view space.old) backward.old front.old }
+    requires first { IsFirst front.old entry }
     ensures system { (S.view space.new).system ≡ (S.view space.old).system }
-    ensures ready { IsReady (S.view space.new) backward.new ends.new tree.new.items (entries_of queue.new) }
-    ensures ok { IfOk result (Opens (S.view space.old).system tree.old.items tree.new.items entry
-        (entries_of queue.old) (entries_of queue.new)) }
-    ensures err { OnErr result (prefixes tree.new.items (entries_of queue.new) ≡ prefixes tree.old.items
-        (entries_of queue.old)) }
+    ensures ready { IsReady (S.view space.new) backward.new front.new }
+    ensures ok { IfOk result (Opens (S.view space.old).system front.old front.new entry) }
+    ensures err { OnErr result (prefixes_of front.new ≡ prefixes_of front.old) }
     ensures one { OnOk result (steps.new ≡ steps.old + 1) }
     ensures none { OnErr result (steps.new ≡ steps.old) }
 {
     if entry.settled {
-        return open(alloc, space, backward, ends, tree, queue, entry, steps);
+        return open(alloc, space, backward, front, entry, steps);
     }
-    learn(alloc, space, backward, ends, tree, queue, entry, steps)?;
+    learn(alloc, space, backward, front, entry, steps)?;
     Ok(None)
 }
 
@@ -84,25 +79,20 @@ fn take_turn<S: Space, L: Ledger>(
     alloc: Global,
     space: &mut S,
     backward: &mut Backward<S::Set>,
-    ends: &mut Ends,
-    tree: &mut Vec<Node>,
     most: Option<u64>,
-    queue: &mut Queue,
+    front: &mut Front,
     steps: &mut Steps<L>,
 ) -> Result<Turn, SpaceFault>
-    requires ready { IsReady (S.view space.old) backward.old ends.old tree.old.items (entries_of queue.old) }
-    requires right { Right (S.view space.old).system Loopless most
-        (prefixes tree.old.items (entries_of queue.old)) }
+    requires ready { IsReady (S.view space.old) backward.old front.old }
+    requires right { Right (S.view space.old).system Loopless most (prefixes_of front.old) }
     ensures system { (S.view space.new).system ≡ (S.view space.old).system }
-    ensures ready { IsReady (S.view space.new) backward.new ends.new tree.new.items (entries_of queue.new) }
-    ensures ok { IfOk result (TurnOf (S.view space.old).system most tree.old.items tree.new.items
-        (entries_of queue.old) (entries_of queue.new)) }
-    ensures err { OnErr result (prefixes tree.new.items (entries_of queue.new) ≡ prefixes tree.old.items
-        (entries_of queue.old)) }
+    ensures ready { IsReady (S.view space.new) backward.new front.new }
+    ensures ok { IfOk result (TurnOf (S.view space.old).system most front.old front.new) }
+    ensures err { OnErr result (prefixes_of front.new ≡ prefixes_of front.old) }
     ensures one { IfOk result (CountsTurn steps.old steps.new) }
     ensures none { OnErr result (steps.new ≡ steps.old) }
 {
-    match queue.first() {
+    match front.queue.first() {
         None => Ok(Turn::Ends),
         Some(entry) => {
             if is_past(most, entry) {
@@ -111,7 +101,7 @@ fn take_turn<S: Space, L: Ledger>(
             if is_out(most, entry) {
                 return Ok(Turn::OutOfRange);
             }
-            match act(alloc, space, backward, ends, tree, queue, entry, steps)? {
+            match act(alloc, space, backward, front, entry, steps)? {
                 None => Ok(Turn::Goes),
                 Some(plan) => Ok(Turn::Gives(plan)),
             }
@@ -124,26 +114,21 @@ pub fn walk<S: Space, L: Ledger>(
     alloc: Global,
     space: &mut S,
     backward: &mut Backward<S::Set>,
-    ends: &mut Ends,
-    tree: &mut Vec<Node>,
     most: Option<u64>,
-    queue: &mut Queue,
+    front: &mut Front,
     steps: &mut Steps<L>,
 ) -> Result<Option<Plan>, Stop>
-    requires ready { IsReady (S.view space.old) backward.old ends.old tree.old.items (entries_of queue.old) }
-    requires right { Right (S.view space.old).system Loopless most
-        (prefixes tree.old.items (entries_of queue.old)) }
+    requires ready { IsReady (S.view space.old) backward.old front.old }
+    requires right { Right (S.view space.old).system Loopless most (prefixes_of front.old) }
     ensures system { (S.view space.new).system ≡ (S.view space.old).system }
-    ensures ready { IsReady (S.view space.new) backward.new ends.new tree.new.items (entries_of queue.new) }
-    ensures right { Right (S.view space.old).system Loopless most
-        (prefixes tree.new.items (entries_of queue.new)) }
+    ensures ready { IsReady (S.view space.new) backward.new front.new }
+    ensures right { Right (S.view space.old).system Loopless most (prefixes_of front.new) }
     ensures law { Turned (S.view space.old).system Loopless most
-        (Pending (S.view space.old).system Loopless (prefixes tree.old.items (entries_of queue.old)))
-        (Pending (S.view space.old).system Loopless (prefixes tree.new.items (entries_of queue.new)))
-        result }
+        (Pending (S.view space.old).system Loopless (prefixes_of front.old))
+        (Pending (S.view space.old).system Loopless (prefixes_of front.new)) result }
 {
     'turns: loop {
-        match take_turn(alloc, space, backward, ends, tree, most, queue, steps) {
+        match take_turn(alloc, space, backward, most, front, steps) {
             Err(_) => return Err(Stop::Memory),
             Ok(turn) => match turn {
                 Turn::Goes => {}

@@ -9,31 +9,33 @@ use Rattle.prefix_tree.proofs.Paths.{grows_refl, grows_trans}
 use Rattle.loopless.specs.Children.{Added, AreChildren}
 use Rattle.loopless.proofs.Growing.{children_none, children_like, children_next}
 use Rattle.prefix_tree.proofs.Going.{op_at, ops_few, ops_many}
-use Rattle.loopless.proofs.Skipping.{skip_to}
+use Rattle.loopless.proofs.Skipping.{AllFrom, AreSkipped, skip_to}
 use Rattle.loopless.proofs.expand.add_all.Goals as goal
 
 pub moves-init : goal.moves-init
 moves-init g c =
-    let y = (g.S.Space.view c.args.space.now).system in
+    let y = (g.S.Space.view c.args.heuristic.now.space.now).system in
     let a = c.args.tree.now.items in
     let e = path_at a c.args.entry.node in
     record {
-      kept = c.requires.kept;
-      grows = grows_refl y Loopless (states_of c.args.graph.now) a c.requires.tree;
+      informed = c.requires.informed;
+      grows = grows_refl y Loopless (states_of c.args.heuristic.now.graph.now) a c.requires.tree;
       children = (0, past_none (ops_of c.args.moves.now), omega arith, subst (AreChildren y a e 0) (sym c.requires.none) (children_none y a e));
     }
 
 pub add_child-requires-clause-step : goal.add_child-requires-clause-step
 add_child-requires-clause-step g c =
-    let y = (g.S.Space.view c.args.space.now).system in
-    let ss = states_of c.args.graph.now in
+    let y = (g.S.Space.view c.args.heuristic.now.space.now).system in
+    let ss = states_of c.args.heuristic.now.graph.now in
     let d : Move = record { op = 0; to = 0 } in
-    subst (λ (s : State). IsMove y ss s (get_or c.args.moves.now c.moves.step-index d)) (sym (ap (state_at ss) (c.moves.invariant.grows.ends c.args.entry.node c.requires.entry.inside))) (c.requires.moves.each c.moves.step-index d c.moves-test.true)
+    let end = ap (state_at ss) (c.moves.invariant.grows.ends c.args.entry.node c.requires.entry.inside) in
+    subst (λ (s : State). IsMove y ss s (get_or c.args.moves.now c.moves.step-index d)) (sym end)
+    (c.requires.moves.each c.moves.step-index d c.moves-test.true)
 
 pub moves-preserved : goal.moves-preserved
 moves-preserved g c =
-    let y = (g.S.Space.view c.args.space.now).system in
-    let ss = states_of c.args.graph.now in
+    let y = (g.S.Space.view c.args.heuristic.now.space.now).system in
+    let ss = states_of c.args.heuristic.now.graph.now in
     let a = c.args.tree.now.items in
     let b = c.moves.tree.items in
     let t = c.add_child.new.tree.items in
@@ -47,24 +49,45 @@ moves-preserved g c =
     let m = c.add_child.ensures.grows in
     let old = c.moves.children.items in
     let new = c.add_child.new.children.items in
-    let is = op_at c.args.moves.now d c.moves.step-index c.moves-test.true in
-    let inside = ops_few c.args.moves.now c.moves.step-index c.moves-test.true in
-    let one = c.requires.moves.each c.moves.step-index d c.moves-test.true in
-    let known : get_or (ops_of c.args.moves.now) c.moves.step-index 0 < y.operators = subst (λ (k : ℕ). k < y.operators) is one.leads.number in
+    let is = op_at moves d at c.moves-test.true in
+    let inside = ops_few moves at c.moves-test.true in
+    let one = c.requires.moves.each at d c.moves-test.true in
+    let known : op < y.operators = subst (λ (k : ℕ). k < y.operators) is one.leads.number in
     let path = i.grows.paths c.args.entry.node c.requires.entry.inside in
-    let added = subst (λ (k : ℕ). Added y t e k old new) is (subst (λ (p : List ℕ). Added y t p (get_or c.args.moves.now c.moves.step-index d).op old new) path c.in_ok-add_child.ensures.added) in
-    let sofar = skip_to y ss a c.args.entry.node moves c.requires.tree c.requires.entry.inside c.requires.moves b old at i.children.0 op i.children.1 (i.children.1.above at (omega arith) inside) (never_falls ops c.requires.moves.rising at) i.children.3 in
+    let added = subst (λ (k : ℕ). Added y t e k old new) is
+    (subst (λ (p : List ℕ). Added y t p (get_or moves at d).op old new) path c.in_ok-add_child.ensures.added) in
+    let all : AllFrom y ss a c.args.entry.node moves =
+    record { tree = c.requires.tree; inside = c.requires.entry.inside; all = c.requires.moves } in
+    let skipped : AreSkipped ops at i.children.0 op = record {
+      past = i.children.1;
+      low = i.children.1.above at (omega arith) inside;
+      none = never_falls ops c.requires.moves.rising at;
+    } in
+    let sofar = skip_to b old all skipped i.children.3 in
     record {
-      kept = c.add_child.ensures.kept;
+      informed = c.add_child.ensures.informed;
       grows = grows_trans y Loopless ss a b t i.grows m;
-      children = (op + 1, past_next ops c.requires.moves.rising at inside, omega (arith, known), children_next y t e op old new (children_like y b t e op old m.longer m.paths sofar) added);
+      children = (
+        op + 1,
+        past_next ops c.requires.moves.rising at inside,
+        omega (arith, known),
+        children_next y t e op old new (children_like y b t e op old m.longer m.paths sofar) added,
+      );
     }
 
 pub returns-clause-children : goal.returns-clause-children
 returns-clause-children g c =
-    let y = (g.S.Space.view c.args.space.now).system in
-    let ss = states_of c.args.graph.now in
+    let y = (g.S.Space.view c.args.heuristic.now.space.now).system in
+    let ss = states_of c.args.heuristic.now.graph.now in
     let i = c.moves.invariant in
-    let few = ops_many c.args.moves.now c.moves.step-index c.moves-test.false in
-    skip_to y ss c.args.tree.now.items c.args.entry.node c.args.moves.now c.requires.tree c.requires.entry.inside c.requires.moves c.moves.tree.items c.moves.children.items c.moves.step-index i.children.0 y.operators i.children.1 i.children.2
-    (λ j ge lt. absurd (omega (arith, ge, lt, few))) i.children.3
+    let moves = c.args.moves.now in
+    let at = c.moves.step-index in
+    let few = ops_many moves at c.moves-test.false in
+    let all : AllFrom y ss c.args.tree.now.items c.args.entry.node moves =
+    record { tree = c.requires.tree; inside = c.requires.entry.inside; all = c.requires.moves } in
+    let skipped : AreSkipped (ops_of moves) at i.children.0 y.operators = record {
+      past = i.children.1;
+      low = i.children.2;
+      none = λ j ge lt. absurd (omega (arith, ge, lt, few));
+    } in
+    skip_to c.moves.tree.items c.moves.children.items all skipped i.children.3

@@ -4,14 +4,16 @@ use Rattle.prefix_tree.specs.StateGraph.{states_of, ops_of}
 use Rattle.prefix_tree.specs.Tree.{Grows, path_at}
 use Rattle.symk_task.specs.declared.parts.Mode.TheVariants.{Loopless}
 use Rattle.loopless.specs.Children.{AreChildren}
-use Rattle.loopless.specs.Rests.{IsKept}
+use Rattle.loopless.specs.Told.{Informs}
 use Rattle.loopless.proofs.expand.add_all.Given as goal
 
 abbrev pub invariant-moves : goal.invariant-moves
 invariant-moves g l =
-    let y = (g.S.Space.view l.space).system in
+    let y = (g.S.Space.view l.heuristic.space.now).system in
+    let a = l.fn.tree.items in
     record {
-      kept : IsKept y (states_of l.graph) l.rests;
-      grows : Grows y Loopless (states_of l.graph) l.fn.tree.items l.tree.items;
-      children : (m : ℕ) × IsPast (ops_of l.moves) l.step-index m × (m ≤ y.operators) × AreChildren y l.tree.items (path_at l.fn.tree.items l.entry.node) m l.children.items;
+      informed : Informs g.S.Space.view l.heuristic l.rests;
+      grows : Grows y Loopless (states_of l.heuristic.graph.now) a l.tree.items;
+      children : (m : ℕ) × IsPast (ops_of l.moves) l.step-index m × (m ≤ y.operators) ×
+          AreChildren y l.tree.items (path_at a l.entry.node) m l.children.items;
     }

@@ -1,38 +1,61 @@
-use Rattle.prefix_tree.specs.Entries.{entries_of}
-use Rattle.loopless.proofs.Readying.{ready_moved, learned_perm, learned_ready, learned_goes, better_as, goes_as_in}
+use Rattle.std.proofs.Common.{ap, subst}
+use Rattle.task_system.specs.System.{System}
+use Rattle.prefix_tree.specs.Entries.{entries_of, prefixes}
+use Rattle.loopless.specs.declared.front.Front.{Front}
+use Rattle.loopless.specs.Front.{IsFirst}
+use Rattle.loopless.specs.Standing.{GoesOn}
+use Rattle.loopless.proofs.Opening.{on_err}
+use Rattle.loopless.proofs.Readying.{ready_informed, ready_moved, ready_queue, replaced_perm, learned_ready, learned_goes, better_as}
 use Rattle.loopless.proofs.turn.learn.Goals as goal
 
-pub returns-clause-ready : goal.returns-clause-ready
-returns-clause-ready g c =
-    let u = g.S.Space.view c.args.space.now in
-    let w = g.S.Space.view c.refresh.new.space in
-    let nodes = c.args.tree.now in
-    let es = entries_of c.args.queue.now in
-    let new = entries_of c.replace.new.self in
-    let m = c.refresh.ensures.moved in
-    let z = ready_moved u w c.args.backward.now c.refresh.new.backward c.args.ends.now c.refresh.new.rests nodes es c.refresh.ensures.kept c.refresh.ensures.backward m c.requires.ready in
-    let better = better_as u.system w.system nodes c.args.entry c.in_ok-better.better m.trades.system c.in_ok-better.ensures.better in
-    let perm = learned_perm es (entries_of c.make_room.new.self) c.in_ok-others.others.items new c.in_ok-better.better c.args.entry c.make_room.ensures.same c.in_ok-others.ensures c.requires.first c.replace.ensures.replaces in
-    learned_ready w c.refresh.new.backward (record { graph = c.args.ends.now.graph; rests = c.refresh.new.rests }) nodes es new c.args.entry c.requires.some c.requires.first z c.in_ok-better.better better perm
+pub refresh-requires-clause-informed : goal.refresh-requires-clause-informed
+refresh-requires-clause-informed g c = ready_informed (g.S.Space.view c.args.space.now) c.args.backward.now c.args.front.now c.requires.ready
 
-pub returns-clause-ok : goal.returns-clause-ok
-returns-clause-ok g c =
-    let u = g.S.Space.view c.args.space.now in
+pub returns : goal.returns
+returns g c =
+    let v = g.S.Space.view c.args.space.now in
     let w = g.S.Space.view c.refresh.new.space in
-    let nodes = c.args.tree.now in
-    let es = entries_of c.args.queue.now in
-    let new = entries_of c.replace.new.self in
+    let b = c.refresh.new.backward in
+    let f = c.args.front.now in
+    let h : Front = record f { rests = c.refresh.new.rests } in
+    let q = c.replace.new.self in
+    let e = c.args.entry in
+    let o = c.in_ok-better.better in
     let m = c.refresh.ensures.moved in
-    let z = ready_moved u w c.args.backward.now c.refresh.new.backward c.args.ends.now c.refresh.new.rests nodes es c.refresh.ensures.kept c.refresh.ensures.backward m c.requires.ready in
-    let better = better_as u.system w.system nodes c.args.entry c.in_ok-better.better m.trades.system c.in_ok-better.ensures.better in
-    let perm = learned_perm es (entries_of c.make_room.new.self) c.in_ok-others.others.items new c.in_ok-better.better c.args.entry c.make_room.ensures.same c.in_ok-others.ensures c.requires.first c.replace.ensures.replaces in
-    goes_as_in u.system w.system nodes es new m.trades.system (learned_goes w c.refresh.new.backward (record { graph = c.args.ends.now.graph; rests = c.refresh.new.rests }) nodes es new c.args.entry c.requires.some c.requires.first z c.in_ok-better.better better perm)
+    let first : IsFirst h e = record { some = c.requires.first.some; at = c.requires.first.at } in
+    let ready = ready_moved v w c.args.backward.now b f c.refresh.new.rests c.refresh.ensures.kept c.refresh.ensures.backward m c.requires.ready in
+    let better = better_as v.system w.system f.tree.items e o m.trades.system (rw c.deref.ensures.value at c.in_ok-better.ensures.better) in
+    let perm = rw c.in_ok-others.ensures at
+    (replaced_perm f (entries_of c.make_room.new.self) c.in_ok-others.others.items (entries_of q) e c.make_room.ensures.same c.requires.first
+    c.replace.ensures.replaces) in
+    record {
+      system = m.trades.system;
+      ready = learned_ready w b h q e first ready o better perm;
+      ok = subst (λ (y : System). GoesOn y f (record h { queue = q })) m.trades.system (learned_goes w b h q e first ready o better perm);
+      err = tt;
+      one = c.replace.ensures.steps;
+      none = tt;
+    }
 
 pub returns-in_err-better-clause-ready : goal.returns-in_err-better-clause-ready
-returns-in_err-better-clause-ready g c = ready_moved (g.S.Space.view c.args.space.now) (g.S.Space.view c.refresh.new.space) c.args.backward.now c.refresh.new.backward c.args.ends.now c.refresh.new.rests c.args.tree.now (entries_of c.args.queue.now) c.refresh.ensures.kept c.refresh.ensures.backward c.refresh.ensures.moved c.requires.ready
+returns-in_err-better-clause-ready g c =
+    ready_moved (g.S.Space.view c.args.space.now) (g.S.Space.view c.refresh.new.space) c.args.backward.now c.refresh.new.backward c.args.front.now
+    c.refresh.new.rests c.refresh.ensures.kept c.refresh.ensures.backward c.refresh.ensures.moved c.requires.ready
 
 pub returns-in_err-others-clause-ready : goal.returns-in_err-others-clause-ready
-returns-in_err-others-clause-ready g c = ready_moved (g.S.Space.view c.args.space.now) (g.S.Space.view c.refresh.new.space) c.args.backward.now c.refresh.new.backward c.args.ends.now c.refresh.new.rests c.args.tree.now (entries_of c.args.queue.now) c.refresh.ensures.kept c.refresh.ensures.backward c.refresh.ensures.moved c.requires.ready
+returns-in_err-others-clause-ready g c =
+    ready_moved (g.S.Space.view c.args.space.now) (g.S.Space.view c.refresh.new.space) c.args.backward.now c.refresh.new.backward c.args.front.now
+    c.refresh.new.rests c.refresh.ensures.kept c.refresh.ensures.backward c.refresh.ensures.moved c.requires.ready
 
 pub returns-in_err-make_room-clause-ready : goal.returns-in_err-make_room-clause-ready
-returns-in_err-make_room-clause-ready g c = rw c.make_room.ensures.same (ready_moved (g.S.Space.view c.args.space.now) (g.S.Space.view c.refresh.new.space) c.args.backward.now c.refresh.new.backward c.args.ends.now c.refresh.new.rests c.args.tree.now (entries_of c.args.queue.now) c.refresh.ensures.kept c.refresh.ensures.backward c.refresh.ensures.moved c.requires.ready)
+returns-in_err-make_room-clause-ready g c =
+    let w = g.S.Space.view c.refresh.new.space in
+    let b = c.refresh.new.backward in
+    let f = c.args.front.now in
+    let ready = ready_moved (g.S.Space.view c.args.space.now) w c.args.backward.now b f c.refresh.new.rests c.refresh.ensures.kept
+    c.refresh.ensures.backward c.refresh.ensures.moved c.requires.ready in
+    ready_queue w b (record f { rests = c.refresh.new.rests }) c.make_room.new.self c.make_room.ensures.same ready
+
+pub returns-in_err-make_room-clause-err : goal.returns-in_err-make_room-clause-err
+returns-in_err-make_room-clause-err g c =
+    on_err c.from_residual-in_err-make_room.result (ap (prefixes c.args.front.now.tree.items) c.make_room.ensures.same)

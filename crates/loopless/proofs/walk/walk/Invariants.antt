@@ -1,8 +1,8 @@
 use Rattle.std.proofs.Common.{◌≡◌}
-use Rattle.prefix_tree.specs.Entries.{entries_of, prefixes}
 use Rattle.prefix_laws.specs.Queue.{Right, Pending}
 use Rattle.lazy_plans.specs.Law.{Stays}
 use Rattle.symk_task.specs.declared.parts.Mode.TheVariants.{Loopless}
+use Rattle.loopless.specs.Front.{prefixes_of}
 use Rattle.loopless.specs.Standing.{IsReady, work}
 use Rattle.loopless.proofs.walk.walk.Given as goal
 
@@ -12,10 +12,10 @@ invariant-turns g l =
     let y = (view l.fn.space).system in
     record {
       system : (view l.space).system ≡ y;
-      ready : IsReady (view l.space) l.backward l.ends l.tree.items (entries_of l.queue);
-      right : Right y Loopless l.most (prefixes l.tree.items (entries_of l.queue));
-      stays : Stays (Pending y Loopless (prefixes l.fn.tree.items (entries_of l.fn.queue))) (Pending y Loopless (prefixes l.tree.items (entries_of l.queue)));
+      ready : IsReady (view l.space) l.backward l.front;
+      right : Right y Loopless l.most (prefixes_of l.front);
+      stays : Stays (Pending y Loopless (prefixes_of l.fn.front)) (Pending y Loopless (prefixes_of l.front));
     }
 
 abbrev pub decreases-turns : goal.decreases-turns
-decreases-turns g l = work (g.S.Space.view l.fn.space).system l.tree.items (entries_of l.queue)
+decreases-turns g l = work (g.S.Space.view l.fn.space).system l.front

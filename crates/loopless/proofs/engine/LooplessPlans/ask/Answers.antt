@@ -1,5 +1,4 @@
 use Rattle.std.proofs.Common.{◌∙◌}
-use Rattle.prefix_tree.specs.Entries.{entries_of}
 use Rattle.symk_task.specs.declared.parts.Mode.TheVariants.{Loopless}
 use Rattle.prefix_laws.proofs.Owed.{none_held}
 use Rattle.loopless.proofs.Asks.{ready_stays, stopped, tidied_none, tidied_some, untidied}
@@ -13,7 +12,7 @@ returns-in-Err-clause-answers g c =
     let e = c.requires.engine in
     let none = none_held v.system Loopless me.held (rw c.requires.goes_on at e.holds) in
     let r = c.in-Err.ensures in
-    rw none (stopped v w c.walk.new.backward c.walk.new.ends me.tree.items c.walk.new.tree.items me.most (entries_of me.queue) (entries_of c.walk.new.queue) r.system r.ready r.right c.in-Err.stop r.law)
+    rw none (stopped v w c.walk.new.backward me.front c.walk.new.front me.most r.system r.ready r.right c.in-Err.stop r.law)
 
 pub returns-in-Err-tidy-clause-answers : goal.returns-in-Err-tidy-clause-answers
 returns-in-Err-tidy-clause-answers g c =
@@ -25,8 +24,9 @@ returns-in-Err-tidy-clause-answers g c =
     let none = none_held v.system Loopless me.held (rw c.requires.goes_on at e.holds) in
     let r = c.in-Ok.ensures in
     let s = c.tidy.ensures.stays in
-    let ready = ready_stays w x c.walk.new.backward c.walk.new.ends c.walk.new.tree.items (entries_of c.walk.new.queue) s r.ready in
-    rw none (untidied v x c.walk.new.backward c.walk.new.ends me.tree.items c.walk.new.tree.items me.most (entries_of me.queue) (entries_of c.walk.new.queue) (s.kept.system ∙ r.system) ready r.right c.in-Ok.found r.law)
+    let ready = ready_stays w x c.walk.new.backward c.walk.new.front s r.ready in
+    rw none (untidied v x c.walk.new.backward me.front c.walk.new.front me.most (s.kept.system ∙ r.system) ready r.right
+    c.in-Ok.found r.law)
 
 pub returns-in-None-clause-answers : goal.returns-in-None-clause-answers
 returns-in-None-clause-answers g c =
@@ -38,8 +38,9 @@ returns-in-None-clause-answers g c =
     let none = none_held v.system Loopless me.held (rw c.requires.goes_on at e.holds) in
     let r = c.in-Ok.ensures in
     let s = c.tidy.ensures.stays in
-    let ready = ready_stays w x c.walk.new.backward c.walk.new.ends c.walk.new.tree.items (entries_of c.walk.new.queue) s r.ready in
-    rw none (tidied_none v x c.walk.new.backward c.walk.new.ends me.tree.items c.walk.new.tree.items me.most (entries_of me.queue) (entries_of c.walk.new.queue) (s.kept.system ∙ r.system) ready r.right c.in-Ok-tidy.ensures.ok.few (rw c.in-None.is at r.law))
+    let ready = ready_stays w x c.walk.new.backward c.walk.new.front s r.ready in
+    rw none (tidied_none v x c.walk.new.backward me.front c.walk.new.front me.most (s.kept.system ∙ r.system) ready r.right
+    c.in-Ok-tidy.ensures.ok.few (rw c.in-None.is at r.law))
 
 pub returns-in-Some-clause-answers : goal.returns-in-Some-clause-answers
 returns-in-Some-clause-answers g c =
@@ -51,5 +52,6 @@ returns-in-Some-clause-answers g c =
     let none = none_held v.system Loopless me.held (rw c.requires.goes_on at e.holds) in
     let r = c.in-Ok.ensures in
     let s = c.tidy.ensures.stays in
-    let ready = ready_stays w x c.walk.new.backward c.walk.new.ends c.walk.new.tree.items (entries_of c.walk.new.queue) s r.ready in
-    rw (none, c.requires.goes_on) (tidied_some v x c.walk.new.backward c.walk.new.ends me.tree.items c.walk.new.tree.items me.most (entries_of me.queue) (entries_of c.walk.new.queue) (s.kept.system ∙ r.system) ready r.right c.in-Some.plan c.in-Ok-tidy.ensures.ok.few (rw c.in-Some.is at r.law))
+    let ready = ready_stays w x c.walk.new.backward c.walk.new.front s r.ready in
+    rw (none, c.requires.goes_on) (tidied_some v x c.walk.new.backward me.front c.walk.new.front me.most (s.kept.system ∙ r.system) ready r.right
+    c.in-Some.plan c.in-Ok-tidy.ensures.ok.few (rw c.in-Some.is at r.law))

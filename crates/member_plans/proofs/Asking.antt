@@ -32,7 +32,8 @@ none_some : ◌≡◌ {A = Last} None (Some None) → ⊥
 none_some e = cc
 
 -- what holds of the plans that pend after turns holds after the space was tidied
-pub follows_tidied : {Set : Type 0} (v w : View Set) (f : CostToGo Set) (most : Option ℕ) (x z : Front) → SameSets v w → Follows v f most x z → Follows w f most x z
+pub follows_tidied : {Set : Type 0} (v w : View Set) (f : CostToGo Set) (most : Option ℕ) (x z : Front) → SameSets v w
+    → Follows v f most x z → Follows w f most x z
 follows_tidied v w f most x z s k = record {
   steady = steady_stays v w f most z s k.steady;
   same = subst (λ (y : System). SamePends y x z) (sym s.kept.system) k.same;
@@ -40,30 +41,37 @@ follows_tidied v w f most x z s k = record {
 }
 
 -- the engine began with x, and turns came to z
-module _ {Set : Type 0} (v w : View Set) (h : CostToGo Set) (within : Set) (most : Option ℕ) (x z : Front) (system : w.system ≡ v.system) (kept : within ≡ within_of h) where
+module _ {Set : Type 0} (v w : View Set) (h : CostToGo Set) (within : Set) (most : Option ℕ) (x z : Front)
+    (system : w.system ≡ v.system) (kept : within ≡ within_of h) where
   abbrev Law : Front → Result (Option (List ℕ)) Stop → Type 0
   Law t r = TurnedMembers v.system most (PendsNode v.system (opened x)) (PendsNode w.system (opened t)) r
 
-  law_on : (t : Front) (r : Result (Option (List ℕ)) Stop) → TurnedMembers w.system most (PendsNode w.system (opened x)) (PendsNode w.system (opened t)) r → Law t r
+  law_on : (t : Front) (r : Result (Option (List ℕ)) Stop) → TurnedMembers w.system most
+      (PendsNode w.system (opened x)) (PendsNode w.system (opened t)) r → Law t r
   law_on t r l = subst (λ (y : System). TurnedMembers y most (PendsNode y (opened x)) (PendsNode w.system (opened t)) r) system l
 
-  sound : (t : Front) (ended : Last) (r : Result (Option (List ℕ)) Stop) → IsSteady w h most t → Law t r → ended ≡ last_of r → (ended ≡ Some None → IsTidy w) → IsSound w h within most t ended
+  sound : (t : Front) (ended : Last) (r : Result (Option (List ℕ)) Stop) → IsSteady w h most t → Law t r
+      → ended ≡ last_of r → (ended ≡ Some None → IsTidy w) → IsSound w h within most t ended
   sound t ended r steady l last room = record {
     steady = steady;
     kept = kept;
-    said = subst (λ (y : System). Ended y most (PendsNode w.system (opened t)) ended) (sym system) (subst (Ended v.system most (PendsNode w.system (opened t))) (sym last) (ended_by v.system most (PendsNode v.system (opened x)) (PendsNode w.system (opened t)) r l));
+    said = subst (λ (y : System). Ended y most (PendsNode w.system (opened t)) ended) (sym system)
+        (subst (Ended v.system most (PendsNode w.system (opened t))) (sym last)
+        (ended_by v.system most (PendsNode v.system (opened x)) (PendsNode w.system (opened t)) r l));
     room = room;
   }
 
   module _ (follows : Follows w h most x z) where
     pub law_stops : (stop : Stop) → Stops v.system most (PendsNode v.system (opened z)) stop → Law z (Err stop)
-    law_stops stop s = law_on z (Err stop) (call_stops w.system most (opened x) (opened z) follows.same stop (subst (λ (y : System). Stops y most (PendsNode y (opened z)) stop) (sym system) s))
+    law_stops stop s = law_on z (Err stop) (call_stops w.system most (opened x) (opened z) follows.same stop
+        (subst (λ (y : System). Stops y most (PendsNode y (opened z)) stop) (sym system) s))
 
     pub sound_stops : (stop : Stop) → Stops v.system most (PendsNode v.system (opened z)) stop → IsSound w h within most z (Some (Some stop))
     sound_stops stop s = sound z (Some (Some stop)) (Err stop) follows.steady (law_stops stop s) refl (λ e. absurd (none_left stop e))
 
     pub law_ends : NoneLeft v.system most (PendsNode v.system (opened z)) → Law z (Ok None)
-    law_ends n = law_on z (Ok None) (call_ends w.system most (opened x) (opened z) follows.same (subst (λ (y : System). NoneLeft y most (PendsNode y (opened z))) (sym system) n))
+    law_ends n = law_on z (Ok None) (call_ends w.system most (opened x) (opened z) follows.same
+        (subst (λ (y : System). NoneLeft y most (PendsNode y (opened z))) (sym system) n))
 
     pub sound_ends : IsTidy w → NoneLeft v.system most (PendsNode v.system (opened z)) → IsSound w h within most z (Some None)
     sound_ends few n = sound z (Some None) (Ok None) follows.steady (law_ends n) refl (λ e. few)
@@ -71,7 +79,8 @@ module _ {Set : Type 0} (v w : View Set) (h : CostToGo Set) (within : Set) (most
     -- memory is refused, and no more was opened than was
     module _ (t : Front) (steady : IsSteady w h most t) (same : opened t ≡ opened z) where
       stays : Stays (PendsNode w.system (opened x)) (PendsNode w.system (opened t))
-      stays = stays_trans (PendsNode w.system (opened x)) (PendsNode w.system (opened z)) (PendsNode w.system (opened t)) follows.same (stays_same w.system (opened z) (opened t) same)
+      stays = stays_trans (PendsNode w.system (opened x)) (PendsNode w.system (opened z))
+          (PendsNode w.system (opened t)) follows.same (stays_same w.system (opened z) (opened t) same)
 
       pub law_refused : Law t (Err Memory)
       law_refused = law_on t (Err Memory) (call_refused w.system most (opened x) (opened t) stays)
@@ -80,7 +89,8 @@ module _ {Set : Type 0} (v w : View Set) (h : CostToGo Set) (within : Set) (most
       sound_refused = sound t (Some (Some Memory)) (Err Memory) steady law_refused refl (λ e. absurd (none_left Memory e))
 
     -- a plan is given
-    module _ (t : Front) (steady : IsSteady w h most t) (p : List ℕ) (gave : GaveMember w.system most (PendsNode w.system (opened z)) (PendsNode w.system (opened t)) p) where
+    module _ (t : Front) (steady : IsSteady w h most t) (p : List ℕ)
+        (gave : GaveMember w.system most (PendsNode w.system (opened z)) (PendsNode w.system (opened t)) p) where
       pub law_gives : Law t (Ok (Some p))
       law_gives = law_on t (Ok (Some p)) (call_gives w.system most (opened x) (opened z) follows.same (opened t) p gave)
 
@@ -88,7 +98,9 @@ module _ {Set : Type 0} (v w : View Set) (h : CostToGo Set) (within : Set) (most
       sound_gives = sound t None (Ok (Some p)) steady law_gives refl (λ e. absurd (none_some e))
 
 -- before the first call
-module _ {Set : Type 0} (v : View Set) (f : CostToGo Set) (within : Set) (most : Option ℕ) (x : Front) (ready : IsReady v f x.graph x.tree.items (waiting x)) (serves : Serves x.moves v.system) (none : places x ≡ []) (keys : keys_of x.opened ≡ []) (first : prefixes x.tree.items (waiting x) ≡ [] ∷ []) where
+module _ {Set : Type 0} (v : View Set) (f : CostToGo Set) (within : Set) (most : Option ℕ) (x : Front)
+    (ready : IsReady v f x.graph x.tree.items (waiting x)) (serves : Serves x.moves v.system) (none : places x ≡ [])
+    (keys : keys_of x.opened ≡ []) (first : prefixes x.tree.items (waiting x) ≡ [] ∷ []) where
   bare : opened x ≡ []
   bare = ap (opened_of x.tree.items) none
 
@@ -98,7 +110,8 @@ module _ {Set : Type 0} (v : View Set) (f : CostToGo Set) (within : Set) (most :
       ready = ready;
       serves = serves;
       table = table_none v.system most x.tree.items (places x) (keys_of x.opened) none keys;
-      covers = subst (λ (o : List (List ℕ)). Covers v.system o (prefixes x.tree.items (waiting x))) (sym bare) (subst (Covers v.system []) (sym first) (covers_first v.system));
+      covers = subst (λ (o : List (List ℕ)). Covers v.system o (prefixes x.tree.items (waiting x))) (sym bare)
+          (subst (Covers v.system []) (sym first) (covers_first v.system));
     };
     kept = kept;
     said = tt;

@@ -41,7 +41,9 @@ beside_none q o none = ap (λ (es : List Entry). q ++ es) none ∙ append-nil q
 
 -- the one takes the place of the other
 pub swapped : (q o new rest : Queue) → new ≡ o → rest ≡ q → IsPermutation (entries_of q ++ entries_of o) (entries_of new ++ entries_of rest)
-swapped q o new rest one two = subst (IsPermutation (entries_of q ++ entries_of o)) (λ i. entries_of (sym one i) ++ entries_of (sym two i)) (IsPermutation-append_comm (entries_of q) (entries_of o))
+swapped q o new rest one two = subst (IsPermutation (entries_of q ++ entries_of o))
+    (λ i. entries_of (sym one i) ++ entries_of (sym two i))
+    (IsPermutation-append_comm (entries_of q) (entries_of o))
 
 -- it gives way to others
 lent : {X : Type 0} (q o kids : List X) → IsPermutation ((q ++ o) ++ kids) ((q ++ kids) ++ o)
@@ -49,30 +51,47 @@ lent [] o kids = IsPermutation-append_comm o kids
 lent (x ∷ q) o kids = IsPermutation-cons x ((q ++ o) ++ kids) ((q ++ kids) ++ o) (lent q o kids)
 
 pub perm_beside : (q o kids new : List Entry) (e : Entry) → IsPermutation (q ++ kids) (e ∷ new) → IsPermutation ((q ++ o) ++ kids) (e ∷ (new ++ o))
-perm_beside q o kids new e perm = IsPermutation-trans ((q ++ o) ++ kids) ((q ++ kids) ++ o) (e ∷ (new ++ o)) (lent q o kids) (IsPermutation-append_left o (q ++ kids) (e ∷ new) perm)
+perm_beside q o kids new e perm = IsPermutation-trans ((q ++ o) ++ kids) ((q ++ kids) ++ o) (e ∷ (new ++ o))
+    (lent q o kids) (IsPermutation-append_left o (q ++ kids) (e ∷ new) perm)
 
 crossed : {X : Type 0} (o here there : List X) → IsPermutation (o ++ (here ++ there)) (here ++ (o ++ there))
 crossed [] here there = IsPermutation-refl (here ++ there)
-crossed (x ∷ o) here there = IsPermutation-trans (x ∷ (o ++ (here ++ there))) (x ∷ (here ++ (o ++ there))) (here ++ x ∷ (o ++ there)) (IsPermutation-cons x (o ++ (here ++ there)) (here ++ (o ++ there)) (crossed o here there)) (IsPermutation-sym (here ++ x ∷ (o ++ there)) (x ∷ (here ++ (o ++ there))) (IsPermutation-middle here x (o ++ there)))
+crossed (x ∷ o) here there = IsPermutation-trans (x ∷ (o ++ (here ++ there))) (x ∷ (here ++ (o ++ there)))
+    (here ++ x ∷ (o ++ there)) (IsPermutation-cons x (o ++ (here ++ there)) (here ++ (o ++ there))
+    (crossed o here there)) (IsPermutation-sym (here ++ x ∷ (o ++ there)) (x ∷ (here ++ (o ++ there)))
+    (IsPermutation-middle here x (o ++ there)))
 
 parted : {X : Type 0} (q o here there : List X) → IsPermutation ((q ++ o) ++ (here ++ there)) ((q ++ here) ++ (o ++ there))
 parted [] o here there = crossed o here there
 parted (x ∷ q) o here there = IsPermutation-cons x ((q ++ o) ++ (here ++ there)) ((q ++ here) ++ (o ++ there)) (parted q o here there)
 
 -- some of them come into the other queue
-pub perm_parted : (q o here there new rest : List Entry) (e : Entry) → IsPermutation (q ++ here) (e ∷ new) → IsPermutation (o ++ there) rest → IsPermutation ((q ++ o) ++ (here ++ there)) (e ∷ (new ++ rest))
-perm_parted q o here there new rest e one two = IsPermutation-trans ((q ++ o) ++ (here ++ there)) ((q ++ here) ++ (o ++ there)) (e ∷ (new ++ rest)) (parted q o here there) (IsPermutation-append (q ++ here) (e ∷ new) (o ++ there) rest one two)
+pub perm_parted : (q o here there new rest : List Entry) (e : Entry) → IsPermutation (q ++ here) (e ∷ new)
+    → IsPermutation (o ++ there) rest → IsPermutation ((q ++ o) ++ (here ++ there)) (e ∷ (new ++ rest))
+perm_parted q o here there new rest e one two = IsPermutation-trans ((q ++ o) ++ (here ++ there))
+    ((q ++ here) ++ (o ++ there)) (e ∷ (new ++ rest)) (parted q o here there)
+    (IsPermutation-append (q ++ here) (e ∷ new) (o ++ there) rest one two)
 
 -- one more of them comes, to these or to those
-pub here_next : (es here there new : List Entry) (i : ℕ) (d : Entry) → i < length es → IsPermutation (take i es) (here ++ there) → new ≡ here ++ get_or es i d ∷ [] → IsPermutation (take (i + 1) es) (new ++ there)
+pub here_next : (es here there new : List Entry) (i : ℕ) (d : Entry) → i < length es
+    → IsPermutation (take i es) (here ++ there) → new ≡ here ++ get_or es i d ∷ []
+    → IsPermutation (take (i + 1) es) (new ++ there)
 here_next es here there new i d lt sofar is =
     let k = get_or es i d in
-    subst (λ (l : List Entry). IsPermutation l (new ++ there)) (sym (take_more es i d lt)) (subst (λ (l : List Entry). IsPermutation (take i es ++ k ∷ []) (l ++ there)) (sym is) (IsPermutation-trans (take i es ++ k ∷ []) ((here ++ there) ++ k ∷ []) ((here ++ k ∷ []) ++ there) (IsPermutation-append_left (k ∷ []) (take i es) (here ++ there) sofar) (lent here there (k ∷ []))))
+    subst (λ (l : List Entry). IsPermutation l (new ++ there)) (sym (take_more es i d lt))
+    (subst (λ (l : List Entry). IsPermutation (take i es ++ k ∷ []) (l ++ there)) (sym is)
+    (IsPermutation-trans (take i es ++ k ∷ []) ((here ++ there) ++ k ∷ []) ((here ++ k ∷ []) ++ there)
+    (IsPermutation-append_left (k ∷ []) (take i es) (here ++ there) sofar) (lent here there (k ∷ []))))
 
-pub there_next : (es here there new : List Entry) (i : ℕ) (d : Entry) → i < length es → IsPermutation (take i es) (here ++ there) → new ≡ there ++ get_or es i d ∷ [] → IsPermutation (take (i + 1) es) (here ++ new)
+pub there_next : (es here there new : List Entry) (i : ℕ) (d : Entry) → i < length es
+    → IsPermutation (take i es) (here ++ there) → new ≡ there ++ get_or es i d ∷ []
+    → IsPermutation (take (i + 1) es) (here ++ new)
 there_next es here there new i d lt sofar is =
     let k = get_or es i d in
-    subst (λ (l : List Entry). IsPermutation l (here ++ new)) (sym (take_more es i d lt)) (subst (λ (l : List Entry). IsPermutation (take i es ++ k ∷ []) (here ++ l)) (sym is) (subst (IsPermutation (take i es ++ k ∷ [])) (append_assoc here there (k ∷ [])) (IsPermutation-append_left (k ∷ []) (take i es) (here ++ there) sofar)))
+    subst (λ (l : List Entry). IsPermutation l (here ++ new)) (sym (take_more es i d lt))
+    (subst (λ (l : List Entry). IsPermutation (take i es ++ k ∷ []) (here ++ l)) (sym is)
+    (subst (IsPermutation (take i es ++ k ∷ [])) (append_assoc here there (k ∷ []))
+    (IsPermutation-append_left (k ∷ []) (take i es) (here ++ there) sofar)))
 
 -- what holds of each
 pub join_each : {X : Type 0} (P : X → Type 0) (xs ys : List X) → AllByRecursion P xs → AllByRecursion P ys → AllByRecursion P (xs ++ ys)
@@ -96,7 +115,9 @@ mapped nodes [] = refl
 mapped nodes (e ∷ es) = ap (λ (ps : List (List ℕ)). path_at nodes e.node ∷ ps) (mapped nodes es)
 
 pub permuted_prefixes : (nodes : List Node) (es new : List Entry) → IsPermutation es new → IsPermutation (prefixes nodes es) (prefixes nodes new)
-permuted_prefixes nodes es new perm = subst (λ (ps : List (List ℕ)). IsPermutation ps (prefixes nodes new)) (sym (mapped nodes es)) (subst (IsPermutation (map (λ (e : Entry). path_at nodes e.node) es)) (sym (mapped nodes new)) (IsPermutation-map (λ (e : Entry). path_at nodes e.node) es new perm))
+permuted_prefixes nodes es new perm = subst (λ (ps : List (List ℕ)). IsPermutation ps (prefixes nodes new))
+    (sym (mapped nodes es)) (subst (IsPermutation (map (λ (e : Entry). path_at nodes e.node) es))
+    (sym (mapped nodes new)) (IsPermutation-map (λ (e : Entry). path_at nodes e.node) es new perm))
 
 replaced_same : (old new : List (List ℕ)) (p : List ℕ) → IsPermutation old new → Replaced old (p ∷ []) p new
 replaced_same old new p perm f = numbers (sum_by f old) (sum_by f new) (f p) (sum_by f (p ∷ [])) (sum_by-IsPermutation f old new perm) (sum_by-cons f p [])
@@ -104,8 +125,11 @@ replaced_same old new p perm f = numbers (sum_by f old) (sum_by f new) (f p) (su
     numbers : (a b c d : ℕ) → b ≡ a → d ≡ c + 0 → a + d ≡ c + b
     numbers a b c d s t = omega (arith, s, t)
 
-pub permuted_covers : (y : System) (nodes : List Node) (opened : List (List ℕ)) (es new : List Entry) → IsPermutation es new → Covers y opened (prefixes nodes es) → Covers y opened (prefixes nodes new)
-permuted_covers y nodes opened es new perm covers = covering.comes_back y [] opened (prefixes nodes es) (prefixes nodes new) covers (replaced_same (prefixes nodes es) (prefixes nodes new) [] (permuted_prefixes nodes es new perm))
+pub permuted_covers : (y : System) (nodes : List Node) (opened : List (List ℕ)) (es new : List Entry)
+    → IsPermutation es new → Covers y opened (prefixes nodes es) → Covers y opened (prefixes nodes new)
+permuted_covers y nodes opened es new perm covers = covering.comes_back y [] opened (prefixes nodes es)
+    (prefixes nodes new) covers (replaced_same (prefixes nodes es) (prefixes nodes new) []
+    (permuted_prefixes nodes es new perm))
 
 longer : (p : List ℕ) → 0 ∷ p ≡ p → ⊥
 longer p same = apart (length p) (ap (λ (l : List ℕ). length l) same)
@@ -121,23 +145,35 @@ permuted_listed old new p perm l = elim (covering.old_stays old ((0 ∷ p) ∷ [
 
 -- how many wait, and how many of them are out of date
 pub permuted_work : (known : Known) (es new : List Entry) → IsPermutation es new → length new + all_outdated known new ≡ length es + all_outdated known es
-permuted_work known es new perm = numbers (length es) (length new) (all_outdated known es) (all_outdated known new) (sum_by (outdated known) es) (sum_by (outdated known) new) (length_permutation es new perm) (outdated_sum known es) (outdated_sum known new) (sum_by-IsPermutation (outdated known) es new perm)
+permuted_work known es new perm = numbers (length es) (length new) (all_outdated known es) (all_outdated known new)
+    (sum_by (outdated known) es) (sum_by (outdated known) new) (length_permutation es new perm)
+    (outdated_sum known es) (outdated_sum known new) (sum_by-IsPermutation (outdated known) es new perm)
   where
     numbers : (a b c d m n : ℕ) → b ≡ a → c ≡ m → d ≡ n → n ≡ m → b + d ≡ a + c
     numbers a b c d m n p q r s = omega (arith, p, q, r, s)
 
 -- what was learned of the first of the one queue
-pub learned_beside : {Set : Type 0} (v : View Set) (f : CostToGo Set) (nodes : List Node) (q o new : List Entry) (e : Entry) → Learned v f nodes e q new → Learned v f nodes e (q ++ o) (new ++ o)
+pub learned_beside : {Set : Type 0} (v : View Set) (f : CostToGo Set) (nodes : List Node) (q o new : List Entry)
+    (e : Entry) → Learned v f nodes e q new → Learned v f nodes e (q ++ o) (new ++ o)
 learned_beside v f nodes q o new e (k, better, perm) = (k, better, perm_beside q o (listed_of k) new e perm)
 
 -- no plan of any entry costs less than a bound that is none's greater
-pub bounds_least : {Set : Type 0} (v : View Set) (f : CostToGo Set) (nodes : List Node) (e : Entry) (es : List Entry) → AllByRecursion (IsEntry v f nodes) es → AllByRecursion (λ k. e.bound.0 ≤ k.bound.0) es → AllByRecursion (λ x. Bounds v.system x e.bound.0) (prefixes nodes es)
+pub bounds_least : {Set : Type 0} (v : View Set) (f : CostToGo Set) (nodes : List Node) (e : Entry) (es : List Entry)
+    → AllByRecursion (IsEntry v f nodes) es → AllByRecursion (λ k. e.bound.0 ≤ k.bound.0) es
+    → AllByRecursion (λ x. Bounds v.system x e.bound.0) (prefixes nodes es)
 bounds_least v f nodes e [] a b = tt
-bounds_least v f nodes e (k ∷ es) a b = ((λ p plan on. let le = a.0.bounds p plan on in let first = b.0 in omega (arith, le, first)), bounds_least v f nodes e es a.1 b.1)
+bounds_least v f nodes e (k ∷ es) a b = (
+  (λ p plan on. let le = a.0.bounds p plan on in let first = b.0 in omega (arith, le, first)),
+  bounds_least
+      v f nodes e es a.1 b.1,
+)
 
 -- the one queue alone
-pub ready_left : {Set : Type 0} (v : View Set) (f : CostToGo Set) (m : StateGraph) (nodes : List Node) (q o : List Entry) → IsReady v f m nodes (q ++ o) → IsReady v f m nodes q
+pub ready_left : {Set : Type 0} (v : View Set) (f : CostToGo Set) (m : StateGraph) (nodes : List Node)
+    (q o : List Entry) → IsReady v f m nodes (q ++ o) → IsReady v f m nodes q
 ready_left v f m nodes q o z = record { alone = z.alone; graph = z.graph; tree = z.tree; each = left_each (IsEntry v f nodes) q o z.each }
 
-pub first_entry : {Set : Type 0} (v : View Set) (f : CostToGo Set) (m : StateGraph) (nodes : List Node) (q o : List Entry) (e : Entry) → 0 < length q → e ≡ slice_index_or q 0 e → IsReady v f m nodes (q ++ o) → IsEntry v f nodes e
+pub first_entry : {Set : Type 0} (v : View Set) (f : CostToGo Set) (m : StateGraph) (nodes : List Node)
+    (q o : List Entry) (e : Entry) → 0 < length q → e ≡ slice_index_or q 0 e
+    → IsReady v f m nodes (q ++ o) → IsEntry v f nodes e
 first_entry v f m nodes q o e some first z = first_is (IsEntry v f nodes) q e some first (left_each (IsEntry v f nodes) q o z.each)

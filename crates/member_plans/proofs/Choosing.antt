@@ -1,5 +1,6 @@
 -- The children of a prefix by some of the moves, operator after operator.
 use Rattle.std.proofs.Common.{◌≡◌, ℕ, ◌+◌, ◌<◌, ◌≤◌, ◌⊎◌, inl, inr, Bool, true, false, not, IsTrue, IsFalse, List, [], ◌∷◌, ◌++◌, length, get_or, refl, sym, subst, arith}
+use Rattle.std.specs.List.{Contains}
 use Rattle.std.specs.List.Sorted.{IsPermutation}
 use Rattle.space_api.proofs.Rising.{IsPast, past_gap}
 use Rattle.symk_task.specs.declared.parts.Mode.TheVariants.{TopK}
@@ -7,10 +8,8 @@ use Rattle.task_system.specs.System.{State, Listed}
 use Rattle.space_api.specs.View.{View}
 use Rattle.cost_to_go.specs.declared.search.CostToGo.{CostToGo}
 use Rattle.prefix_laws.specs.Queue.{Hopeless}
-use Rattle.prefix_tree.specs.StateGraph.{ops_of, AreMoves}
-use Rattle.prefix_tree.specs.Tree.{IsTree, path_at, end_at}
+use Rattle.prefix_tree.specs.Tree.{path_at}
 use Rattle.prefix_tree.specs.Entries.{prefixes}
-use Rattle.prefix_tree.specs.declared.state_graph.Move.{Move}
 use Rattle.prefix_tree.specs.declared.tree.Node.{Node}
 use Rattle.prefix_tree.specs.declared.entry.Entry.{Entry}
 use Rattle.prefix_tree.proofs.Entries.{prefixes_like}
@@ -19,7 +18,6 @@ use Rattle.stubborn_sets.specs.Closing.{is_in}
 use Rattle.member_laws.proofs.Reaching.{all_stubborn}
 use Rattle.prefix_ends.specs.Children.{IsNew, Added}
 use Rattle.prefix_ends.proofs.Growing.{each_new_like}
-use Rattle.prefix_ends.proofs.Reaching.{lost}
 use Rattle.member_plans.proofs.Beside.{join_each, permuted_each, permuted_prefixes, permuted_listed}
 use Rattle.member_plans.specs.Moves.{is_taken}
 use Rattle.member_plans.specs.Children.{AreChosen, AreEnough}
@@ -74,14 +72,24 @@ module _ {Set : Type 0} (v : View Set) (f : CostToGo Set) (nodes : List Node) (e
   }
 
   -- no plan goes on by the operators from n to x
-  pub chosen_past : (n x : ℕ) (kids : List Entry) → AreChosen v f nodes e set n kids → ((op : ℕ) → n ≤ op → op < x → Hopeless v.system TopK (e ++ op ∷ [])) → AreChosen v f nodes e set x kids
+  pub chosen_past : (n x : ℕ) (kids : List Entry) → AreChosen v f nodes e set n kids
+      → ((op : ℕ) → n ≤ op → op < x → Hopeless v.system TopK (e ++ op ∷ [])) → AreChosen v f nodes e set x kids
   chosen_past n x kids g none = record {
     each = g.each;
     all = λ op lt on. elim (before_or op n) [ inl less ↦ g.all op less on | inr ge ↦ inl (none op ge lt) ];
   }
 
+  -- those by the operators below n are those by the operators below x, where no move between is listed
+  pub skip_to : (ops : List ℕ) → ((op : ℕ) → ¬ Contains ops op → Hopeless v.system TopK (e ++ op ∷ []))
+      → (kids : List Entry) (k n x : ℕ) → IsPast ops k n → ((j : ℕ) → k ≤ j → j < length ops → x ≤ get_or ops j 0)
+      → AreChosen v f nodes e set n kids → AreChosen v f nodes e set x kids
+  skip_to ops lost kids k n x past before g = chosen_past n x kids g
+      (λ op ge less. lost op (past_gap ops k n op past ge (λ j at in_list. let b = before j at in_list in omega
+      (arith, less, b))))
+
 -- the children stand where their places have the same prefixes
-pub chosen_like : {Set : Type 0} (v : View Set) (f : CostToGo Set) (a c : List Node) → length a ≤ length c → ((i : ℕ) → i < length a → path_at c i ≡ path_at a i)
+pub chosen_like : {Set : Type 0} (v : View Set) (f : CostToGo Set) (a c : List Node) → length a ≤ length c
+    → ((i : ℕ) → i < length a → path_at c i ≡ path_at a i)
     → (e : List ℕ) (set : ℕ → Bool) (n : ℕ) (kids : List Entry) → AreChosen v f a e set n kids → AreChosen v f c e set n kids
 chosen_like v f a c longer same e set n kids g =
     let back = sym (prefixes_like (IsNew v f a) a c kids (λ k z. z.0.inside) same g.each) in
@@ -90,24 +98,20 @@ chosen_like v f a c longer same e set n kids g =
       all = λ op lt on. subst (λ (ks : List (List ℕ)). Hopeless v.system TopK (e ++ op ∷ []) ⊎ Listed ks (e ++ op ∷ [])) back (g.all op lt on);
     }
 
--- those by the operators below n are those by the operators below x, where no move between is listed
-pub skip_to : {Set : Type 0} (v : View Set) (f : CostToGo Set) (ss : List State) (nodes : List Node) (i : ℕ) → IsTree v.system TopK ss nodes → i < length nodes → (moves : List Move) → AreMoves v.system ss (end_at ss nodes i) moves
-    → (c : List Node) (set : ℕ → Bool) (kids : List Entry) (k n x : ℕ) → IsPast (ops_of moves) k n → ((j : ℕ) → k ≤ j → j < length (ops_of moves) → x ≤ get_or (ops_of moves) j 0)
-    → AreChosen v f c (path_at nodes i) set n kids → AreChosen v f c (path_at nodes i) set x kids
-skip_to v f ss nodes i z lt moves all c set kids k n x past before g =
-    chosen_past v f c (path_at nodes i) set n x kids g (λ op ge less. lost v f ss nodes i z lt moves all op (past_gap (ops_of moves) k n op past ge (λ j at in_list. let b = before j at in_list in omega (arith, less, b))))
-
 marked_or : (b : Bool) → (b ≡ true) ⊎ (not b ≡ true)
 marked_or true = inl refl
 marked_or false = inr refl
 
 module _ {Set : Type 0} (v : View Set) (f : CostToGo Set) (nodes : List Node) (e : List ℕ) (s : State) (marks : List Bool) where
   -- those by marked operators are enough
-  pub enough_marked : (kids : List Entry) → Stubborn v.system (is_in marks) s → AreChosen v f nodes e (is_taken marks true) v.system.operators kids → AreEnough v f nodes e s kids
+  pub enough_marked : (kids : List Entry) → Stubborn v.system (is_in marks) s
+      → AreChosen v f nodes e (is_taken marks true) v.system.operators kids → AreEnough v f nodes e s kids
   enough_marked kids stubborn g = record { set = is_in marks; stubborn = stubborn; chosen = g }
 
   -- and all are
-  pub enough_all : (kids more : List Entry) → AreChosen v f nodes e (is_taken marks true) v.system.operators kids → AreChosen v f nodes e (is_taken marks false) v.system.operators more → AreEnough v f nodes e s (kids ++ more)
+  pub enough_all : (kids more : List Entry) → AreChosen v f nodes e (is_taken marks true) v.system.operators kids
+      → AreChosen v f nodes e (is_taken marks false) v.system.operators more
+      → AreEnough v f nodes e s (kids ++ more)
   enough_all kids more g h = record {
     set = λ op. true;
     stubborn = all_stubborn v.system (λ op. true) s (λ op lt. refl);
@@ -121,7 +125,8 @@ module _ {Set : Type 0} (v : View Set) (f : CostToGo Set) (nodes : List Node) (e
   }
 
 -- in another order they are enough too
-pub enough_permuted : {Set : Type 0} (v : View Set) (f : CostToGo Set) (nodes : List Node) (e : List ℕ) (s : State) (kids new : List Entry) → IsPermutation kids new → AreEnough v f nodes e s kids → AreEnough v f nodes e s new
+pub enough_permuted : {Set : Type 0} (v : View Set) (f : CostToGo Set) (nodes : List Node) (e : List ℕ) (s : State)
+    (kids new : List Entry) → IsPermutation kids new → AreEnough v f nodes e s kids → AreEnough v f nodes e s new
 enough_permuted v f nodes e s kids new perm z = record {
   set = z.set;
   stubborn = z.stubborn;

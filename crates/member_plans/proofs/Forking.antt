@@ -23,11 +23,13 @@ turned p a = sum_by-IsPermutation (λ b. cond (a == b) 1 0) p (reverse p) (IsPer
 both_turned : (p q : List ℕ) → Same Unordered p q → Same Unordered (reverse p) (reverse q)
 both_turned p q h a = turned p a ∙ (h a ∙ sym (turned q a))
 
-pub fork_joins : (y : System) (ss : List State) (nodes : List Node) (i j : ℕ) (one other : List ℕ) → IsTree y TopK ss nodes → i < length nodes → j < length nodes
+pub fork_joins : (y : System) (ss : List State) (nodes : List Node) {i j : ℕ} {one other : List ℕ}
+    → IsTree y TopK ss nodes → i < length nodes → j < length nodes
     → number_at nodes i ≡ number_at nodes j → Fork nodes i j one other → Same Unordered one other → Joins y (path_at nodes i) (path_at nodes j)
-fork_joins y ss nodes i j one other z lt less end f h = record {
+fork_joins y ss nodes {i} {j} {one} {other} z lt less end f h = record {
   same = subst (λ (p : List ℕ). Same Unordered p (path_at nodes j)) (sym f.first)
-      (subst (λ (q : List ℕ). Same Unordered (f.front ++ reverse one) q) (sym f.second) (same_after f.front (reverse one) (reverse other) (both_turned one other h)));
+      (subst (λ (q : List ℕ). Same Unordered (f.front ++ reverse one) q) (sym f.second)
+      (same_after f.front (reverse one) (reverse other) (both_turned one other h)));
   end = state_at ss (number_at nodes i);
   runs = (z.each i lt).runs;
   other = subst (λ (n : ℕ). Runs y y.initial (path_at nodes j) (state_at ss n)) (sym end) (z.each j less).runs;

@@ -16,7 +16,8 @@ got_here (x ∷ xs) (suc n) m lt = got_here xs n m (omega arith)
 pub kept_here : (xs : List (Option Marked)) (n : ℕ) (m : Marked) → n < length xs → IsKept (set xs n (Some m)) n m.state
 kept_here xs n m lt = (m, got_here xs n m lt, refl)
 
-pub got_else : (xs : List (Option Marked)) (n : ℕ) (m : Marked) (i : ℕ) (k : Marked) → slice_get (set xs n (Some m)) i ≡ Some (Some k) → (slice_get xs i ≡ Some (Some k)) ⊎ (k ≡ m)
+pub got_else : (xs : List (Option Marked)) (n : ℕ) (m : Marked) (i : ℕ) (k : Marked)
+    → slice_get (set xs n (Some m)) i ≡ Some (Some k) → (slice_get xs i ≡ Some (Some k)) ⊎ (k ≡ m)
 got_else [] n m i k h = inl h
 got_else (x ∷ xs) zero m zero k h = inr cc
 got_else (x ∷ xs) zero m (suc i) k h = inl h
@@ -24,7 +25,8 @@ got_else (x ∷ xs) (suc n) m zero k h = inl h
 got_else (x ∷ xs) (suc n) m (suc i) k h = got_else xs n m i k h
 
 -- the place was read
-pub got_read : (xs : List (Option Marked)) (n : ℕ) (o : Option Marked) (m : Marked) → n < length xs → o ≡ get_or xs n o → o ≡ Some m → slice_get xs n ≡ Some (Some m)
+pub got_read : (xs : List (Option Marked)) (n : ℕ) (o : Option Marked) (m : Marked) → n < length xs
+    → o ≡ get_or xs n o → o ≡ Some m → slice_get xs n ≡ Some (Some m)
 got_read xs n o m lt at is = slice_get_read xs (length xs) n o refl lt at ∙ ap Some is
 
 -- nothing is kept
@@ -35,7 +37,8 @@ none_kept y xs e = subst (AreStubborn y) (sym e) (λ n m h. absurd (none_some m 
     none_some m h = cc
 
 -- marks of a stubborn set were put in
-pub still_stubborn : (y : System) (old new : List (Option Marked)) (k : Marked) → AreStubborn y old → Puts old new k → Stubborn y (is_in k.marks.items) k.state → AreStubborn y new
+pub still_stubborn : (y : System) (old new : List (Option Marked)) (k : Marked) → AreStubborn y old → Puts old new k
+    → Stubborn y (is_in k.marks.items) k.state → AreStubborn y new
 still_stubborn y old new k are puts here n m h = elim (puts n m h) [
   | inl was ↦ are n m was
   | inr is ↦ subst (λ (x : Marked). Stubborn y (is_in x.marks.items) x.state) (sym is) here

@@ -31,7 +31,8 @@ module _ (y : System) (ss : List State) (nodes : List Node) (z : IsTree y TopK s
       let both : number_at nodes i ∷ h.sorted ≡ number_at nodes j ∷ k.sorted = sym h.is ∙ k.is in
       let end : number_at nodes i ≡ number_at nodes j = heads (number_at nodes i) (number_at nodes j) h.sorted k.sorted both in
       record {
-        same = (sorted_same (path_at nodes i) (path_at nodes j) h.sorted k.sorted h.permutation k.permutation h.rising k.rising).0 (tails (number_at nodes i) (number_at nodes j) h.sorted k.sorted both);
+        same = (sorted_same (path_at nodes i) (path_at nodes j) h.sorted k.sorted h.permutation k.permutation h.rising
+            k.rising).0 (tails (number_at nodes i) (number_at nodes j) h.sorted k.sorted both);
         end = state_at ss (number_at nodes i);
         runs = (z.each i lt).runs;
         other = subst (λ (n : ℕ). Runs y y.initial (path_at nodes j) (state_at ss n)) (sym end) (z.each j less).runs;
@@ -39,19 +40,24 @@ module _ (y : System) (ss : List State) (nodes : List Node) (z : IsTree y TopK s
 
   pub joined_key : AreOnce ss → Joins y (path_at nodes i) (path_at nodes j) → (a b : List ℕ) → IsKeyAt nodes i a → IsKeyAt nodes j b → a ≡ b
   joined_key once joins a b h k =
-      let end = joins_end y (path_at nodes i) (path_at nodes j) (state_at ss (number_at nodes i)) (state_at ss (number_at nodes j)) joins (z.each i lt).runs (z.each j less).runs in
+      let end = joins_end y (path_at nodes i) (path_at nodes j) (state_at ss (number_at nodes i))
+      (state_at ss (number_at nodes j)) joins (z.each i lt).runs (z.each j less).runs in
       let number : number_at nodes i ≡ number_at nodes j = once (number_at nodes i) (number_at nodes j) (z.each i lt).within (z.each j less).within end in
-      let sorted : h.sorted ≡ k.sorted = (sorted_same (path_at nodes i) (path_at nodes j) h.sorted k.sorted h.permutation k.permutation h.rising k.rising).1 joins.same in
+      let sorted : h.sorted ≡ k.sorted = (sorted_same (path_at nodes i) (path_at nodes j) h.sorted k.sorted
+      h.permutation k.permutation h.rising k.rising).1 joins.same in
       h.is ∙ (ap (λ (n : ℕ). n ∷ h.sorted) number ∙ (ap (λ (p : List ℕ). number_at nodes j ∷ p) sorted ∙ sym k.is))
 
 -- a member of what was opened stands at a place
-found_at : (P : ℕ → Type 0) (nodes : List Node) (places : List ℕ) (p : List ℕ) → AllByRecursion P places → Listed (opened_of nodes places) p → (i : ℕ) × P i × (path_at nodes i ≡ p)
+found_at : (P : ℕ → Type 0) (nodes : List Node) (places : List ℕ) (p : List ℕ) → AllByRecursion P places
+    → Listed (opened_of nodes places) p → (i : ℕ) × P i × (path_at nodes i ≡ p)
 found_at P nodes [] p all l = absurd l
 found_at P nodes (i ∷ places) p all (inl is) = (i, all.0, is)
 found_at P nodes (i ∷ places) p all (inr l) = found_at P nodes places p all.1 l
 
 -- whether the plan at this place joins one that was opened
-module _ (y : System) (ss : List State) (nodes : List Node) (z : IsTree y TopK ss nodes) (once : AreOnce ss) (most : Option ℕ) (places : List ℕ) (keys : List (List ℕ)) (table : AreOpened y most nodes places keys) (i : ℕ) (lt : i < length nodes) (key : List ℕ) (is : IsKeyAt nodes i key) where
+module _ (y : System) (ss : List State) (nodes : List Node) (z : IsTree y TopK ss nodes) (once : AreOnce ss)
+    (most : Option ℕ) (places : List ℕ) (keys : List (List ℕ)) (table : AreOpened y most nodes places keys) (i : ℕ)
+    (lt : i < length nodes) (key : List ℕ) (is : IsKeyAt nodes i key) where
   has_joins : Contains keys key → IsJoined y (opened_of nodes places) (path_at nodes i)
   has_joins h =
       let w = table.from key h in
@@ -69,7 +75,8 @@ module _ (y : System) (ss : List State) (nodes : List Node) (z : IsTree y TopK s
   has_told plan b d = ((λ on. has_joins (d.0 on)), (λ j. d.1 (joins_has plan j)))
 
 -- a place of one that was opened
-pub place_listed : (nodes : List Node) (places : List ℕ) (k i d : ℕ) → k < length places → get_or places k d ≡ i → Listed (opened_of nodes places) (path_at nodes i)
+pub place_listed : (nodes : List Node) (places : List ℕ) (k i d : ℕ) → k < length places → get_or places k d ≡ i
+    → Listed (opened_of nodes places) (path_at nodes i)
 place_listed nodes [] k i d lt is = absurd (omega (arith, lt))
 place_listed nodes (j ∷ places) zero i d lt is = inl (ap (path_at nodes) is)
 place_listed nodes (j ∷ places) (suc k) i d lt is = inr (place_listed nodes places k i d (omega (arith, lt)) is)
@@ -86,7 +93,9 @@ abbrev items_of : List (Vec ℕ Global) → List (List ℕ)
 items_of ks = map (λ k. k.items) ks
 
 -- a key came into the set, unless it was there
-pub noted_insert : (b : Bool) (xs ys : List (Vec ℕ Global)) (k : Vec ℕ Global) → Decides b (Contains (items_of xs) k.items) → ys ≡ (if b then xs else xs ++ k ∷ []) → Noted (items_of xs) (items_of ys) k.items
+pub noted_insert : (b : Bool) (xs ys : List (Vec ℕ Global)) (k : Vec ℕ Global)
+    → Decides b (Contains (items_of xs) k.items) → ys ≡ (if b then xs else xs ++ k ∷ [])
+    → Noted (items_of xs) (items_of ys) k.items
 noted_insert true xs ys k d is = rw is (record { has = d.0 refl; stays = λ p h. h; only = λ p h. inl h })
 noted_insert false xs ys k d is =
     let more : items_of ys ≡ items_of xs ++ k.items ∷ [] = ap items_of is ∙ map-append (λ (z : Vec ℕ Global). z.items) xs (k ∷ []) in

@@ -27,12 +27,14 @@ use Rattle.member_plans.proofs.Turning.{grown_ready, grown_table, grown_opened, 
 abbrev pub retold : Front → Opened → Front
 retold x o = record x { opened = o }
 
-module _ {Set : Type 0} (v : View Set) (f : CostToGo Set) (most : Option ℕ) (x : Front) (o : Opened) (same : places_of o ≡ places x) (keys : keys_of o ≡ keys_of x.opened) (z : IsSteady v f most x) where
+module _ {Set : Type 0} (v : View Set) (f : CostToGo Set) (most : Option ℕ) (x : Front) (o : Opened)
+    (same : places_of o ≡ places x) (keys : keys_of o ≡ keys_of x.opened) (z : IsSteady v f most x) where
   pub retold_steady : IsSteady v f most (retold x o)
   retold_steady = record {
     ready = z.ready;
     serves = z.serves;
-    table = subst (λ (ks : List (List ℕ)). AreOpened v.system most x.tree.items (places_of o) ks) (sym keys) (subst (λ (is : List ℕ). AreOpened v.system most x.tree.items is (keys_of x.opened)) (sym same) z.table);
+    table = subst (λ (ks : List (List ℕ)). AreOpened v.system most x.tree.items (places_of o) ks) (sym keys)
+        (subst (λ (is : List ℕ). AreOpened v.system most x.tree.items is (keys_of x.opened)) (sym same) z.table);
     covers = subst (λ (is : List ℕ). Covers v.system (opened_of x.tree.items is) (prefixes x.tree.items (waiting x))) (sym same) z.covers;
   }
 
@@ -40,7 +42,13 @@ module _ {Set : Type 0} (v : View Set) (f : CostToGo Set) (most : Option ℕ) (x
   retold_opened = ap (opened_of x.tree.items) same
 
   pub retold_follows : Follows v f most x (retold x o)
-  retold_follows = record { steady = retold_steady; same = stays_same v.system (opened x) (opened (retold x o)) retold_opened; more = at_most (length (places x)) (length (places_of o)) (ap (λ (is : List ℕ). length is) same) }
+  retold_follows = record {
+    steady = retold_steady;
+    same = stays_same v.system (opened x) (opened (retold x o))
+        retold_opened;
+    more = at_most (length (places x)) (length (places_of o))
+        (ap (λ (is : List ℕ). length is) same);
+  }
     where
       at_most : (a b : ℕ) → b ≡ a → a ≤ b
       at_most a b e = omega (arith, e)
@@ -49,28 +57,45 @@ module _ {Set : Type 0} (v : View Set) (f : CostToGo Set) (most : Option ℕ) (x
 abbrev pub regiven : Front → Given → Front
 regiven x g = record x { given = g }
 
-pub regiven_steady : {Set : Type 0} (v : View Set) (f : CostToGo Set) (most : Option ℕ) (x : Front) (g : Given) → IsSteady v f most x → IsSteady v f most (regiven x g)
+pub regiven_steady : {Set : Type 0} (v : View Set) (f : CostToGo Set) (most : Option ℕ) (x : Front) (g : Given)
+    → IsSteady v f most x → IsSteady v f most (regiven x g)
 regiven_steady v f most x g z = record { ready = z.ready; serves = z.serves; table = z.table; covers = z.covers }
 
 -- the tree grew from x to w
-module _ {Set : Type 0} (v : View Set) (f : CostToGo Set) (most : Option ℕ) (x w : Front) (z : IsSteady v f most x) (graph : IsStateGraph v.system w.graph) (serves : Serves w.moves v.system) (g : Grows v.system TopK (states_of w.graph) x.tree.items w.tree.items) (queue : waiting w ≡ waiting x) (same : w.opened ≡ x.opened) where
+module _ {Set : Type 0} (v : View Set) (f : CostToGo Set) (most : Option ℕ) (x w : Front) (z : IsSteady v f most x)
+    (graph : IsStateGraph v.system w.graph) (serves : Serves w.moves v.system)
+    (g : Grows v.system TopK (states_of w.graph) x.tree.items w.tree.items) (queue : waiting w ≡ waiting x)
+    (same : w.opened ≡ x.opened) where
   pub grown_steady : IsSteady v f most w
   grown_steady = record {
-    ready = subst (IsReady v f w.graph w.tree.items) (sym queue) (grown_ready v f most x.graph w.graph x.tree.items w.tree.items (waiting x) (places x) (keys_of x.opened) graph g z.ready z.table);
+    ready = subst (IsReady v f w.graph w.tree.items) (sym queue)
+        (grown_ready v f most x.graph w.graph x.tree.items w.tree.items (waiting x) (places x) (keys_of x.opened)
+        graph g z.ready z.table);
     serves = serves;
-    table = subst (λ (o : Opened). AreOpened v.system most w.tree.items (places_of o) (keys_of o)) (sym same) (grown_table v f most x.graph w.graph x.tree.items w.tree.items (waiting x) (places x) (keys_of x.opened) graph g z.ready z.table);
-    covers = subst (λ (o : Opened). Covers v.system (opened_of w.tree.items (places_of o)) (prefixes w.tree.items (waiting w))) (sym same) (subst (λ (es : List Entry). Covers v.system (opened_of w.tree.items (places x)) (prefixes w.tree.items es)) (sym queue) (grown_covers v f most x.graph w.graph x.tree.items w.tree.items (waiting x) (places x) (keys_of x.opened) graph g z.ready z.table z.covers));
+    table = subst (λ (o : Opened). AreOpened v.system most w.tree.items (places_of o) (keys_of o)) (sym same)
+        (grown_table v f most x.graph w.graph x.tree.items w.tree.items (waiting x) (places x) (keys_of x.opened)
+        graph g z.ready z.table);
+    covers = subst (λ (o : Opened). Covers v.system (opened_of w.tree.items (places_of o))
+        (prefixes w.tree.items (waiting w))) (sym same) (subst
+        (λ (es : List Entry). Covers v.system (opened_of w.tree.items (places x)) (prefixes w.tree.items es))
+        (sym queue) (grown_covers v f most x.graph w.graph x.tree.items w.tree.items (waiting x) (places x)
+        (keys_of x.opened) graph g z.ready z.table z.covers));
   }
 
   pub grown_same : opened w ≡ opened x
-  grown_same = ap (λ (o : Opened). opened_of w.tree.items (places_of o)) same ∙ grown_opened v f most x.graph w.graph x.tree.items w.tree.items (waiting x) (places x) (keys_of x.opened) graph g z.ready z.table
+  grown_same = ap (λ (o : Opened). opened_of w.tree.items (places_of o)) same
+      ∙ grown_opened v f most x.graph w.graph x.tree.items w.tree.items (waiting x) (places x) (keys_of x.opened)
+      graph g z.ready z.table
 
   pub grown_places : places w ≡ places x
   grown_places = ap places_of same
 
   -- and the first entry gave way to its children
   module _ (e : Entry) (some : 0 < length (waiting x)) (first : e ≡ slice_index_or (waiting x) 0 e) (cheap : e.bound.0 ≤ top most)
-      (kids : List Entry) (enough : AreEnough v f w.tree.items (path_at x.tree.items e.node) (end_at (states_of w.graph) x.tree.items e.node) kids) (q r : Queue) (perm : IsPermutation (waiting x ++ kids) (e ∷ (entries_of q ++ entries_of r))) (o : Opened) (added : AddsPlace w.tree.items e.node e.at_goal w.opened o) where
+      (kids : List Entry) (enough : AreEnough v f w.tree.items (path_at x.tree.items e.node)
+      (end_at (states_of w.graph) x.tree.items e.node) kids) (q r : Queue)
+      (perm : IsPermutation (waiting x ++ kids) (e ∷ (entries_of q ++ entries_of r))) (o : Opened)
+      (added : AddsPlace w.tree.items e.node e.at_goal w.opened o) where
     abbrev after : Front
     after = record w { queue = q; other = r; opened = o }
 
@@ -82,14 +107,25 @@ module _ {Set : Type 0} (v : View Set) (f : CostToGo Set) (most : Option ℕ) (x
 
     pub open_steady : IsSteady v f most after
     open_steady = record {
-      ready = opened_ready v f most x.graph w.graph x.tree.items w.tree.items (waiting x) (places x) (keys_of x.opened) graph g z.ready z.table e some first cheap z.covers kids (entries_of q ++ entries_of r) (keys_of o) enough perm put;
+      ready = opened_ready v f most x.graph w.graph x.tree.items w.tree.items (waiting x) (places x)
+          (keys_of x.opened) graph g z.ready z.table e some first cheap z.covers kids (entries_of q ++ entries_of r)
+          (keys_of o) enough perm put;
       serves = serves;
-      table = subst (λ (is : List ℕ). AreOpened v.system most w.tree.items is (keys_of o)) (sym place) (opened_table v f most x.graph w.graph x.tree.items w.tree.items (waiting x) (places x) (keys_of x.opened) graph g z.ready z.table e some first cheap z.covers kids (entries_of q ++ entries_of r) (keys_of o) enough perm put);
-      covers = subst (λ (is : List ℕ). Covers v.system (opened_of w.tree.items is) (prefixes w.tree.items (entries_of q ++ entries_of r))) (sym place) (opened_covers v f most x.graph w.graph x.tree.items w.tree.items (waiting x) (places x) (keys_of x.opened) graph g z.ready z.table e some first cheap z.covers kids (entries_of q ++ entries_of r) (keys_of o) enough perm put);
+      table = subst (λ (is : List ℕ). AreOpened v.system most w.tree.items is (keys_of o)) (sym place)
+          (opened_table v f most x.graph w.graph x.tree.items w.tree.items (waiting x) (places x) (keys_of x.opened)
+          graph g z.ready z.table e some first cheap z.covers kids (entries_of q ++ entries_of r)
+          (keys_of o) enough perm put);
+      covers = subst (λ (is : List ℕ). Covers v.system (opened_of w.tree.items is)
+          (prefixes w.tree.items (entries_of q ++ entries_of r))) (sym place)
+          (opened_covers v f most x.graph w.graph x.tree.items w.tree.items (waiting x) (places x)
+          (keys_of x.opened) graph g z.ready z.table e some first cheap z.covers kids (entries_of q ++ entries_of r)
+          (keys_of o) enough perm put);
     }
 
     pub open_opened : opened after ≡ opened x ++ path_at x.tree.items e.node ∷ []
-    open_opened = ap (opened_of w.tree.items) place ∙ opened_is v f most x.graph w.graph x.tree.items w.tree.items (waiting x) (places x) (keys_of x.opened) graph g z.ready z.table e some first cheap z.covers kids (entries_of q ++ entries_of r) (keys_of o) enough perm put
+    open_opened = ap (opened_of w.tree.items) place ∙ opened_is v f most x.graph w.graph x.tree.items w.tree.items
+        (waiting x) (places x) (keys_of x.opened) graph g z.ready z.table e some first cheap z.covers kids
+        (entries_of q ++ entries_of r) (keys_of o) enough perm put
 
     pub open_more : length (places x) < length (places_of o)
     open_more = longer (length (places x)) (length (places_of o)) (ap (λ (is : List ℕ). length is) place ∙ length-append (places x) (e.node ∷ []))
@@ -98,13 +134,26 @@ module _ {Set : Type 0} (v : View Set) (f : CostToGo Set) (most : Option ℕ) (x
         longer a b e = omega (arith, e)
 
 -- an entry that is no plan was opened, or memory was refused
-pub pass_follows : {Set X E : Type 0} (v : View Set) (f : CostToGo Set) (most : Option ℕ) (x z : Front) (e : Entry) (r : Result X E) → IsEntry v f x.tree.items e → IsFalse e.at_goal → IsSteady v f most z → OnOk r (opened z ≡ opened x ++ path_at x.tree.items e.node ∷ []) → OnErr r (opened z ≡ opened x)
-    → OnOk r (length (places x) < length (places z)) → OnErr r (places z ≡ places x) → Follows v f most x z
-pass_follows v f most x z e (Ok u) entry off steady ok err more same = record { steady = steady; same = pass_same v f x.tree.items e (opened x) (opened z) entry off ok; more = omega (arith, more) }
-pass_follows v f most x z e (Err u) entry off steady ok err more same = record { steady = steady; same = stays_same v.system (opened x) (opened z) err; more = at_most (length (places x)) (length (places z)) (ap (λ (is : List ℕ). length is) same) }
-  where
-    at_most : (a b : ℕ) → b ≡ a → a ≤ b
-    at_most a b e = omega (arith, e)
+module _ {Set : Type 0} (v : View Set) (f : CostToGo Set) (most : Option ℕ) (x z : Front) (e : Entry)
+    (entry : IsEntry v f x.tree.items e) (off : IsFalse e.at_goal) (steady : IsSteady v f most z) where
+  pub pass_follows : {X E : Type 0} (r : Result X E) → OnOk r
+      (opened z ≡ opened x ++ path_at x.tree.items e.node ∷ []) → OnErr r (opened z ≡ opened x)
+      → OnOk r (length (places x) < length (places z)) → OnErr r (places z ≡ places x) → Follows v f most x z
+  pass_follows (Ok u) ok err more same = record {
+    steady = steady;
+    same = pass_same v f x.tree.items e (opened x)
+        (opened z) entry off ok;
+    more = omega (arith, more);
+  }
+  pass_follows (Err u) ok err more same = record {
+    steady = steady;
+    same = stays_same v.system (opened x) (opened z)
+        err;
+    more = at_most (length (places x)) (length (places z)) (ap (λ (is : List ℕ). length is) same);
+  }
+    where
+      at_most : (a b : ℕ) → b ≡ a → a ≤ b
+      at_most a b e = omega (arith, e)
 
 pub fits_on : {X E : Type 0} (o : Opened) (r : Result X E) → length (places_of o) < 2 ^ 64 → OnOk r (length (places_of o) < 2 ^ 64)
 fits_on o (Ok u) h = h

@@ -40,10 +40,14 @@ module _ (y : System) (ss : List State) (nodes : List Node) (z : IsTree y TopK s
     dear_inside = (first_is (IsDear y nodes) es e some first dear).inside
 
     -- a plan goes on from the first entry
-    pub some_left : GoesOnFrom y (path_at nodes e.node) → (opened : List (List ℕ)) → ListsReached y → Covers y opened (prefixes nodes es) → AllByRecursion (λ p. cost_of y p ≤ top None) opened → TellsLeft y opened true
+    pub some_left : GoesOnFrom y (path_at nodes e.node) → (opened : List (List ℕ)) → ListsReached y
+        → Covers y opened (prefixes nodes es) → AllByRecursion (λ p. cost_of y p ≤ top None) opened
+        → TellsLeft y opened true
     some_left h opened lists covers cheap =
         let on = leads_on y (path_at nodes e.node) h.2.0 h.0 h.2.1 h.1 h.2.2 h.2.3 in
-        pending.dear_out y opened (prefixes nodes es) lists covers (2 ^ 64) (path_at nodes e.node) (path_at nodes e.node ++ h.2.0) (bounds_dear y nodes es dear) (omega arith) cheap (first_in nodes es e some first) on.0 on.1
+        pending.dear_out y opened (prefixes nodes es) lists covers (2 ^ 64) (path_at nodes e.node)
+        (path_at nodes e.node ++ h.2.0) (bounds_dear y nodes es dear) (omega arith) cheap
+        (first_in nodes es e some first) on.0 on.1
 
     -- none does, and it is taken out
     module _ (off : ¬ GoesOnFrom y (path_at nodes e.node)) (kids new : List Entry) (none : kids ≡ []) (perm : IsPermutation (es ++ kids) (e ∷ new)) where
@@ -53,10 +57,12 @@ module _ (y : System) (ss : List State) (nodes : List Node) (z : IsTree y TopK s
       lost : Hopeless y TopK (path_at nodes e.node)
       lost =
           let n = z.each e.node dear_inside in
-          stuck y TopK (path_at nodes e.node) (state_at ss (number_at nodes e.node)) n.runs (λ q t run goal. off (state_at ss (number_at nodes e.node), n.runs, (q, t, run, goal)))
+          stuck y TopK (path_at nodes e.node) (state_at ss (number_at nodes e.node)) n.runs
+          (λ q t run goal. off (state_at ss (number_at nodes e.node), n.runs, (q, t, run, goal)))
 
       pub covers_on : (opened : List (List ℕ)) → Covers y opened (prefixes nodes es) → Covers y opened (prefixes nodes new)
-      covers_on opened covers = covering.hopeless_goes y (path_at nodes e.node) opened (prefixes nodes es) (prefixes nodes new) covers lost (replaced_by es [] new e gone nodes)
+      covers_on opened covers = covering.hopeless_goes y (path_at nodes e.node) opened (prefixes nodes es)
+          (prefixes nodes new) covers lost (replaced_by es [] new e gone nodes)
 
       pub each_on : (P : Entry → Type 0) → AllByRecursion P es → AllByRecursion P new
       each_on P a = each_new es [] new e gone P a tt

@@ -24,26 +24,33 @@ listed_new nodes [] i = inl refl
 listed_new nodes (k ∷ places) i = inr (listed_new nodes places i)
 
 -- nothing was opened
-pub table_none : (y : System) (most : Option ℕ) (nodes : List Node) (places : List ℕ) (keys : List (List ℕ)) → places ≡ [] → keys ≡ [] → AreOpened y most nodes places keys
+pub table_none : (y : System) (most : Option ℕ) (nodes : List Node) (places : List ℕ) (keys : List (List ℕ))
+    → places ≡ [] → keys ≡ [] → AreOpened y most nodes places keys
 table_none y most nodes places keys none bare = rw (none, bare) (record { each = tt; from = λ key h. absurd (omega (arith, h.1)) })
 
-each_inside : (y : System) (most : Option ℕ) (nodes : List Node) (keys : List (List ℕ)) (places : List ℕ) → AllByRecursion (IsOpened y most nodes keys) places → AllByRecursion (λ i. i < length nodes) places
+each_inside : (y : System) (most : Option ℕ) (nodes : List Node) (keys : List (List ℕ)) (places : List ℕ)
+    → AllByRecursion (IsOpened y most nodes keys) places → AllByRecursion (λ i. i < length nodes) places
 each_inside y most nodes keys [] a = tt
 each_inside y most nodes keys (i ∷ places) a = (a.0.inside, each_inside y most nodes keys places a.1)
 
-pub table_inside : (y : System) (most : Option ℕ) (nodes : List Node) (places : List ℕ) (keys : List (List ℕ)) → AreOpened y most nodes places keys → AllByRecursion (λ i. i < length nodes) places
+pub table_inside : (y : System) (most : Option ℕ) (nodes : List Node) (places : List ℕ) (keys : List (List ℕ))
+    → AreOpened y most nodes places keys → AllByRecursion (λ i. i < length nodes) places
 table_inside y most nodes places keys t = each_inside y most nodes keys places t.each
 
-each_cheap : (y : System) (most : Option ℕ) (nodes : List Node) (keys : List (List ℕ)) (places : List ℕ) → AllByRecursion (IsOpened y most nodes keys) places → AllByRecursion (λ p. cost_of y p ≤ top most) (opened_of nodes places)
+each_cheap : (y : System) (most : Option ℕ) (nodes : List Node) (keys : List (List ℕ)) (places : List ℕ)
+    → AllByRecursion (IsOpened y most nodes keys) places → AllByRecursion (λ p. cost_of y p ≤ top most)
+    (opened_of nodes places)
 each_cheap y most nodes keys [] a = tt
 each_cheap y most nodes keys (i ∷ places) a = (a.0.cheap, each_cheap y most nodes keys places a.1)
 
 -- none costs more than is wanted
-pub table_cheap : (y : System) (most : Option ℕ) (nodes : List Node) (places : List ℕ) (keys : List (List ℕ)) → AreOpened y most nodes places keys → AllByRecursion (λ p. cost_of y p ≤ top most) (opened_of nodes places)
+pub table_cheap : (y : System) (most : Option ℕ) (nodes : List Node) (places : List ℕ) (keys : List (List ℕ))
+    → AreOpened y most nodes places keys → AllByRecursion (λ p. cost_of y p ≤ top most) (opened_of nodes places)
 table_cheap y most nodes places keys t = each_cheap y most nodes keys places t.each
 
 -- the tree grew
-module _ (a c : List Node) (longer : length a ≤ length c) (same : (i : ℕ) → i < length a → path_at c i ≡ path_at a i) (ends : (i : ℕ) → i < length a → number_at c i ≡ number_at a i) where
+module _ (a c : List Node) (longer : length a ≤ length c) (same : (i : ℕ) → i < length a → path_at c i ≡ path_at a i)
+    (ends : (i : ℕ) → i < length a → number_at c i ≡ number_at a i) where
   key_like : (i : ℕ) (key : List ℕ) → i < length a → IsKeyAt a i key → IsKeyAt c i key
   key_like i key lt h = record {
     sorted = h.sorted;
@@ -74,25 +81,46 @@ module _ (a c : List Node) (longer : length a ≤ length c) (same : (i : ℕ) �
     pub table_like : (places : List ℕ) → AreOpened y most a places keys → AreOpened y most c places keys
     table_like places t = record {
       each = each_on places t.each;
-      from = λ key h. let w = t.from key h in (w.0, omega (arith, w.1, longer), subst (λ (l : List (List ℕ)). Listed l (path_at c w.0)) (sym (opened_like places (table_inside y most a places keys t))) (subst (Listed (opened_of a places)) (sym (same w.0 w.1)) w.2), key_like w.0 key w.1 w.3);
+      from = λ key h. let w = t.from key h in (
+        w.0,
+        omega (arith, w.1, longer),
+        subst
+            (λ (l : List (List ℕ)). Listed l (path_at c w.0))
+            (sym (opened_like places (table_inside y most a places keys t)))
+            (subst (Listed (opened_of a places)) (sym (same w.0 w.1)) w.2),
+        key_like w.0 key w.1 w.3,
+      );
     }
 
 -- one more was opened
-module _ (y : System) (most : Option ℕ) (nodes : List Node) (places : List ℕ) (keys new : List (List ℕ)) (t : AreOpened y most nodes places keys) (i : ℕ) (inside : i < length nodes) (cheap : cost_of y (path_at nodes i) ≤ top most) where
-  wider : ((k : List ℕ) → Contains keys k → Contains new k) → (is : List ℕ) → AllByRecursion (IsOpened y most nodes keys) is → AllByRecursion (IsOpened y most nodes new) is
+module _ (y : System) (most : Option ℕ) (nodes : List Node) (places : List ℕ) (keys new : List (List ℕ))
+    (t : AreOpened y most nodes places keys) (i : ℕ) (inside : i < length nodes)
+    (cheap : cost_of y (path_at nodes i) ≤ top most) where
+  wider : ((k : List ℕ) → Contains keys k → Contains new k) → (is : List ℕ)
+      → AllByRecursion (IsOpened y most nodes keys) is → AllByRecursion (IsOpened y most nodes new) is
   wider on [] all = tt
-  wider on (k ∷ is) all = (record { inside = all.0.inside; cheap = all.0.cheap; keyed = λ plan. let w = all.0.keyed plan in (w.0, w.1, on w.0 w.2) }, wider on is all.1)
+  wider on (k ∷ is) all = (
+    record {
+      inside = all.0.inside;
+      cheap = all.0.cheap;
+      keyed = λ plan.
+          let w = all.0.keyed plan in (w.0, w.1, on w.0 w.2);
+    },
+    wider on is all.1,
+  )
 
   last : (P : ℕ → Type 0) (is : List ℕ) → AllByRecursion P is → P i → AllByRecursion P (is ++ i ∷ [])
   last P [] all one = (one, tt)
   last P (k ∷ is) all one = (all.0, last P is all.1 one)
 
-  old_from : (key : List ℕ) → Contains keys key → (k : ℕ) × (k < length nodes) × Listed (opened_of nodes (places ++ i ∷ [])) (path_at nodes k) × IsKeyAt nodes k key
+  old_from : (key : List ℕ) → Contains keys key → (k : ℕ) × (k < length nodes)
+      × Listed (opened_of nodes (places ++ i ∷ [])) (path_at nodes k) × IsKeyAt nodes k key
   old_from key h = let w = t.from key h in (w.0, w.1, listed_more nodes places i (path_at nodes w.0) w.2, w.3)
 
   put_plan : (key : List ℕ) → IsKeyAt nodes i key → Noted keys new key → AreOpened y most nodes (places ++ i ∷ []) new
   put_plan key is noted = record {
-    each = last (IsOpened y most nodes new) places (wider noted.stays places t.each) (record { inside = inside; cheap = cheap; keyed = λ plan. (key, is, noted.has) });
+    each = last (IsOpened y most nodes new) places (wider noted.stays places t.each)
+        (record { inside = inside; cheap = cheap; keyed = λ plan. (key, is, noted.has) });
     from = λ k h. elim (noted.only k h) [
       | inl old ↦ old_from k old
       | inr e ↦ (i, inside, listed_new nodes places i, subst (IsKeyAt nodes i) (sym e) is)

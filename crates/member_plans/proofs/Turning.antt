@@ -1,6 +1,6 @@
 -- What turns do to what stands and to what pends.
 use Rattle.std.proofs.Common.{◌≡◌, ℕ, suc, ◌+◌, ◌<◌, ◌≤◌, ◌⊎◌, inl, inr, Bool, IsTrue, IsFalse, List, [], ◌∷◌, ◌++◌, length, slice_index_or, Option, Some, None, sym, ◌∙◌, ap, subst, arith}
-use Rattle.std.specs.List.{AllByRecursion, sum_by, All}
+use Rattle.std.specs.List.{AllByRecursion}
 use Rattle.std.specs.List.Sorted.{IsPermutation}
 use Rattle.std.proofs.lemmas.List.{length-append}
 use Rattle.std.proofs.lemmas.List.Elements.{recursion_from_All}
@@ -8,13 +8,12 @@ use Rattle.std.proofs.lemmas.List.Sorted.{length_permutation}
 use Rattle.symk_task.specs.declared.parts.Mode.TheVariants.{TopK}
 use Rattle.task_system.specs.System.{System, Listed, cost_of}
 use Rattle.space_api.specs.View.{View}
-use Rattle.space_api.specs.Listing.{ListsReached}
 use Rattle.lazy_plans.specs.Law.{Stays, top}
 use Rattle.cost_to_go.specs.declared.search.CostToGo.{CostToGo}
 use Rattle.prefix_laws.specs.Queue.{Replaced}
 use Rattle.prefix_tree.specs.StateGraph.{states_of, state_at, IsStateGraph}
 use Rattle.prefix_tree.specs.Tree.{Grows, path_at, end_at}
-use Rattle.prefix_tree.specs.Entries.{prefixes}
+use Rattle.prefix_tree.specs.Entries.{entries_of, prefixes}
 use Rattle.prefix_tree.specs.declared.state_graph.StateGraph.{StateGraph}
 use Rattle.prefix_tree.specs.declared.tree.Node.{Node}
 use Rattle.prefix_tree.specs.declared.entry.Entry.{Entry}
@@ -24,7 +23,7 @@ use Rattle.class_plans.specs.Members.{GaveMember}
 use Rattle.prefix_ends.specs.Left.{Known, known_of}
 use Rattle.prefix_ends.specs.Children.{IsEntry, IsOutdated, outdated}
 use Rattle.prefix_ends.specs.Standing.{IsReady, Learned, listed_of, all_outdated}
-use Rattle.prefix_ends.proofs.Dating.{outdated_sum, unranked_dated}
+use Rattle.prefix_ends.proofs.Dating.{outdated_replaced, unranked_dated}
 use Rattle.prefix_ends.proofs.Growing.{each_like}
 use Rattle.prefix_ends.proofs.Replacing.{each_of_new, ready_grown, fresh_of}
 use Rattle.member_laws.specs.Nodes.{IsJoined, Covers, PendsNode, MetOrNone}
@@ -33,7 +32,9 @@ use Rattle.member_laws.proofs.Covering as covering
 use Rattle.member_laws.proofs.Pending as pending
 use Rattle.member_plans.specs.Children.{AreEnough}
 use Rattle.member_plans.specs.Opened.{opened_of, AreOpened, AddsKey}
-use Rattle.member_plans.proofs.Beside.{bounds_least}
+use Rattle.member_plans.specs.Front.{waiting, opened, IsSteady, IsDue}
+use Rattle.member_plans.specs.declared.front.Front.{Front}
+use Rattle.member_plans.proofs.Beside.{first_entry, bounds_least}
 use Rattle.member_plans.proofs.Table.{opened_last, opened_like, table_inside, table_like, table_put}
 
 -- How many entries wait, and how many of them are out of date.
@@ -42,52 +43,66 @@ few : (o : Option Entry) → length (listed_of o) ≤ 1
 few None = omega arith
 few (Some k) = omega arith
 
-pub less_learned : (known : Known) (es kids new : List Entry) (e : Entry) → IsPermutation (es ++ kids) (e ∷ new) → length kids ≤ 1 → all_outdated known kids ≡ 0 → outdated known e ≡ 1
+pub less_learned : (known : Known) (es kids new : List Entry) (e : Entry) → IsPermutation (es ++ kids) (e ∷ new)
+    → length kids ≤ 1 → all_outdated known kids ≡ 0 → outdated known e ≡ 1
     → length new + all_outdated known new < length es + all_outdated known es
 less_learned known es kids new e perm one fresh own =
-    numbers (length es) (length kids) (length new) (all_outdated known es) (all_outdated known kids) (outdated known e) (all_outdated known new) (sum_by (outdated known) es) (sum_by (outdated known) kids) (sum_by (outdated known) new)
+    numbers (length es) (length kids) (length new) (all_outdated known es) (all_outdated known new)
     (counted (length (es ++ kids)) (length es) (length kids) (length new) (length-append es kids) (sym (length_permutation (es ++ kids) (e ∷ new) perm))) one
-    (entries_replaced es kids new e perm (outdated known)) (outdated_sum known es) (outdated_sum known kids) (outdated_sum known new) fresh own
+    (gone (all_outdated known es) (all_outdated known kids) (outdated known e) (all_outdated known new)
+    (outdated_replaced known es kids new e (entries_replaced es kids new e perm)) fresh own)
   where
     counted : (whole a b c : ℕ) → whole ≡ a + b → whole ≡ suc c → a + b ≡ 1 + c
     counted whole a b c p q = omega (arith, p, q)
 
-    numbers : (a b c o k s n p q r : ℕ) → a + b ≡ 1 + c → b ≤ 1 → p + q ≡ s + r → o ≡ p → k ≡ q → n ≡ r → k ≡ 0 → s ≡ 1 → c + n < a + o
-    numbers a b c o k s n p q r h one t i j l z w = omega (arith, h, one, t, i, j, l, z, w)
+    gone : (o k s n : ℕ) → o + k ≡ s + n → k ≡ 0 → s ≡ 1 → o ≡ 1 + n
+    gone o k s n h z w = omega (arith, h, z, w)
 
-pub less_dropped : (known : Known) (es new : List Entry) (e : Entry) → IsPermutation (es ++ []) (e ∷ new) → length new + all_outdated known new < length es + all_outdated known es
+    numbers : (a b c o n : ℕ) → a + b ≡ 1 + c → b ≤ 1 → o ≡ 1 + n → c + n < a + o
+    numbers a b c o n h one g = omega (arith, h, one, g)
+
+pub less_dropped : (known : Known) (es new : List Entry) (e : Entry) → IsPermutation (es ++ []) (e ∷ new)
+    → length new + all_outdated known new < length es + all_outdated known es
 less_dropped known es new e perm =
-    numbers (length es) (length new) (all_outdated known es) (outdated known e) (all_outdated known new) (sum_by (outdated known) es) (sum_by (outdated known) new)
+    numbers (length es) (length new) (all_outdated known es) (outdated known e) (all_outdated known new)
     (counted (length (es ++ [])) (length es) (length new) (length-append es []) (sym (length_permutation (es ++ []) (e ∷ new) perm)))
-    (entries_replaced es [] new e perm (outdated known)) (outdated_sum known es) (outdated_sum known new)
+    (outdated_replaced known es [] new e (entries_replaced es [] new e perm))
   where
     counted : (whole a c : ℕ) → whole ≡ a + 0 → whole ≡ suc c → a ≡ 1 + c
     counted whole a c p q = omega (arith, p, q)
 
-    numbers : (a c o s n p r : ℕ) → a ≡ 1 + c → p + 0 ≡ s + r → o ≡ p → n ≡ r → c + n < a + o
-    numbers a c o s n p r h t i l = omega (arith, h, t, i, l)
+    numbers : (a c o s n : ℕ) → a ≡ 1 + c → o + 0 ≡ s + n → c + n < a + o
+    numbers a c o s n h t = omega (arith, h, t)
 
-module _ {Set : Type 0} (v : View Set) (f : CostToGo Set) (m : StateGraph) (nodes : List Node) (es new : List Entry) (e : Entry) (opened : List (List ℕ)) (covers : Covers v.system opened (prefixes nodes es)) where
+module _ {Set : Type 0} (v : View Set) (f : CostToGo Set) (m : StateGraph) (nodes : List Node) (es new : List Entry)
+    (e : Entry) (opened : List (List ℕ)) (covers : Covers v.system opened (prefixes nodes es)) where
   -- what was learned of the first entry
   pub learned_covers : Learned v f nodes e es new → Covers v.system opened (prefixes nodes new)
-  learned_covers (None, lost, perm) = covering.hopeless_goes v.system (path_at nodes e.node) opened (prefixes nodes es) (prefixes nodes new) covers lost (replaced_by es [] new e perm nodes)
+  learned_covers (None, lost, perm) = covering.hopeless_goes v.system (path_at nodes e.node) opened
+      (prefixes nodes es) (prefixes nodes new) covers lost (replaced_by es [] new e perm nodes)
   learned_covers (Some k, better, perm) =
       let path : path_at nodes k.node ≡ path_at nodes e.node = ap (path_at nodes) better.0 in
-      let taken : Replaced (prefixes nodes es) (path_at nodes e.node ∷ []) (path_at nodes e.node) (prefixes nodes new) = subst (λ (p : List ℕ). Replaced (prefixes nodes es) (p ∷ []) (path_at nodes e.node) (prefixes nodes new)) path (replaced_by es (k ∷ []) new e perm nodes) in
+      let taken : Replaced (prefixes nodes es) (path_at nodes e.node ∷ []) (path_at nodes e.node)
+      (prefixes nodes new) = subst (λ (p : List ℕ). Replaced (prefixes nodes es) (p ∷ []) (path_at nodes e.node)
+      (prefixes nodes new)) path (replaced_by es (k ∷ []) new e perm nodes) in
       covering.comes_back v.system (path_at nodes e.node) opened (prefixes nodes es) (prefixes nodes new) covers taken
 
-  pub learned_less : IsFalse e.settled → IsOutdated (known_of f) e → Learned v f nodes e es new → length new + all_outdated (known_of f) new < length es + all_outdated (known_of f) es
-  learned_less off more (o, better, perm) = less_learned (known_of f) es (listed_of o) new e perm (few o) (fresh_of v f m nodes es new e o better) (unranked_dated (known_of f) e off more)
+  pub learned_less : IsFalse e.settled → IsOutdated (known_of f) e → Learned v f nodes e es new
+      → length new + all_outdated (known_of f) new < length es + all_outdated (known_of f) es
+  learned_less off more (o, better, perm) = less_learned (known_of f) es (listed_of o) new e perm (few o)
+      (fresh_of v f m nodes es new e o better) (unranked_dated (known_of f) e off more)
 
   -- the first entry joins one that was opened, and is left out
   pub dropped_covers : IsJoined v.system opened (path_at nodes e.node) → IsPermutation (es ++ []) (e ∷ new) → Covers v.system opened (prefixes nodes new)
-  dropped_covers joined perm = covering.joined_goes v.system (path_at nodes e.node) opened (prefixes nodes es) (prefixes nodes new) covers joined (replaced_by es [] new e perm nodes)
+  dropped_covers joined perm = covering.joined_goes v.system (path_at nodes e.node) opened (prefixes nodes es)
+      (prefixes nodes new) covers joined (replaced_by es [] new e perm nodes)
 
   pub dropped_each : AllByRecursion (IsEntry v f nodes) es → IsPermutation (es ++ []) (e ∷ new) → AllByRecursion (IsEntry v f nodes) new
   dropped_each each perm = each_new es [] new e perm (IsEntry v f nodes) each tt
 
 -- the tree grew, and all else is as it was
-module _ {Set : Type 0} (v : View Set) (f : CostToGo Set) (most : Option ℕ) (m n : StateGraph) (a c : List Node) (es : List Entry) (places : List ℕ) (keys : List (List ℕ))
+module _ {Set : Type 0} (v : View Set) (f : CostToGo Set) (most : Option ℕ) (m n : StateGraph) (a c : List Node)
+    (es : List Entry) (places : List ℕ) (keys : List (List ℕ))
     (graph : IsStateGraph v.system n) (g : Grows v.system TopK (states_of n) a c) (z : IsReady v f m a es) (table : AreOpened v.system most a places keys) where
   pub grown_ready : IsReady v f n c es
   grown_ready = ready_grown v f m n a c es graph g z
@@ -102,11 +117,15 @@ module _ {Set : Type 0} (v : View Set) (f : CostToGo Set) (most : Option ℕ) (m
   grown_prefixes = prefixes_like (IsEntry v f a) a c es (λ k w. w.inside) g.paths z.each
 
   pub grown_covers : Covers v.system (opened_of a places) (prefixes a es) → Covers v.system (opened_of c places) (prefixes c es)
-  grown_covers k = subst (λ (o : List (List ℕ)). Covers v.system o (prefixes c es)) (sym grown_opened) (subst (Covers v.system (opened_of a places)) (sym grown_prefixes) k)
+  grown_covers k = subst (λ (o : List (List ℕ)). Covers v.system o (prefixes c es)) (sym grown_opened)
+      (subst (Covers v.system (opened_of a places)) (sym grown_prefixes) k)
 
   -- the first entry is opened: its children come
-  module _ (e : Entry) (some : 0 < length es) (first : e ≡ slice_index_or es 0 e) (cheap : e.bound.0 ≤ top most) (covers : Covers v.system (opened_of a places) (prefixes a es))
-      (kids new : List Entry) (more : List (List ℕ)) (enough : AreEnough v f c (path_at a e.node) (end_at (states_of n) a e.node) kids) (perm : IsPermutation (es ++ kids) (e ∷ new)) (put : AddsKey c e.node e.at_goal keys more) where
+  module _ (e : Entry) (some : 0 < length es) (first : e ≡ slice_index_or es 0 e) (cheap : e.bound.0 ≤ top most)
+      (covers : Covers v.system (opened_of a places) (prefixes a es))
+      (kids new : List Entry) (more : List (List ℕ)) (enough : AreEnough v f c (path_at a e.node)
+      (end_at (states_of n) a e.node) kids) (perm : IsPermutation (es ++ kids) (e ∷ new))
+      (put : AddsKey c e.node e.at_goal keys more) where
     old_entry : IsEntry v f a e
     old_entry = first_is (IsEntry v f a) es e some first z.each
 
@@ -117,7 +136,14 @@ module _ {Set : Type 0} (v : View Set) (f : CostToGo Set) (most : Option ℕ) (m
     path = g.paths e.node old_entry.inside
 
     pub opened_ready : IsReady v f n c new
-    opened_ready = record { alone = z.alone; graph = graph; tree = g.tree; each = each_new es kids new e perm (IsEntry v f c) (each_like v f a c g.longer g.paths es z.each) (each_of_new v f c kids enough.chosen.each) }
+    opened_ready = record {
+      alone = z.alone;
+      graph = graph;
+      tree = g.tree;
+      each =
+          each_new es kids new e perm (IsEntry v f c) (each_like v f a c g.longer g.paths es z.each)
+          (each_of_new v f c kids enough.chosen.each);
+    }
 
     fits : cost_of v.system (path_at c e.node) ≤ top most
     fits = omega (arith, entry.cost, entry.least, cheap)
@@ -126,13 +152,16 @@ module _ {Set : Type 0} (v : View Set) (f : CostToGo Set) (most : Option ℕ) (m
     opened_table = table_put v.system most c places keys more grown_table e.node entry.inside fits e.at_goal entry.plan put
 
     pub opened_is : opened_of c (places ++ e.node ∷ []) ≡ opened_of a places ++ path_at a e.node ∷ []
-    opened_is = opened_last c places e.node ∙ (ap (λ (o : List (List ℕ)). o ++ path_at c e.node ∷ []) grown_opened ∙ ap (λ (p : List ℕ). opened_of a places ++ p ∷ []) path)
+    opened_is = opened_last c places e.node ∙ (ap (λ (o : List (List ℕ)). o ++ path_at c e.node ∷ []) grown_opened
+        ∙ ap (λ (p : List ℕ). opened_of a places ++ p ∷ []) path)
 
-    reached : ReachedBelow v.system enough.set (opened_of c places) (prefixes c es) (path_at c e.node) (end_at (states_of n) c e.node) v.system.operators (prefixes c kids)
-    reached op lt on applies = subst (λ (p : List ℕ). Listed (prefixes c kids) (p ++ op ∷ []) ⊎ MetOrNone v.system (opened_of c places) (prefixes c es) (p ++ op ∷ [])) (sym path) (elim (enough.chosen.all op lt on) [
-      | inl none ↦ inr (inr none)
-      | inr l ↦ inl l
-    ])
+    reached : ReachedBelow v.system enough.set (opened_of c places) (prefixes c es) (path_at c e.node)
+        (end_at (states_of n) c e.node) v.system.operators (prefixes c kids)
+    reached op lt on applies = subst (λ (p : List ℕ). Listed (prefixes c kids) (p ++ op ∷ []) ⊎ MetOrNone v.system
+        (opened_of c places) (prefixes c es) (p ++ op ∷ [])) (sym path) (elim (enough.chosen.all op lt on) [
+          | inl none ↦ inr (inr none)
+          | inr l ↦ inl l
+        ])
 
     opening : Opening v.system (opened_of c places) (prefixes c es) (prefixes c kids) (path_at c e.node)
     opening = record {
@@ -144,11 +173,18 @@ module _ {Set : Type 0} (v : View Set) (f : CostToGo Set) (most : Option ℕ) (m
     }
 
     pub opened_covers : Covers v.system (opened_of c (places ++ e.node ∷ [])) (prefixes c new)
-    opened_covers = subst (λ (o : List (List ℕ)). Covers v.system o (prefixes c new)) (sym (opened_last c places e.node)) (covering.opening_covers v.system (path_at c e.node) (opened_of c places) (prefixes c es) (prefixes c kids) (prefixes c new) (grown_covers covers) opening (replaced_by es kids new e perm c))
+    opened_covers = subst (λ (o : List (List ℕ)). Covers v.system o (prefixes c new))
+        (sym (opened_last c places e.node)) (covering.opening_covers v.system (path_at c e.node)
+        (opened_of c places) (prefixes c es) (prefixes c kids) (prefixes c new) (grown_covers covers) opening
+        (replaced_by es kids new e perm c))
 
 -- the first entry was opened, which is no plan
-pub pass_same : {Set : Type 0} (v : View Set) (f : CostToGo Set) (nodes : List Node) (e : Entry) (old new : List (List ℕ)) → IsEntry v f nodes e → IsFalse e.at_goal → new ≡ old ++ path_at nodes e.node ∷ [] → Stays (PendsNode v.system old) (PendsNode v.system new)
-pass_same v f nodes e old new z off is = subst (λ (o : List (List ℕ)). Stays (PendsNode v.system old) (PendsNode v.system o)) (sym is) (pending.opening_keeps v.system (path_at nodes e.node) old (λ plan. clash e.at_goal (z.plan.1 plan) off))
+pub pass_same : {Set : Type 0} (v : View Set) (f : CostToGo Set) (nodes : List Node) (e : Entry)
+    (old new : List (List ℕ)) → IsEntry v f nodes e → IsFalse e.at_goal → new ≡ old ++ path_at nodes e.node ∷ []
+    → Stays (PendsNode v.system old) (PendsNode v.system new)
+pass_same v f nodes e old new z off is = subst (λ (o : List (List ℕ)). Stays (PendsNode v.system old)
+    (PendsNode v.system o)) (sym is) (pending.opening_keeps v.system (path_at nodes e.node) old
+    (λ plan. clash e.at_goal (z.plan.1 plan) off))
   where
     clash : (b : Bool) → IsTrue b → IsFalse b → ⊥
     clash b on off = cc
@@ -158,11 +194,14 @@ pub stays_same : (y : System) (old new : List (List ℕ)) → new ≡ old → St
 stays_same y old new is = subst (λ (o : List (List ℕ)). Stays (PendsNode y old) (PendsNode y o)) (sym is) (λ p. ((λ h. h), (λ h. h)))
 
 -- it is a plan that is due
-pub give_gives : {Set : Type 0} (v : View Set) (f : CostToGo Set) (m : StateGraph) (nodes : List Node) (es : List Entry) (most : Option ℕ) (e : Entry) (old new : List (List ℕ)) → ListsReached v.system → IsReady v f m nodes es → Covers v.system old (prefixes nodes es)
-    → 0 < length es → e ≡ slice_index_or es 0 e → All (λ k. e.bound.0 ≤ k.bound.0) es → e.bound.0 ≤ top most → IsTrue e.at_goal → ¬ IsJoined v.system old (path_at nodes e.node) → new ≡ old ++ path_at nodes e.node ∷ []
-    → GaveMember v.system most (PendsNode v.system old) (PendsNode v.system new) (path_at nodes e.node)
-give_gives v f m nodes es most e old new lists z covers some first least cheap on free is =
-    let k = first_is (IsEntry v f nodes) es e some first z.each in
-    let le : cost_of v.system (path_at nodes e.node) ≤ e.bound.0 = omega (arith, k.cost, k.least) in
-    subst (λ (o : List (List ℕ)). GaveMember v.system most (PendsNode v.system old) (PendsNode v.system o) (path_at nodes e.node)) (sym is)
-    (pending.opening_gives v.system old (prefixes nodes es) lists covers most e.bound.0 (path_at nodes e.node) (bounds_least v f nodes e es z.each (recursion_from_All (λ k. e.bound.0 ≤ k.bound.0) es least)) (k.plan.0 on) free le (omega (arith, le, cheap)))
+pub give_gives : {Set : Type 0} (v : View Set) (f : CostToGo Set) (most : Option ℕ) (x z : Front) (e : Entry)
+    → IsSteady v f most x → IsDue v.system most x e → opened z ≡ opened x ++ path_at x.tree.items e.node ∷ []
+    → GaveMember v.system most (PendsNode v.system (opened x)) (PendsNode v.system (opened z)) (path_at x.tree.items e.node)
+give_gives v f most x z e s d is =
+    let path = path_at x.tree.items e.node in
+    let k = first_entry v f x.graph x.tree.items (entries_of x.queue) (entries_of x.other) e d.some d.first s.ready in
+    let le : cost_of v.system (path_at x.tree.items e.node) ≤ e.bound.0 = omega (arith, k.cost, k.least) in
+    let least = bounds_least v f x.tree.items e (waiting x) s.ready.each (recursion_from_All (λ i. e.bound.0 ≤ i.bound.0) (waiting x) d.least) in
+    subst (λ (o : List (List ℕ)). GaveMember v.system most (PendsNode v.system (opened x)) (PendsNode v.system o) path) (sym is)
+    (pending.opening_gives v.system (opened x) (prefixes x.tree.items (waiting x)) s.serves.lists s.covers most
+    e.bound.0 path least (k.plan.0 d.plan) d.fresh le (omega (arith, le, d.cheap)))

@@ -1,5 +1,5 @@
 -- How turns stop, and turns one after the other.
-use Rattle.std.proofs.Common.{◌≡◌, ℕ, ◌+◌, ◌-◌, ◌<◌, ◌≤◌, ◌^◌, List, [], ◌++◌, length, Option, Some, None, Result, Ok, Err, IfOk, sym, ◌∙◌, subst, arith}
+use Rattle.std.proofs.Common.{◌≡◌, ℕ, ◌+◌, ◌-◌, ◌<◌, ◌≤◌, ◌^◌, List, [], ◌++◌, length, Option, Some, None, Result, Ok, Err, IfOk, sym, subst, arith}
 use Rattle.std.specs.List.{AllByRecursion}
 use Rattle.std.specs.List.Sorted.{IsPermutation}
 use Rattle.task_system.specs.System.{System}
@@ -38,7 +38,10 @@ same_self y x p = ((λ h. h), (λ h. h))
 pub follows_self : {Set : Type 0} (v : View Set) (f : CostToGo Set) (most : Option ℕ) (x : Front) → IsSteady v f most x → Follows v f most x x
 follows_self v f most x z = record { steady = z; same = same_self v.system x; more = omega arith }
 
-pub follows_requeued : {Set : Type 0} (v : View Set) (f : CostToGo Set) (most : Option ℕ) (x : Front) (q o : Queue) → IsSteady v f most x → AllByRecursion (IsEntry v f x.tree.items) (entries_of q ++ entries_of o) → Covers v.system (opened x) (prefixes x.tree.items (entries_of q ++ entries_of o)) → Follows v f most x (requeued x q o)
+pub follows_requeued : {Set : Type 0} (v : View Set) (f : CostToGo Set) (most : Option ℕ) (x : Front) (q o : Queue)
+    → IsSteady v f most x → AllByRecursion (IsEntry v f x.tree.items) (entries_of q ++ entries_of o)
+    → Covers v.system (opened x) (prefixes x.tree.items (entries_of q ++ entries_of o))
+    → Follows v f most x (requeued x q o)
 follows_requeued v f most x q o z each covers = record {
   steady = record {
     ready = record { alone = z.ready.alone; graph = z.ready.graph; tree = z.ready.tree; each = each };
@@ -51,11 +54,15 @@ follows_requeued v f most x q o z each covers = record {
 }
 
 -- the queues have the entries that they had
-pub kept_follows : {Set : Type 0} (v : View Set) (f : CostToGo Set) (most : Option ℕ) (x : Front) (q o : Queue) → IsSteady v f most x → entries_of q ++ entries_of o ≡ waiting x → Follows v f most x (requeued x q o)
-kept_follows v f most x q o z same = follows_requeued v f most x q o z (subst (AllByRecursion (IsEntry v f x.tree.items)) (sym same) z.ready.each) (subst (λ (es : List Entry). Covers v.system (opened x) (prefixes x.tree.items es)) (sym same) z.covers)
+pub kept_follows : {Set : Type 0} (v : View Set) (f : CostToGo Set) (most : Option ℕ) (x : Front) (q o : Queue)
+    → IsSteady v f most x → entries_of q ++ entries_of o ≡ waiting x → Follows v f most x (requeued x q o)
+kept_follows v f most x q o z same = follows_requeued v f most x q o z
+    (subst (AllByRecursion (IsEntry v f x.tree.items)) (sym same) z.ready.each)
+    (subst (λ (es : List Entry). Covers v.system (opened x) (prefixes x.tree.items es)) (sym same) z.covers)
 
 -- the same, as the search and the space go on
-pub steady_on : {Set : Type 0} (v w : View Set) (f h : CostToGo Set) (most : Option ℕ) (x : Front) → w.system ≡ v.system → IsReady w h x.graph x.tree.items (waiting x) → IsSteady v f most x → IsSteady w h most x
+pub steady_on : {Set : Type 0} (v w : View Set) (f h : CostToGo Set) (most : Option ℕ) (x : Front)
+    → w.system ≡ v.system → IsReady w h x.graph x.tree.items (waiting x) → IsSteady v f most x → IsSteady w h most x
 steady_on v w f h most x same ready z = record {
   ready = ready;
   serves = subst (Serves x.moves) (sym same) z.serves;
@@ -67,15 +74,19 @@ pub steady_stays : {Set : Type 0} (v w : View Set) (f : CostToGo Set) (most : Op
 steady_stays v w f most x s z = steady_on v w f f most x s.kept.system (ready_stays v w f x.graph x.tree.items (waiting x) s z.ready) z
 
 -- one after the other
-pub follows_then : {Set : Type 0} (u v w : View Set) (f g h : CostToGo Set) (most : Option ℕ) (x m z : Front) → v.system ≡ u.system → w.system ≡ u.system → Follows v g most x m → Follows w h most m z → Follows w h most x z
-follows_then u v w f g h most x m z a b k l = record {
+pub follows_then : {Set : Type 0} {v w : View Set} {f h : CostToGo Set} {most : Option ℕ} {x m z : Front}
+    → w.system ≡ v.system → Follows v f most x m → Follows w h most m z → Follows w h most x z
+follows_then {Set} {v} {w} {f} {h} {most} {x} {m} {z} on k l = record {
   steady = l.steady;
-  same = stays_trans (PendsNode w.system (opened x)) (PendsNode w.system (opened m)) (PendsNode w.system (opened z)) (subst (λ (y : System). SamePends y x m) (a ∙ sym b) k.same) l.same;
+  same = stays_trans (PendsNode w.system (opened x)) (PendsNode w.system (opened m)) (PendsNode w.system (opened z))
+      (subst (λ (y : System). SamePends y x m) (sym on) k.same) l.same;
   more = omega (arith, k.more, l.more);
 }
 
 -- the first turns opened something or not
-pub halts_after : (y : System) (known : Known) (most : Option ℕ) (x m z : Front) → length (places x) ≤ length (places m) → (halt : Halt) → HaltsAt y known most m z halt → HaltsAt y known most x z halt
+pub halts_after : (y : System) (known : Known) (most : Option ℕ) (x m z : Front)
+    → length (places x) ≤ length (places m) → (halt : Halt) → HaltsAt y known most m z halt
+    → HaltsAt y known most x z halt
 halts_after y known most x m z le (Due e) h = h
 halts_after y known most x m z le Opens h = (omega (arith, le, h.0), h.1)
 halts_after y known most x m z le Waits h = h
@@ -83,19 +94,25 @@ halts_after y known most x m z le Ends h = h
 halts_after y known most x m z le OutOfRange h = h
 
 -- no entry is left
-pub empty_ends : {Set : Type 0} (v : View Set) (f : CostToGo Set) (most : Option ℕ) (x : Front) → IsSteady v f most x → waiting x ≡ [] → NoneLeft v.system most (PendsNode v.system (opened x))
-empty_ends v f most x z none = pending.empty_leaves v.system most (opened x) z.serves.lists (subst (λ (es : List Entry). Covers v.system (opened x) (prefixes x.tree.items es)) none z.covers)
+pub empty_ends : {Set : Type 0} (v : View Set) (f : CostToGo Set) (most : Option ℕ) (x : Front) → IsSteady v f most x
+    → waiting x ≡ [] → NoneLeft v.system most (PendsNode v.system (opened x))
+empty_ends v f most x z none = pending.empty_leaves v.system most (opened x) z.serves.lists
+    (subst (λ (es : List Entry). Covers v.system (opened x) (prefixes x.tree.items es)) none z.covers)
 
 -- each entry is dearer than what is wanted
-pub past_ends : {Set : Type 0} (v : View Set) (f : CostToGo Set) (most : Option ℕ) (m : ℕ) (x : Front) → most ≡ Some m → IsSteady v f most x → AllByRecursion (λ (k : Entry). top most < k.bound.0) (waiting x) → NoneLeft v.system most (PendsNode v.system (opened x))
+pub past_ends : {Set : Type 0} (v : View Set) (f : CostToGo Set) (most : Option ℕ) (m : ℕ) (x : Front) → most ≡ Some m
+    → IsSteady v f most x → AllByRecursion (λ (k : Entry). top most < k.bound.0) (waiting x)
+    → NoneLeft v.system most (PendsNode v.system (opened x))
 past_ends v f None m x is z dear = absurd (none_some is)
   where
     none_some : None ≡ Some m → ⊥
     none_some e = cc
-past_ends v f (Some n) m x is z dear = pending.dear_leaves v.system (opened x) (prefixes x.tree.items (waiting x)) z.serves.lists z.covers n (n + 1) (bounds_past v f x.tree.items n (waiting x) z.ready.each dear) (omega arith)
+past_ends v f (Some n) m x is z dear = pending.dear_leaves v.system (opened x) (prefixes x.tree.items (waiting x))
+    z.serves.lists z.covers n (n + 1) (bounds_past v f x.tree.items n (waiting x) z.ready.each dear) (omega arith)
 
 -- all entries came into the one queue
-module _ {Set : Type 0} (v : View Set) (f : CostToGo Set) (most : Option ℕ) (x : Front) (q : Queue) (joined : IsPermutation (waiting x) (entries_of q)) (z : IsSteady v f most x) where
+module _ {Set : Type 0} (v : View Set) (f : CostToGo Set) (most : Option ℕ) (x : Front) (q : Queue)
+    (joined : IsPermutation (waiting x) (entries_of q)) (z : IsSteady v f most x) where
   pub joined_each : AllByRecursion (IsEntry v f x.tree.items) (entries_of q)
   joined_each = permuted_each (IsEntry v f x.tree.items) (waiting x) (entries_of q) joined z.ready.each
 
@@ -103,8 +120,11 @@ module _ {Set : Type 0} (v : View Set) (f : CostToGo Set) (most : Option ℕ) (x
   joined_covers = permuted_covers v.system x.tree.items (opened x) (waiting x) (entries_of q) joined z.covers
 
   -- first ones from which no plan goes on were taken out, by a space that is as before
-  pub left_follows : (w : View Set) (r o : Queue) → SameSets v w → entries_of o ≡ [] → (AllByRecursion (IsEntry v f x.tree.items) (entries_of q) → AllByRecursion (IsEntry v f x.tree.items) (entries_of r))
-      → (Covers v.system (opened x) (prefixes x.tree.items (entries_of q)) → Covers v.system (opened x) (prefixes x.tree.items (entries_of r))) → Follows w f most x (requeued x r o)
+  pub left_follows : (w : View Set) (r o : Queue) → SameSets v w → entries_of o ≡ []
+      → (AllByRecursion (IsEntry v f x.tree.items) (entries_of q)
+      → AllByRecursion (IsEntry v f x.tree.items) (entries_of r))
+      → (Covers v.system (opened x) (prefixes x.tree.items (entries_of q))
+      → Covers v.system (opened x) (prefixes x.tree.items (entries_of r))) → Follows w f most x (requeued x r o)
   left_follows w r o s none each covers =
       let all : entries_of r ++ entries_of o ≡ entries_of r = beside_none (entries_of r) (entries_of o) none in
       let here = subst (AllByRecursion (IsEntry v f x.tree.items)) (sym all) (each joined_each) in
@@ -119,7 +139,8 @@ module _ {Set : Type 0} (v : View Set) (f : CostToGo Set) (most : Option ℕ) (x
 abbrev pub reranked : Front → Ranks → Front
 reranked x r = record x { ranks = r }
 
-pub reranked_follows : {Set : Type 0} (v : View Set) (f : CostToGo Set) (most : Option ℕ) (x z : Front) (r : Ranks) → Follows v f most x z → Follows v f most x (reranked z r)
+pub reranked_follows : {Set : Type 0} (v : View Set) (f : CostToGo Set) (most : Option ℕ) (x z : Front) (r : Ranks)
+    → Follows v f most x z → Follows v f most x (reranked z r)
 reranked_follows v f most x z r k = record {
   steady = record { ready = k.steady.ready; serves = k.steady.serves; table = k.steady.table; covers = k.steady.covers };
   same = k.same;
@@ -138,7 +159,13 @@ module _ {Set : Type 0} (v : View Set) (f : CostToGo Set) (most : Option ℕ) (x
   pub rearranged_follows : IsSteady v f most x → Follows v f most x z
   rearranged_follows s = subst (Follows v f most x) is_mixed (record {
     steady = record {
-      ready = record { alone = s.ready.alone; graph = s.ready.graph; tree = s.ready.tree; each = permuted_each (IsEntry v f x.tree.items) (waiting x) (waiting z) k.entries s.ready.each };
+      ready = record {
+        alone = s.ready.alone;
+        graph = s.ready.graph;
+        tree = s.ready.tree;
+        each =
+            permuted_each (IsEntry v f x.tree.items) (waiting x) (waiting z) k.entries s.ready.each;
+      };
       serves = s.serves;
       table = s.table;
       covers = permuted_covers v.system x.tree.items (opened x) (waiting x) (waiting z) k.entries s.covers;
@@ -148,16 +175,22 @@ module _ {Set : Type 0} (v : View Set) (f : CostToGo Set) (most : Option ℕ) (x
   })
 
 -- a turn after the queues were rearranged
-pub turned_on : (y : System) (known : Known) (most : Option ℕ) (x m z : Front) → IsPermutation (waiting x) (waiting m) → length (places x) ≤ length (places m) → (o : Option Halt) → TurnOf y known most m z o → TurnOf y known most x z o
+pub turned_on : (y : System) (known : Known) (most : Option ℕ) (x m z : Front) → IsPermutation (waiting x) (waiting m)
+    → length (places x) ≤ length (places m) → (o : Option Halt) → TurnOf y known most m z o
+    → TurnOf y known most x z o
 turned_on y known most x m z same le None h = omega (arith, h, permuted_work known (waiting x) (waiting m) same)
 turned_on y known most x m z same le (Some halt) h = halts_after y known most x m z le halt h
 
-pub if_turned : {E : Type 0} (y : System) (known : Known) (most : Option ℕ) (x m z : Front) → IsPermutation (waiting x) (waiting m) → length (places x) ≤ length (places m) → (r : Result (Option Halt) E) → IfOk r (TurnOf y known most m z) → IfOk r (TurnOf y known most x z)
+pub if_turned : {E : Type 0} (y : System) (known : Known) (most : Option ℕ) (x m z : Front)
+    → IsPermutation (waiting x) (waiting m) → length (places x) ≤ length (places m) → (r : Result (Option Halt) E)
+    → IfOk r (TurnOf y known most m z) → IfOk r (TurnOf y known most x z)
 if_turned y known most x m z same le (Ok o) h = turned_on y known most x m z same le o h
 if_turned y known most x m z same le (Err e) h = tt
 
 -- the search went on
-pub follows_on : {Set : Type 0} (v w : View Set) (f h : CostToGo Set) (most : Option ℕ) (x z : Front) → w.system ≡ v.system → IsReady w h z.graph z.tree.items (waiting z) → Follows v f most x z → Follows w h most x z
+pub follows_on : {Set : Type 0} (v w : View Set) (f h : CostToGo Set) (most : Option ℕ) (x z : Front)
+    → w.system ≡ v.system → IsReady w h z.graph z.tree.items (waiting z)
+    → Follows v f most x z → Follows w h most x z
 follows_on v w f h most x z same ready k = record {
   steady = steady_on v w f h most z same ready k.steady;
   same = subst (λ (y : System). SamePends y x z) (sym same) k.same;

@@ -134,35 +134,8 @@ fn end<S: Space, L: Ledger>(
     }
 }
 
-/// What is done with the first entry: the list ends where it is dearer than any plan that is given.
-fn act_or_end<S: Space, L: Ledger>(
-    alloc: Global,
-    space: &mut S,
-    search: &CostToGo<S::Set>,
-    within: S::Set,
-    most: Option<u64>,
-    front: &mut Front,
-    entry: Entry,
-    steps: &mut Steps<L>,
-) -> Result<Option<Halt>, SpaceFault>
-    requires steady { IsSteady (S.view space.old) search.now most front.old }
-    requires within { within ≡ within_of search.now }
-    requires some { 0 < length (entries_of front.old.queue) }
-    requires first { entry ≡ slice_index_or (entries_of front.old.queue) 0 entry }
-    requires least { All (λ k. entry.bound.0 ≤ k.bound.0) (waiting front.old) }
-    ensures system { (S.view space.new).system ≡ (S.view space.old).system }
-    ensures follows { Follows (S.view space.new) search.now most front.old front.new }
-    ensures ok { IfOk result (TurnOf (S.view space.old).system (known_of search.now) most front.old front.new) }
-    ensures steps { steps.old ≤ steps.new }
-{
-    if entry.bound.0 > top_of(most) as u128 {
-        let halt = end(alloc, space, search, within, most, front, steps)?;
-        return Ok(Some(halt));
-    }
-    act(alloc, space, search, most, front, entry, steps)
-}
-
-/// One turn: what is done with the first entry of all. None where turns go on.
+/// One turn: what is done with the first entry of all. The list ends where it is dearer than any plan that is given. None
+/// where turns go on.
 fn take_turn<S: Space, L: Ledger>(
     alloc: Global,
     space: &mut S,
@@ -181,7 +154,13 @@ fn take_turn<S: Space, L: Ledger>(
 {
     match front.turn_to_first() {
         None => Ok(Some(Halt::Ends)),
-        Some(entry) => act_or_end(alloc, space, search, within, most, front, entry, steps),
+        Some(entry) => {
+            if entry.bound.0 > top_of(most) as u128 {
+                let halt = end(alloc, space, search, within, most, front, steps)?;
+                return Ok(Some(halt));
+            }
+            act(alloc, space, search, most, front, entry, steps)
+        }
     }
 }
 

@@ -13,14 +13,21 @@ use Rattle.prefix_ends.specs.Standing.{IsBetter}
 use Rattle.prefix_ends.specs.declared.left.Left.{Left}
 use Rattle.prefix_ends.proofs.Growing.{entry_new}
 
-pub better : {Set : Type 0} (v : View Set) (f : CostToGo Set) (nodes : List Node) (e k : Entry) → IsEntry v f nodes e → (s : State) → Runs v.system v.system.initial (path_at nodes e.node) s → (left : Left) → IsKnown v f e.cost s left
-    → k.node ≡ e.node → k.cost ≡ e.cost → k.at_goal ≡ e.at_goal → k.bound.0 ≡ k.cost + left.cost → k.ring.0 ≡ left.ring → k.settled ≡ left.ranked → k.ring.0 < 2 ^ 64 → k.bound.0 < 2 ^ 128 → IsBetter v f nodes e (Some k)
+pub better : {Set : Type 0} (v : View Set) (f : CostToGo Set) (nodes : List Node) (e k : Entry) → IsEntry v f nodes e
+    → (s : State) → Runs v.system v.system.initial (path_at nodes e.node) s → (left : Left)
+    → IsKnown v f e.cost s left
+    → k.node ≡ e.node → k.cost ≡ e.cost → k.at_goal ≡ e.at_goal → k.bound.0 ≡ k.cost + left.cost
+    → k.ring.0 ≡ left.ring → k.settled ≡ left.ranked → k.ring.0 < 2 ^ 64 → k.bound.0 < 2 ^ 128
+    → IsBetter v f nodes e (Some k)
 better v f nodes e k z s run left known node cost goal bound ring settled small range =
     let path : path_at nodes e.node ≡ path_at nodes k.node = ap (path_at nodes) (sym node) in (
       node,
-      entry_new v f nodes k s (subst (λ (p : List ℕ). Runs v.system v.system.initial p s) path run) left (subst (λ (g : ℕ). IsKnown v f g s left) (sym cost) known) (cost ∙ (z.cost ∙ ap (cost_of v.system) path)) bound ring settled
+      entry_new v f nodes k s (subst (λ (p : List ℕ). Runs v.system v.system.initial p s) path run) left
+          (subst (λ (g : ℕ). IsKnown v f g s left) (sym cost) known)
+          (cost ∙ (z.cost ∙ ap (cost_of v.system) path)) bound ring settled
           (omega (arith, node, z.inside))
           (omega (arith, cost, node, z.roomy))
           small range
-          (subst (λ (p : List ℕ). Decides k.at_goal (IsPlan v.system p)) path (subst (λ (b : Bool). Decides b (IsPlan v.system (path_at nodes e.node))) (sym goal) z.plan)),
+          (subst (λ (p : List ℕ). Decides k.at_goal (IsPlan v.system p)) path
+          (subst (λ (b : Bool). Decides b (IsPlan v.system (path_at nodes e.node))) (sym goal) z.plan)),
     )

@@ -4,6 +4,7 @@ use Rattle.std.specs.Prelude.{nat_lt, ◌||◌}
 use Rattle.std.specs.List.{sum_by}
 use Rattle.std.proofs.lemmas.Bool.Decides.{nat_tests}
 use Rattle.std.proofs.lemmas.List.Sums.{sum_by-cons}
+use Rattle.prefix_laws.specs.Queue.{Replaced}
 use Rattle.prefix_tree.specs.declared.entry.Entry.{Entry}
 use Rattle.prefix_ends.specs.Left.{Known, bound_at}
 use Rattle.prefix_ends.specs.Children.{IsOutdated, outdated}
@@ -11,10 +12,16 @@ use Rattle.prefix_ends.specs.Standing.{all_outdated}
 
 pub outdated_sum : (n : Known) (es : List Entry) → all_outdated n es ≡ sum_by (outdated n) es
 outdated_sum n [] = refl
-outdated_sum n (e ∷ es) = plus (outdated n e) (all_outdated n es) (sum_by (outdated n) es) (sum_by (outdated n) (e ∷ es)) (outdated_sum n es) (sum_by-cons (outdated n) e es)
+outdated_sum n (e ∷ es) = plus (outdated n e) (all_outdated n es) (sum_by (outdated n) es)
+    (sum_by (outdated n) (e ∷ es)) (outdated_sum n es) (sum_by-cons (outdated n) e es)
   where
     plus : (a b c d : ℕ) → b ≡ c → d ≡ a + c → a + b ≡ d
     plus a b c d p q = omega (arith, p, q)
+
+-- e gave way to others
+pub outdated_replaced : (n : Known) (es kids new : List Entry) (e : Entry) → Replaced es kids e new
+    → all_outdated n es + all_outdated n kids ≡ outdated n e + all_outdated n new
+outdated_replaced n es kids new e taken = rw (outdated_sum n es, outdated_sum n kids, outdated_sum n new) (taken (outdated n))
 
 settled_dated : (b t : Bool) → b ≡ true → ◌≡◌ {A = ℕ} (cond b 0 (cond t 1 0)) 0
 settled_dated b t e = rw e refl

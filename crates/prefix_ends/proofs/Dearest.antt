@@ -22,7 +22,8 @@ use Rattle.prefix_ends.specs.Leading.{TellsLeading, GoesOnFrom, IsDear}
 use Rattle.prefix_ends.proofs.Ranking.{run_inside, inside_run}
 
 -- whether a plan goes on from the prefix that ends in s
-pub decides_on : {Set : Type 0} (v : View Set) (a : Set) (e : List ℕ) (s : State) (b : Bool) → TellsLeading v a → Runs v.system v.system.initial e s → b ≡ v.has a s → Decides b (GoesOnFrom v.system e)
+pub decides_on : {Set : Type 0} (v : View Set) (a : Set) (e : List ℕ) (s : State) (b : Bool) → TellsLeading v a
+    → Runs v.system v.system.initial e s → b ≡ v.has a s → Decides b (GoesOnFrom v.system e)
 decides_on v a e s b tells run is =
     let t = tells s (e, run) in (
       (λ on. (s, run, t.0 (sym is ∙ on))),
@@ -30,7 +31,9 @@ decides_on v a e s b tells run is =
     )
 
 -- the states that lead to the goal inside a set that has all useful states
-pub tells_leading : {Set : Type 0} (u v : View Set) (within leading : Set) → v.system ≡ u.system → ((s : State) → Useful u.system s → Has u within s) → Gives u v (ReachedInside Back u.system (Has u within)) leading → TellsLeading v leading
+pub tells_leading : {Set : Type 0} (u v : View Set) (within leading : Set) → v.system ≡ u.system
+    → ((s : State) → Useful u.system s → Has u within s) → Gives u v (ReachedInside Back u.system (Has u within))
+    leading → TellsLeading v leading
 tells_leading u v within leading same wide g s r =
     let at : IsReached u.system s = subst (λ (y : System). IsReached y s) same r in
     subst (λ (y : System). Has v leading s ↔ LeadsOn y s) (sym same) (
@@ -55,21 +58,30 @@ made_forgot {Set} u v w P a k g f = record {
     stays : (b : Set) → Valid u b → Valid w b
     stays b h = f.valid b (k.valid b h) (λ e. valid_clash h (subst (λ (x : Set). IsFalse (u.valid x)) (sym e) g.fresh))
 
-pub bounds_dear : (y : System) (nodes : List Node) (es : List Entry) → AllByRecursion (IsDear y nodes) es → AllByRecursion (λ x. Bounds y x (2 ^ 64)) (prefixes nodes es)
+pub bounds_dear : (y : System) (nodes : List Node) (es : List Entry) → AllByRecursion (IsDear y nodes) es
+    → AllByRecursion (λ x. Bounds y x (2 ^ 64)) (prefixes nodes es)
 bounds_dear y nodes [] a = tt
 bounds_dear y nodes (e ∷ es) a = (a.0.bounds, bounds_dear y nodes es a.1)
 
-pub dear_each : {Set : Type 0} (v : View Set) (f : CostToGo Set) (nodes : List Node) (es : List Entry) → AllByRecursion (IsEntry v f nodes) es → AllByRecursion (λ (k : Entry). top None < k.bound.0) es → AllByRecursion (IsDear v.system nodes) es
+pub dear_each : {Set : Type 0} (v : View Set) (f : CostToGo Set) (nodes : List Node) (es : List Entry)
+    → AllByRecursion (IsEntry v f nodes) es → AllByRecursion (λ (k : Entry). top None < k.bound.0) es
+    → AllByRecursion (IsDear v.system nodes) es
 dear_each v f nodes [] a b = tt
-dear_each v f nodes (k ∷ es) a b = (record { inside = a.0.inside; bounds = λ p plan on. let le = a.0.bounds p plan on in omega (arith, le, b.0) }, dear_each v f nodes es a.1 b.1)
+dear_each v f nodes (k ∷ es) a b = (
+  record { inside = a.0.inside; bounds = λ p plan on. let le = a.0.bounds p plan on in omega (arith, le, b.0) },
+  dear_each v f nodes es a.1 b.1,
+)
 
 -- no plan of any entry costs m or less
-pub bounds_past : {Set : Type 0} (v : View Set) (f : CostToGo Set) (nodes : List Node) (m : ℕ) (es : List Entry) → AllByRecursion (IsEntry v f nodes) es → AllByRecursion (λ (k : Entry). m < k.bound.0) es → AllByRecursion (λ x. Bounds v.system x (m + 1)) (prefixes nodes es)
+pub bounds_past : {Set : Type 0} (v : View Set) (f : CostToGo Set) (nodes : List Node) (m : ℕ) (es : List Entry)
+    → AllByRecursion (IsEntry v f nodes) es → AllByRecursion (λ (k : Entry). m < k.bound.0) es
+    → AllByRecursion (λ x. Bounds v.system x (m + 1)) (prefixes nodes es)
 bounds_past v f nodes m [] a b = tt
 bounds_past v f nodes m (k ∷ es) a b = ((λ p plan on. let le = a.0.bounds p plan on in omega (arith, le, b.0)), bounds_past v f nodes m es a.1 b.1)
 
 -- what is dearer than the first entry's bound
-pub all_past : (n : ℕ) (e : Entry) (es : List Entry) → n < e.bound.0 → AllByRecursion (λ (k : Entry). e.bound.0 ≤ k.bound.0) es → AllByRecursion (λ (k : Entry). n < k.bound.0) es
+pub all_past : (n : ℕ) (e : Entry) (es : List Entry) → n < e.bound.0
+    → AllByRecursion (λ (k : Entry). e.bound.0 ≤ k.bound.0) es → AllByRecursion (λ (k : Entry). n < k.bound.0) es
 all_past n e [] lt a = tt
 all_past n e (k ∷ es) lt a = (omega (arith, lt, a.0), all_past n e es lt a.1)
 

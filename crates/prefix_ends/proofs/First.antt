@@ -24,12 +24,16 @@ use Rattle.prefix_ends.specs.Standing.{IsAlone, IsReady}
 only : (e : Entry) (es : List Entry) → IsPermutation (e ∷ []) es → es ≡ e ∷ []
 only e [] p = absurd (omega (arith, length_permutation (e ∷ []) [] p))
 only e (x ∷ []) p =
-    let one : AllByRecursion (λ (k : Entry). k ≡ e) (x ∷ []) = recursion_from_All (λ (k : Entry). k ≡ e) (x ∷ []) (All-permutation (λ (k : Entry). k ≡ e) (e ∷ []) (x ∷ []) p (All-from_recursion (λ (k : Entry). k ≡ e) (e ∷ []) (refl, tt))) in
+    let one : AllByRecursion (λ (k : Entry). k ≡ e) (x ∷ []) =
+    recursion_from_All (λ (k : Entry). k ≡ e) (x ∷ [])
+    (All-permutation (λ (k : Entry). k ≡ e) (e ∷ []) (x ∷ []) p
+    (All-from_recursion (λ (k : Entry). k ≡ e) (e ∷ []) (refl, tt))) in
     ap (λ (k : Entry). k ∷ []) one.0
 only e (x ∷ y ∷ es) p = absurd (omega (arith, length_permutation (e ∷ []) (x ∷ y ∷ es) p))
 
 module _ {Set : Type 0} (v : View Set) (b : CostToGo Set) (m : StateGraph) (n : Node) (e : Entry) (es : List Entry)
-    (alone : IsAlone v b) (graph : IsStateGraph v.system m) (within : n.state < length (states_of m)) (starts : state_at (states_of m) n.state ≡ v.system.initial)
+    (alone : IsAlone v b) (graph : IsStateGraph v.system m) (within : n.state < length (states_of m))
+    (starts : state_at (states_of m) n.state ≡ v.system.initial)
     (put : IsPermutation (e ∷ []) es) (bound : e.bound.0 ≡ 0) (cost : e.cost ≡ 0) (ring : e.ring.0 ≡ 0) (unranked : e.settled ≡ false) (place : e.node ≡ 0)
     (goal : Decides e.at_goal (IsTrue (v.system.goal v.system.initial))) where
   good : Good v.system TopK []
@@ -45,7 +49,8 @@ module _ {Set : Type 0} (v : View Set) (b : CostToGo Set) (m : StateGraph) (n : 
   tree = record {
     some = omega arith;
     linked = λ i d lt. inl (omega (arith, lt), first_path i (omega (arith, lt)));
-    each = λ i lt. let z : i ≡ 0 = omega (arith, lt) in subst (λ (j : ℕ). IsNode v.system TopK (states_of m) j (path_at (n ∷ []) j) (number_at (n ∷ []) j)) (sym z) node;
+    each = λ i lt. let z : i ≡ 0 = omega (arith, lt) in subst
+        (λ (j : ℕ). IsNode v.system TopK (states_of m) j (path_at (n ∷ []) j) (number_at (n ∷ []) j)) (sym z) node;
   }
 
   end : v.system.initial ≡ good.end
@@ -65,7 +70,9 @@ module _ {Set : Type 0} (v : View Set) (b : CostToGo Set) (m : StateGraph) (n : 
     seen = omega (arith, ring);
     range = omega (arith, bound);
     bounds = λ p plan on. omega (arith, bound);
-    plan = subst (λ (p : List ℕ). Decides e.at_goal (IsPlan v.system p)) (sym path) (plan_by v.system [] good.end good.runs e.at_goal (subst (λ (s : State). Decides e.at_goal (IsTrue (v.system.goal s))) end goal));
+    plan = subst (λ (p : List ℕ). Decides e.at_goal (IsPlan v.system p)) (sym path)
+        (plan_by v.system [] good.end good.runs e.at_goal (subst
+        (λ (s : State). Decides e.at_goal (IsTrue (v.system.goal s))) end goal));
     ranked = λ on. absurd (clash on unranked);
     looked = λ c i lt r. absurd (omega (arith, lt, ring));
   }

@@ -32,16 +32,25 @@ up_to_date true r many a low h = refl
 up_to_date false r many a low h = rw (not_less r many (h refl).0, not_less a low (h refl).1) refl
 
 -- an entry of a prefix that ends in s, of which this is known
-module _ {Set : Type 0} (v : View Set) (f : CostToGo Set) (nodes : List Node) (k : Entry) (s : State) (run : Runs v.system v.system.initial (path_at nodes k.node) s) (left : Left) (known : IsKnown v f k.cost s left)
-    (cost : k.cost ≡ cost_of v.system (path_at nodes k.node)) (bound : k.bound.0 ≡ k.cost + left.cost) (ring : k.ring.0 ≡ left.ring) (settled : k.settled ≡ left.ranked) where
+module _ {Set : Type 0} (v : View Set) (f : CostToGo Set) (nodes : List Node) (k : Entry) (s : State)
+    (run : Runs v.system v.system.initial (path_at nodes k.node) s) (left : Left)
+    (known : IsKnown v f k.cost s left)
+    (cost : k.cost ≡ cost_of v.system (path_at nodes k.node)) (bound : k.bound.0 ≡ k.cost + left.cost)
+    (ring : k.ring.0 ≡ left.ring) (settled : k.settled ≡ left.ranked) where
   bounds_new : Bounds v.system (path_at nodes k.node) k.bound.0
-  bounds_new = subst (Bounds v.system (path_at nodes k.node)) (sym (bound ∙ ap (λ (n : ℕ). n + left.cost) cost)) (bounds_by v.system (path_at nodes k.node) s run left.cost known.least)
+  bounds_new = subst (Bounds v.system (path_at nodes k.node)) (sym (bound ∙ ap (λ (n : ℕ). n + left.cost) cost))
+      (bounds_by v.system (path_at nodes k.node) s run left.cost known.least)
 
   rest_is : k.bound.0 - k.cost ≡ left.cost
   rest_is = omega (arith, bound)
 
   ranked_new : IsTrue k.settled → EndsRanked v f (path_at nodes k.node) (k.bound.0 - k.cost) k.ring.0
-  ranked_new on = (s, run, subst (λ (c : ℕ). IsRanked v f c k.ring.0 s) (sym rest_is) (subst (λ (i : ℕ). IsRanked v f left.cost i s) (sym ring) (known.ranked (sym settled ∙ on))))
+  ranked_new on = (
+    s,
+    run,
+    subst (λ (c : ℕ). IsRanked v f c k.ring.0 s) (sym rest_is)
+        (subst (λ (i : ℕ). IsRanked v f left.cost i s) (sym ring) (known.ranked (sym settled ∙ on))),
+  )
 
   tells_new : TellsRank v f nodes k
   tells_new c i e =
@@ -56,9 +65,11 @@ module _ {Set : Type 0} (v : View Set) (f : CostToGo Set) (nodes : List Node) (k
       apart r i lt e = omega (arith, lt, e)
 
   dated_new : outdated (known_of f) k ≡ 0
-  dated_new = up_to_date k.settled k.ring.0 (ranks_of f) k.bound.0 (bound_at (next_key_of f) k.cost) (λ off. let n = known.newest (sym settled ∙ off) in (omega (arith, n.0, ring), omega (arith, n.1, bound)))
+  dated_new = up_to_date k.settled k.ring.0 (ranks_of f) k.bound.0 (bound_at (next_key_of f) k.cost)
+      (λ off. let n = known.newest (sym settled ∙ off) in (omega (arith, n.0, ring), omega (arith, n.1, bound)))
 
-  pub entry_new : k.node < length nodes → k.cost ≤ (2 ^ 64 - 1) * k.node → k.ring.0 < 2 ^ 64 → k.bound.0 < 2 ^ 128 → Decides k.at_goal (IsPlan v.system (path_at nodes k.node)) → IsNew v f nodes k
+  pub entry_new : k.node < length nodes → k.cost ≤ (2 ^ 64 - 1) * k.node → k.ring.0 < 2 ^ 64 → k.bound.0 < 2 ^ 128
+      → Decides k.at_goal (IsPlan v.system (path_at nodes k.node)) → IsNew v f nodes k
   entry_new inside roomy small range plan = (
     record {
       inside = inside;
@@ -79,7 +90,8 @@ module _ {Set : Type 0} (v : View Set) (f : CostToGo Set) (nodes : List Node) (k
   )
 
 -- an entry stands where its place has the same prefix
-module _ {Set : Type 0} (v : View Set) (f : CostToGo Set) (a c : List Node) (longer : length a ≤ length c) (same : (i : ℕ) → i < length a → path_at c i ≡ path_at a i) where
+module _ {Set : Type 0} (v : View Set) (f : CostToGo Set) (a c : List Node) (longer : length a ≤ length c)
+    (same : (i : ℕ) → i < length a → path_at c i ≡ path_at a i) where
   pub entry_like : (e : Entry) → IsEntry v f a e → IsEntry v f c e
   entry_like e z =
       let path = sym (same e.node z.inside) in
@@ -114,8 +126,11 @@ module _ {Set : Type 0} (v : View Set) (f : CostToGo Set) (a c : List Node) (lon
   each_new_like (e ∷ es) z = (new_like e z.0, each_new_like es z.1)
 
 -- one prefix more, at the end of the tree
-module _ {Set : Type 0} (v : View Set) (f : CostToGo Set) (ss : List State) (nodes : List Node) (n : Node) (z : IsTree v.system TopK ss nodes) (behind : n.parent < length nodes) (r : Reached) (longer : IsLonger v f (path_at nodes n.parent ++ n.op ∷ []) r) where
-  pub grows_push : n.state < length ss → Runs v.system v.system.initial (path_at nodes n.parent ++ n.op ∷ []) (state_at ss n.state) → Grows v.system TopK ss nodes (nodes ++ n ∷ [])
+module _ {Set : Type 0} (v : View Set) (f : CostToGo Set) (ss : List State) (nodes : List Node) (n : Node)
+    (z : IsTree v.system TopK ss nodes) (behind : n.parent < length nodes) (r : Reached)
+    (longer : IsLonger v f (path_at nodes n.parent ++ n.op ∷ []) r) where
+  pub grows_push : n.state < length ss → Runs v.system v.system.initial (path_at nodes n.parent ++ n.op ∷ [])
+      (state_at ss n.state) → Grows v.system TopK ss nodes (nodes ++ n ∷ [])
   grows_push within run = grows_more v.system TopK ss nodes n z behind longer.good within run
 
   module _ (e : Entry) (old : IsEntry v f nodes e) (at : e.node ≡ n.parent) where
@@ -129,7 +144,9 @@ module _ {Set : Type 0} (v : View Set) (f : CostToGo Set) (ss : List State) (nod
     room_push dear = omega (arith, cost_push, old.roomy, at, behind, dear)
 
     -- the entry of the new prefix
-    pub entry_push : (k : Entry) → k.node ≡ length nodes → k.cost ≡ r.cost → k.bound.0 ≡ k.cost + r.left.cost → k.ring.0 ≡ r.left.ring → k.settled ≡ r.left.ranked → k.at_goal ≡ r.at_goal → k.ring.0 < 2 ^ 64 → k.bound.0 < 2 ^ 128 → v.system.cost n.op < 2 ^ 64
+    pub entry_push : (k : Entry) → k.node ≡ length nodes → k.cost ≡ r.cost → k.bound.0 ≡ k.cost + r.left.cost
+        → k.ring.0 ≡ r.left.ring → k.settled ≡ r.left.ranked → k.at_goal ≡ r.at_goal → k.ring.0 < 2 ^ 64
+        → k.bound.0 < 2 ^ 128 → v.system.cost n.op < 2 ^ 64
         → IsNew v f (nodes ++ n ∷ []) k × (path_at (nodes ++ n ∷ []) k.node ≡ path_at nodes n.parent ++ n.op ∷ [])
     entry_push k place cost bound ring settled goal small range dear =
         let path : path_at (nodes ++ n ∷ []) k.node ≡ path_at nodes n.parent ++ n.op ∷ [] = path_last nodes n k.node z.some place in
@@ -138,11 +155,14 @@ module _ {Set : Type 0} (v : View Set) (f : CostToGo Set) (ss : List State) (nod
         let run = subst (λ (q : List ℕ). Runs v.system v.system.initial q longer.good.end) (sym path) longer.good.runs in
         let plan = plan_by v.system (path_at nodes n.parent ++ n.op ∷ []) longer.good.end longer.good.runs r.at_goal longer.goal in
         let room = room_push dear in (
-          entry_new v f (nodes ++ n ∷ []) k longer.good.end run r.left known (subst (λ (q : List ℕ). k.cost ≡ cost_of v.system q) (sym path) total) bound ring settled
+          entry_new v f (nodes ++ n ∷ []) k longer.good.end run r.left known
+              (subst (λ (q : List ℕ). k.cost ≡ cost_of v.system q) (sym path) total) bound ring settled
               (omega (arith, place, length-append nodes (n ∷ [])))
               (omega (arith, cost, room, place))
               small range
-              (subst (λ (q : List ℕ). Decides k.at_goal (IsPlan v.system q)) (sym path) (subst (λ (x : Bool). Decides x (IsPlan v.system (path_at nodes n.parent ++ n.op ∷ []))) (sym goal) plan)),
+              (subst (λ (q : List ℕ). Decides k.at_goal (IsPlan v.system q)) (sym path)
+              (subst (λ (x : Bool). Decides x (IsPlan v.system (path_at nodes n.parent ++ n.op ∷ [])))
+              (sym goal) plan)),
           path,
         )
 

@@ -20,7 +20,8 @@ pub useful_on : (y : System) (s : State) → IsReached y s → (q : List ℕ) (t
 useful_on y s r q t run goal = record { before = (cost_of y r.0, (r.0, r.1, refl)); after = (cost_of y q, (q, t, run, goal, refl)) }
 
 -- all states of a run to the goal are useful
-pub run_inside : (y : System) (P : State → Type 0) → ((s : State) → Useful y s → P s) → (q : List ℕ) (s t : State) → IsReached y s → Runs y s q t → IsTrue (y.goal t) → RunsInside y P s q t
+pub run_inside : (y : System) (P : State → Type 0) → ((s : State) → Useful y s → P s) → (q : List ℕ) (s t : State)
+    → IsReached y s → Runs y s q t → IsTrue (y.goal t) → RunsInside y P s q t
 run_inside y P wide [] s t r run goal = (run, wide s (useful_on y s r [] t run goal))
 run_inside y P wide (op ∷ q) s t r run goal = (
   wide s (useful_on y s r (op ∷ q) t run goal),
@@ -55,7 +56,8 @@ module _ {Set : Type 0} (v : View Set) (f : CostToGo Set) (z : IsCostToGo v f) w
   ranked_small c i s a = (let range = z.ranks.left.range i a.0 a.1 in omega (arith, range, a.2))
 
   -- from a ranked state a list leads to the goal at its cost, and none at less
-  pub ranked_leads : (c i : ℕ) (s : State) → IsRanked v f c i s → (p : List ℕ) × (t : State) × Runs v.system s p t × IsTrue (v.system.goal t) × (cost_of v.system p ≡ c)
+  pub ranked_leads : (c i : ℕ) (s : State) → IsRanked v f c i s → (p : List ℕ) × (t : State) × Runs v.system s p t
+      × IsTrue (v.system.goal t) × (cost_of v.system p ≡ c)
   ranked_leads c i s a = (rank_least v (ranks_in f) z.ranks i c s a).0
 
   pub ranked_least : (c i : ℕ) (s : State) → IsReached v.system s → IsRanked v f c i s → CostsAtLeast v.system s c
@@ -80,7 +82,8 @@ module _ {Set : Type 0} (v : View Set) (f : CostToGo Set) (z : IsCostToGo v f) w
     }
 
     -- none of the ranks that were looked at has s, and none of those before
-    pub unranked_by : (first low : ℕ) → CostsAtLeast v.system s low → ((c i : ℕ) → i < first → ¬ IsRanked v f c i s) → ((i c : ℕ) → first ≤ i → low ≤ c → ¬ IsRanked v f c i s) → (c i : ℕ) → ¬ IsRanked v f c i s
+    pub unranked_by : (first low : ℕ) → CostsAtLeast v.system s low → ((c i : ℕ) → i < first → ¬ IsRanked v f c i s)
+        → ((i c : ℕ) → first ≤ i → low ≤ c → ¬ IsRanked v f c i s) → (c i : ℕ) → ¬ IsRanked v f c i s
     unranked_by first low least before after c i a = elim (less_or i first) [
       | inl lt ↦ before c i lt a
       | inr ge ↦
@@ -94,7 +97,8 @@ module _ {Set : Type 0} (v : View Set) (f : CostToGo Set) (z : IsCostToGo v f) w
       outside : IsOutside v f s
       outside i c = none c i
 
-      least_is : (o : Option ℕ) (b : Bool) (l : ℕ) → TellsOutside v f o → least_unranked o b g ≡ Some l → CostsAtLeast v.system s l × (l ≤ 2 ^ 64) × (bound_at o g ≤ g + l)
+      least_is : (o : Option ℕ) (b : Bool) (l : ℕ) → TellsOutside v f o → least_unranked o b g ≡ Some l
+          → CostsAtLeast v.system s l × (l ≤ 2 ^ 64) × (bound_at o g ≤ g + l)
       least_is (Some n) b l told e =
           let same : min (n - g) (2 ^ 64) ≡ l = some_same (min (n - g) (2 ^ 64)) l e in
           (subst (CostsAtLeast v.system s) same (told g s outside r), omega (arith, same), omega (arith, same))
@@ -103,7 +107,9 @@ module _ {Set : Type 0} (v : View Set) (f : CostToGo Set) (z : IsCostToGo v f) w
           (subst (CostsAtLeast v.system s) same (told.range s outside at), omega (arith, same), omega (arith, same))
       least_is None false l told e = absurd (none_some l e)
 
-      pub known_none : (l low : ℕ) → CostsAtLeast v.system s low → low < 2 ^ 64 → least_unranked (next_key_of f) (beyond_of f) g ≡ Some l → (left : Left) → left.ranked ≡ false → left.ring ≡ ranks_of f → left.cost ≡ max l low → IsKnown v f g s left
+      pub known_none : (l low : ℕ) → CostsAtLeast v.system s low → low < 2 ^ 64
+          → least_unranked (next_key_of f) (beyond_of f) g ≡ Some l → (left : Left) → left.ranked ≡ false
+          → left.ring ≡ ranks_of f → left.cost ≡ max l low → IsKnown v f g s left
       known_none l low least range is left off ring cost =
           let t = least_is (next_key_of f) (beyond_of f) l (knowing.tells_outside v f z) is in
           record {

@@ -29,7 +29,8 @@ no_goal y s c some least = ((λ e. absurd (not_true e)), (λ goal. absurd (let l
     not_true : false ≡ true → ⊥
     not_true e = cc
 
-module _ {Set : Type 0} (v : View Set) (f : CostToGo Set) (ss : List State) (nodes : List Node) (i : ℕ) (z : IsTree v.system TopK ss nodes) (lt : i < length nodes) where
+module _ {Set : Type 0} (v : View Set) (f : CostToGo Set) (ss : List State) (nodes : List Node) (i : ℕ)
+    (z : IsTree v.system TopK ss nodes) (lt : i < length nodes) where
   -- the state to which a move leads from the end of a prefix
   module _ (m : Move) (step : IsMove v.system ss (end_at ss nodes i) m) where
     run : Runs v.system v.system.initial (path_at nodes i ++ m.op ∷ []) (state_at ss m.to)
@@ -42,13 +43,18 @@ module _ {Set : Type 0} (v : View Set) (f : CostToGo Set) (ss : List State) (nod
     nowhere_lost none = stuck v.system TopK (path_at nodes i ++ m.op ∷ []) (state_at ss m.to) run none
 
     -- it costs what the prefix and the operator do
-    pub next_cost : (e : Entry) → IsEntry v f nodes e → e.node ≡ i → (c : ℕ) → c ≡ e.cost + v.system.cost m.op → c ≡ cost_of v.system (path_at nodes i ++ m.op ∷ [])
-    next_cost e entry here c is = (let path = ap (λ (j : ℕ). cost_of v.system (path_at nodes j)) here in let join = cost_join v.system (path_at nodes i) (m.op ∷ []) in omega (arith, is, entry.cost, path, join))
+    pub next_cost : (e : Entry) → IsEntry v f nodes e → e.node ≡ i → (c : ℕ) → c ≡ e.cost + v.system.cost m.op
+        → c ≡ cost_of v.system (path_at nodes i ++ m.op ∷ [])
+    next_cost e entry here c is = (let path = ap (λ (j : ℕ). cost_of v.system (path_at nodes j)) here in
+        let join = cost_join v.system (path_at nodes i) (m.op ∷ []) in omega (arith, is, entry.cost, path, join))
 
     pub next_at : (c : ℕ) → c ≡ cost_of v.system (path_at nodes i ++ m.op ∷ []) → ReachedAt v.system c (state_at ss m.to)
     next_at c is = (path_at nodes i ++ m.op ∷ [], run, sym is)
 
-    pub longer : Listed v.system.states (state_at ss m.to) → (r : Reached) → r.cost ≡ cost_of v.system (path_at nodes i ++ m.op ∷ []) → IsKnown v f r.cost (state_at ss m.to) r.left → Decides r.at_goal (IsTrue (v.system.goal (state_at ss m.to))) → IsLonger v f (path_at nodes i ++ m.op ∷ []) r
+    pub longer : Listed v.system.states (state_at ss m.to) → (r : Reached)
+        → r.cost ≡ cost_of v.system (path_at nodes i ++ m.op ∷ []) → IsKnown v f r.cost (state_at ss m.to) r.left
+        → Decides r.at_goal (IsTrue (v.system.goal (state_at ss m.to)))
+        → IsLonger v f (path_at nodes i ++ m.op ∷ []) r
     longer listed r cost known goal =
         let good = next_good v.system TopK ss nodes i z lt m step listed tt in
         let same : state_at ss m.to ≡ good.end = one_end v.system (path_at nodes i ++ m.op ∷ []) v.system.initial (state_at ss m.to) good.end run good.runs in

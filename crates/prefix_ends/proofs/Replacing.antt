@@ -23,7 +23,8 @@ pub on_err : {X E P : Type 0} (r : Result X E) → P → OnErr r P
 on_err (Ok x) p = tt
 on_err (Err e) p = p
 
-pub each_of_new : {Set : Type 0} (v : View Set) (f : CostToGo Set) (nodes : List Node) (es : List Entry) → AllByRecursion (IsNew v f nodes) es → AllByRecursion (IsEntry v f nodes) es
+pub each_of_new : {Set : Type 0} (v : View Set) (f : CostToGo Set) (nodes : List Node) (es : List Entry)
+    → AllByRecursion (IsNew v f nodes) es → AllByRecursion (IsEntry v f nodes) es
 each_of_new v f nodes [] a = tt
 each_of_new v f nodes (e ∷ es) a = (a.0.0, each_of_new v f nodes es a.1)
 
@@ -32,26 +33,39 @@ no_less x y (inl lt) = omega (arith, lt)
 no_less x y (inr h) = omega (arith, h.0)
 
 -- no plan of any entry costs less than the bound of the first
-pub bounds_first : {Set : Type 0} (v : View Set) (f : CostToGo Set) (nodes : List Node) (e : Entry) (es : List Entry) → AllByRecursion (IsEntry v f nodes) es → AllByRecursion (IsNoLater e) es → AllByRecursion (λ x. Bounds v.system x e.bound.0) (prefixes nodes es)
+pub bounds_first : {Set : Type 0} (v : View Set) (f : CostToGo Set) (nodes : List Node) (e : Entry) (es : List Entry)
+    → AllByRecursion (IsEntry v f nodes) es → AllByRecursion (IsNoLater e) es
+    → AllByRecursion (λ x. Bounds v.system x e.bound.0) (prefixes nodes es)
 bounds_first v f nodes e [] a b = tt
-bounds_first v f nodes e (k ∷ es) a b = ((λ p plan on. let le = a.0.bounds p plan on in let first = no_less e k b.0 in omega (arith, le, first)), bounds_first v f nodes e es a.1 b.1)
+bounds_first v f nodes e (k ∷ es) a b = (
+  (λ p plan on. let le = a.0.bounds p plan on in let first = no_less e k b.0 in omega (arith, le, first)),
+  bounds_first v f nodes e es a.1 b.1,
+)
 
 -- a prefix in the tree is good
-pub good_at : {Set : Type 0} (v : View Set) (f : CostToGo Set) (m : StateGraph) (nodes : List Node) (es : List Entry) (e : Entry) → IsReady v f m nodes es → IsEntry v f nodes e → Good v.system TopK (path_at nodes e.node)
+pub good_at : {Set : Type 0} (v : View Set) (f : CostToGo Set) (m : StateGraph) (nodes : List Node) (es : List Entry)
+    (e : Entry) → IsReady v f m nodes es → IsEntry v f nodes e → Good v.system TopK (path_at nodes e.node)
 good_at v f m nodes es e z entry = (z.tree.each e.node entry.inside).good
 
 -- the tree grew, and the queue is as it was
-pub ready_grown : {Set : Type 0} (v : View Set) (f : CostToGo Set) (m n : StateGraph) (a c : List Node) (es : List Entry) → IsStateGraph v.system n → Grows v.system TopK (states_of n) a c → IsReady v f m a es → IsReady v f n c es
+pub ready_grown : {Set : Type 0} (v : View Set) (f : CostToGo Set) (m n : StateGraph) (a c : List Node)
+    (es : List Entry) → IsStateGraph v.system n → Grows v.system TopK (states_of n) a c
+    → IsReady v f m a es → IsReady v f n c es
 ready_grown v f m n a c es graph g z = record { alone = z.alone; graph = graph; tree = g.tree; each = each_like v f a c g.longer g.paths es z.each }
 
 -- what the queue has once its first entry gave way to others
-pub replaced_perm : (es room kids new : List Entry) (e : Entry) → room ≡ es → e ≡ slice_index_or es 0 e → ((k : Entry) → k ≡ slice_index_or room 0 k → IsPermutation (room ++ kids) (k ∷ new)) → IsPermutation (es ++ kids) (e ∷ new)
+pub replaced_perm : (es room kids new : List Entry) (e : Entry) → room ≡ es → e ≡ slice_index_or es 0 e
+    → ((k : Entry) → k ≡ slice_index_or room 0 k → IsPermutation (room ++ kids) (k ∷ new))
+    → IsPermutation (es ++ kids) (e ∷ new)
 replaced_perm es room kids new e same first perm =
     let there : e ≡ slice_index_or room 0 e = subst (λ (l : List Entry). e ≡ slice_index_or l 0 e) (sym same) first in
     subst (λ (l : List Entry). IsPermutation (l ++ kids) (e ∷ new)) same (perm e there)
 
-pub learned_perm : (es room others new : List Entry) (o : Option Entry) (e : Entry) → room ≡ es → others ≡ listed_of o → e ≡ slice_index_or es 0 e → ((k : Entry) → k ≡ slice_index_or room 0 k → IsPermutation (room ++ others) (k ∷ new)) → IsPermutation (es ++ listed_of o) (e ∷ new)
-learned_perm es room others new o e same is first perm = subst (λ (l : List Entry). IsPermutation (es ++ l) (e ∷ new)) is (replaced_perm es room others new e same first perm)
+pub learned_perm : (es room others new : List Entry) (o : Option Entry) (e : Entry) → room ≡ es → others ≡ listed_of o
+    → e ≡ slice_index_or es 0 e → ((k : Entry) → k ≡ slice_index_or room 0 k → IsPermutation (room ++ others)
+    (k ∷ new)) → IsPermutation (es ++ listed_of o) (e ∷ new)
+learned_perm es room others new o e same is first perm = subst (λ (l : List Entry). IsPermutation (es ++ l) (e ∷ new))
+    is (replaced_perm es room others new e same first perm)
 
 -- what was learned of the first entry
 module _ {Set : Type 0} (v : View Set) (f : CostToGo Set) (m : StateGraph) (nodes : List Node) (es new : List Entry) (e : Entry) where
@@ -66,5 +80,12 @@ module _ {Set : Type 0} (v : View Set) (f : CostToGo Set) (m : StateGraph) (node
       alone : (n : ℕ) → n ≡ 0 → n + 0 ≡ 0
       alone n is = omega (arith, is)
 
-  pub learned_ready : IsReady v f m nodes es → (o : Option Entry) → IsBetter v f nodes e o → IsPermutation (es ++ listed_of o) (e ∷ new) → IsReady v f m nodes new
-  learned_ready z o better perm = record { alone = z.alone; graph = z.graph; tree = z.tree; each = each_new es (listed_of o) new e perm (IsEntry v f nodes) z.each (each_of o better) }
+  pub learned_ready : IsReady v f m nodes es → (o : Option Entry) → IsBetter v f nodes e o
+      → IsPermutation (es ++ listed_of o) (e ∷ new) → IsReady v f m nodes new
+  learned_ready z o better perm = record {
+    alone = z.alone;
+    graph = z.graph;
+    tree = z.tree;
+    each = each_new es
+        (listed_of o) new e perm (IsEntry v f nodes) z.each (each_of o better);
+  }

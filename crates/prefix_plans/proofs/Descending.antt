@@ -25,7 +25,8 @@ use Rattle.prefix_plans.proofs.Far.{near, one_near, nearer, one_nearer}
 no_more : (a w b : ℕ) → a + w ≡ b → (a < b) ⊎ (a ≡ b)
 no_more a w b e = grind (arith, e)
 
-fresh_kids : {Set : Type 0} (v : View Set) (f : CostToGo Set) (nodes : List Node) (kids : List Entry) → AllByRecursion (IsNew v f nodes) kids → all_outdated (known_of f) kids ≡ 0
+fresh_kids : {Set : Type 0} (v : View Set) (f : CostToGo Set) (nodes : List Node) (kids : List Entry)
+    → AllByRecursion (IsNew v f nodes) kids → all_outdated (known_of f) kids ≡ 0
 fresh_kids v f nodes [] a = refl
 fresh_kids v f nodes (k ∷ kids) a = both (outdated (known_of f) k) (all_outdated (known_of f) kids) a.0.2 (fresh_kids v f nodes kids a.1)
   where
@@ -33,7 +34,9 @@ fresh_kids v f nodes (k ∷ kids) a = both (outdated (known_of f) k) (all_outdat
     both a b p q = omega (arith, p, q)
 
 -- the child of this prefix is nearer than n
-near_kid : {Set : Type 0} (v : View Set) (f : CostToGo Set) (nodes : List Node) (n : ℕ) (p : List ℕ) (kids : List Entry) → ((k : Entry) → IsNew v f nodes k → path_at nodes k.node ≡ p → farness k < n) → AllByRecursion (IsNew v f nodes) kids → Listed (prefixes nodes kids) p → 0 < near n kids
+near_kid : {Set : Type 0} (v : View Set) (f : CostToGo Set) (nodes : List Node) (n : ℕ) (p : List ℕ)
+    (kids : List Entry) → ((k : Entry) → IsNew v f nodes k → path_at nodes k.node ≡ p → farness k < n)
+    → AllByRecursion (IsNew v f nodes) kids → Listed (prefixes nodes kids) p → 0 < near n kids
 near_kid v f nodes n p [] closer a l = absurd l
 near_kid v f nodes n p (k ∷ kids) closer a (inl is) = some (one_near n k) (near n kids) (one_nearer n k (closer k a.0 is))
   where
@@ -44,7 +47,9 @@ near_kid v f nodes n p (k ∷ kids) closer a (inr l) = more (one_near n k) (near
     more : (a b : ℕ) → 0 < b → 0 < a + b
     more a b lt = omega (arith, lt)
 
-module _ {Set : Type 0} (v : View Set) (f : CostToGo Set) (z : IsCostToGo v f) (nodes : List Node) (e : Entry) (entry : IsEntry v f nodes e) (ends : EndsRanked v f (path_at nodes e.node) (e.bound.0 - e.cost) e.ring.0) (kids : List Entry) (children : AreChildren v f nodes (path_at nodes e.node) v.system.operators kids) where
+module _ {Set : Type 0} (v : View Set) (f : CostToGo Set) (z : IsCostToGo v f) (nodes : List Node) (e : Entry)
+    (entry : IsEntry v f nodes e) (ends : EndsRanked v f (path_at nodes e.node) (e.bound.0 - e.cost) e.ring.0)
+    (kids : List Entry) (children : AreChildren v f nodes (path_at nodes e.node) v.system.operators kids) where
   end : State
   end = ends.0
 
@@ -59,7 +64,8 @@ module _ {Set : Type 0} (v : View Set) (f : CostToGo Set) (z : IsCostToGo v f) (
     hopeful lost =
         let w = ranked_leads v f z c.cost c.number c.state c.ranked in
         let on = leads_on v.system (path_at nodes e.node ++ c.op ∷ []) w.0 c.state w.1 run_on w.2 w.3 in
-        clash (prefix (path_at nodes e.node ++ c.op ∷ []) ((path_at nodes e.node ++ c.op ∷ []) ++ w.0)) on.1 (lost ((path_at nodes e.node ++ c.op ∷ []) ++ w.0) on.0)
+        clash (prefix (path_at nodes e.node ++ c.op ∷ []) ((path_at nodes e.node ++ c.op ∷ []) ++ w.0)) on.1
+        (lost ((path_at nodes e.node ++ c.op ∷ []) ++ w.0) on.0)
       where
         clash : (b : Bool) → IsTrue b → ind b ≡ 0 → ⊥
         clash b on off = two (ind b) (ap ind on) off
@@ -70,7 +76,14 @@ module _ {Set : Type 0} (v : View Set) (f : CostToGo Set) (z : IsCostToGo v f) (
     closer : (k : Entry) → IsNew v f nodes k → path_at nodes k.node ≡ path_at nodes e.node ++ c.op ∷ [] → farness k < farness e
     closer k new path =
         let t = new.1 c.cost c.number (c.state, subst (λ (p : List ℕ). Runs v.system v.system.initial p c.state) (sym path) run_on, c.ranked) in
-        let cost : k.cost ≡ e.cost + v.system.cost c.op = omega (arith, new.0.cost, ap (cost_of v.system) path, cost_join v.system (path_at nodes e.node) (c.op ∷ []), entry.cost) in
+        let cost : k.cost ≡ e.cost + v.system.cost c.op = omega (
+          arith,
+          new.0.cost,
+          ap (cost_of v.system) path,
+          cost_join v.system (path_at nodes e.node)
+              (c.op ∷ []),
+          entry.cost,
+        ) in
         let between : c.cost + v.system.cost c.op ≡ e.bound.0 - e.cost = c.between in
         let lower : k.ring.0 < e.ring.0 = omega (arith, t.1, c.lower) in
         nearer e k c.cost (omega (arith, t.0, cost, between, entry.least)) t.0 (elim (no_more c.cost (v.system.cost c.op) (e.bound.0 - e.cost) between) [

@@ -14,7 +14,7 @@ use Rattle.prefix_tree.specs.declared.entry.Entry.{Entry}
 use Rattle.prefix_ends.specs.Left.{Known}
 use Rattle.prefix_ends.specs.Children.{IsEntry, outdated}
 use Rattle.prefix_ends.specs.Standing.{all_outdated}
-use Rattle.prefix_ends.proofs.Dating.{outdated_sum}
+use Rattle.prefix_ends.proofs.Dating.{outdated_replaced}
 use Rattle.prefix_plans.specs.Standing.{farness, farthest, nearest, work}
 
 next_times : (a b c : ℕ) → a < b → a * c + c ≤ b * c
@@ -34,8 +34,16 @@ module _ (D R : ℕ) where
   far_second : (b d e r t : ℕ) → d < e → r < R → (b * D + d) * R + r < (b * D + e) * R + t
   far_second b d e r t lt rl = lex (b * D + d) (b * D + e) r t R (omega (arith, lt)) rl
 
+  far_then : (b c d x y r t : ℕ) → b ≡ c → d ≡ x → (x < y) ⊎ ((x ≡ y) × (r < t)) → r < R → (b * D + d) * R + r < (c * D + y) * R + t
+  far_then b c d x y r t e g (inl lt) low = rw e (far_second c d y r t (omega (arith, g, lt)) low)
+  far_then b c d x y r t e g (inr h) low = rw (e, g, h.0) (plus ((c * D + y) * R) r t h.1)
+    where
+      plus : (n a b : ℕ) → a < b → n + a < n + b
+      plus n a b lt = omega (arith, lt)
+
   far_most : (b d r B : ℕ) → b < B → d < D → r < R → (b * D + d) * R + r < B * D * R
-  far_most b d r B bl dl rl = let one : b * D + d < B * D = (let l = lex b B d 0 D bl dl in omega (arith, l)) in let l = lex (b * D + d) (B * D) r 0 R one rl in omega (arith, l)
+  far_most b d r B bl dl rl = let one : b * D + d < B * D = (let l = lex b B d 0 D bl dl in omega (arith, l)) in
+      let l = lex (b * D + d) (B * D) r 0 R one rl in omega (arith, l)
 
 same_or : (a b : ℕ) → a ≤ b → (a < b) ⊎ (a ≡ b)
 same_or a b le = grind arith
@@ -44,9 +52,11 @@ far_below : {Set : Type 0} (v : View Set) (f : CostToGo Set) (nodes : List Node)
 far_below v f nodes e z = far_most (2 ^ 64 + 1) (2 ^ 64) e.bound.0 (e.bound.0 - e.cost) e.ring.0 (2 ^ 128) z.range (omega (arith, z.span)) z.ring
 
 -- an entry that is handed out no later is no farther
-no_farther : {Set : Type 0} (v : View Set) (f : CostToGo Set) (nodes : List Node) (e k : Entry) → IsEntry v f nodes e → IsEntry v f nodes k → IsNoLater e k → farness e ≤ farness k
+no_farther : {Set : Type 0} (v : View Set) (f : CostToGo Set) (nodes : List Node) (e k : Entry) → IsEntry v f nodes e
+    → IsEntry v f nodes k → IsNoLater e k → farness e ≤ farness k
 no_farther v f nodes e k z w (inl less) =
-    let l = far_first (2 ^ 64 + 1) (2 ^ 64) e.bound.0 k.bound.0 (e.bound.0 - e.cost) (k.bound.0 - k.cost) e.ring.0 k.ring.0 less (omega (arith, z.span)) z.ring in
+    let l = far_first (2 ^ 64 + 1) (2 ^ 64) e.bound.0 k.bound.0 (e.bound.0 - e.cost) (k.bound.0 - k.cost) e.ring.0
+    k.ring.0 less (omega (arith, z.span)) z.ring in
     weaker (farness e) (farness k) l
   where
     weaker : (a b : ℕ) → a < b → a ≤ b
@@ -56,7 +66,8 @@ no_farther v f nodes e k z w (inr (same, inl dear)) =
     let l = far_second (2 ^ 64 + 1) (2 ^ 64) k.bound.0 (e.bound.0 - e.cost) (k.bound.0 - k.cost) e.ring.0 k.ring.0 d z.ring in
     moved e.bound.0 k.bound.0 same l
   where
-    moved : (b c : ℕ) → b ≡ c → (c * (2 ^ 64 + 1) + (e.bound.0 - e.cost)) * 2 ^ 64 + e.ring.0 < farness k → (b * (2 ^ 64 + 1) + (e.bound.0 - e.cost)) * 2 ^ 64 + e.ring.0 ≤ farness k
+    moved : (b c : ℕ) → b ≡ c → (c * (2 ^ 64 + 1) + (e.bound.0 - e.cost)) * 2 ^ 64 + e.ring.0 < farness k
+        → (b * (2 ^ 64 + 1) + (e.bound.0 - e.cost)) * 2 ^ 64 + e.ring.0 ≤ farness k
     moved b c e lt = rw e (weaker _ _ lt)
       where
         weaker : (a b : ℕ) → a < b → a ≤ b
@@ -130,60 +141,67 @@ none_nearer n (e ∷ es) top a = min_both (farness e) (nearest es) n a.0 (none_n
 
 -- the first entry is the nearest
 module _ {Set : Type 0} (v : View Set) (f : CostToGo Set) (nodes : List Node) where
-  none_before : (e : Entry) (es : List Entry) → IsEntry v f nodes e → AllByRecursion (IsEntry v f nodes) es → AllByRecursion (IsNoLater e) es → AllByRecursion (λ k. farness e ≤ farness k) es
+  none_before : (e : Entry) (es : List Entry) → IsEntry v f nodes e → AllByRecursion (IsEntry v f nodes) es
+      → AllByRecursion (IsNoLater e) es → AllByRecursion (λ k. farness e ≤ farness k) es
   none_before e [] z a b = tt
   none_before e (k ∷ es) z a b = (no_farther v f nodes e k z a.0 b.0, none_before e es z a.1 b.1)
 
-  first_nearest : (e : Entry) (es : List Entry) → IsEntry v f nodes e → AllByRecursion (IsEntry v f nodes) es → AllByRecursion (IsNoLater e) es → farness e ≤ nearest es
+  pub first_nearest : (e : Entry) (es : List Entry) → IsEntry v f nodes e → AllByRecursion (IsEntry v f nodes) es
+      → AllByRecursion (IsNoLater e) es → farness e ≤ nearest es
   first_nearest e es z a b = none_nearer (farness e) es (weaker (farness e) farthest (far_below v f nodes e z)) (none_before e es z a b)
     where
       weaker : (a b : ℕ) → a < b → a ≤ b
       weaker a b lt = omega (arith, lt)
 
-  -- e gave way to its children, of which none is out of date and one is nearer
-  pub open_less : (known : Known) (es kids new : List Entry) (e : Entry) → Replaced es kids e new → IsEntry v f nodes e → AllByRecursion (IsEntry v f nodes) es → AllByRecursion (IsNoLater e) es → outdated known e ≡ 0 → all_outdated known kids ≡ 0 → 0 < near (farness e) kids → work known new < work known es
-  open_less known es kids new e taken z a b own fresh nearer =
-      up_to (all_outdated known new) (all_outdated known es) (nearest new) (nearest es) (farthest + 1)
-      (few (all_outdated known es) (all_outdated known kids) (outdated known e) (all_outdated known new) (sum_by (outdated known) es) (sum_by (outdated known) kids) (sum_by (outdated known) new) (taken (outdated known)) (outdated_sum known es) (outdated_sum known kids) (outdated_sum known new) fresh)
-      (before (nearest new) (farness e) (nearest es) (some_near (farness e) new (many (near (farness e) es) (near (farness e) kids) (one_near (farness e) e) (near (farness e) new) (sum_by (one_near (farness e)) es) (sum_by (one_near (farness e)) kids) (sum_by (one_near (farness e)) new) (taken (one_near (farness e))) (near_sum (farness e) es) (near_sum (farness e) kids) (near_sum (farness e) new) (test_not (farness e) (farness e) (same (farness e))) nearer)) (first_nearest e es z a b))
-    where
-      same : (a : ℕ) → a ≤ a
-      same a = omega arith
+near_replaced : (n : ℕ) (es kids new : List Entry) (e : Entry) → Replaced es kids e new → near n es + near n kids ≡ one_near n e + near n new
+near_replaced n es kids new e taken = rw (near_sum n es, near_sum n kids, near_sum n new) (taken (one_near n))
 
-      before : (a b c : ℕ) → a < b → b ≤ c → a < c
-      before a b c lt le = omega (arith, lt, le)
+-- e gave way to its children, of which none is out of date and one is nearer
+pub open_less : (known : Known) (es kids new : List Entry) (e : Entry) → Replaced es kids e new
+    → farness e ≤ nearest es → outdated known e ≡ 0 → all_outdated known kids ≡ 0 → 0 < near (farness e) kids
+    → work known new < work known es
+open_less known es kids new e taken first own fresh nearer =
+    up_to (all_outdated known new) (all_outdated known es) (nearest new) (nearest es) (farthest + 1)
+    (few (all_outdated known es) (all_outdated known kids) (outdated known e) (all_outdated known new) (outdated_replaced known es kids new e taken) fresh)
+    (before (nearest new) (farness e) (nearest es) (some_near (farness e) new
+    (many (near (farness e) es) (near (farness e) kids) (one_near (farness e) e) (near (farness e) new)
+    (near_replaced (farness e) es kids new e taken) (test_not (farness e) (farness e) (same (farness e)))
+    nearer)) first)
+  where
+    same : (a : ℕ) → a ≤ a
+    same a = omega arith
 
-      few : (o k s n p q r : ℕ) → p + q ≡ s + r → o ≡ p → k ≡ q → n ≡ r → k ≡ 0 → n ≤ o
-      few o k s n p q r h i j l z = omega (arith, h, i, j, l, z)
+    before : (a b c : ℕ) → a < b → b ≤ c → a < c
+    before a b c lt le = omega (arith, lt, le)
 
-      many : (o k s n p q r : ℕ) → p + q ≡ s + r → o ≡ p → k ≡ q → n ≡ r → s ≡ 0 → 0 < k → 0 < n
-      many o k s n p q r h i j l z lt = omega (arith, h, i, j, l, z, lt)
+    few : (o k s n : ℕ) → o + k ≡ s + n → k ≡ 0 → n ≤ o
+    few o k s n h z = omega (arith, h, z)
+
+    many : (o k s n : ℕ) → o + k ≡ s + n → s ≡ 0 → 0 < k → 0 < n
+    many o k s n h z lt = omega (arith, h, z, lt)
 
 -- e gave way to what is known of it now
-pub learn_less : (known : Known) (es others new : List Entry) (e : Entry) → Replaced es others e new → outdated known e ≡ 1 → all_outdated known others ≡ 0 → work known new < work known es
+pub learn_less : (known : Known) (es others new : List Entry) (e : Entry) → Replaced es others e new
+    → outdated known e ≡ 1 → all_outdated known others ≡ 0 → work known new < work known es
 learn_less known es others new e taken own fresh =
     lex (all_outdated known new) (all_outdated known es) (nearest new) (nearest es) (farthest + 1)
-    (fewer (all_outdated known es) (all_outdated known others) (outdated known e) (all_outdated known new) (sum_by (outdated known) es) (sum_by (outdated known) others) (sum_by (outdated known) new) (taken (outdated known)) (outdated_sum known es) (outdated_sum known others) (outdated_sum known new) fresh own)
+    (fewer (all_outdated known es) (all_outdated known others) (outdated known e) (all_outdated known new)
+    (outdated_replaced known es others new e taken) fresh own)
     (top (nearest new) farthest (nearest_top new))
   where
-    fewer : (o k s n p q r : ℕ) → p + q ≡ s + r → o ≡ p → k ≡ q → n ≡ r → k ≡ 0 → s ≡ 1 → n < o
-    fewer o k s n p q r h i j l z one = omega (arith, h, i, j, l, z, one)
+    fewer : (o k s n : ℕ) → o + k ≡ s + n → k ≡ 0 → s ≡ 1 → n < o
+    fewer o k s n h z one = omega (arith, h, z, one)
 
     top : (a b : ℕ) → a ≤ b → a < b + 1
     top a b le = omega (arith, le)
 
 -- an entry that is nearer than another, by what is left and the ring
-pub nearer : (e k : Entry) (from : ℕ) → k.bound.0 ≡ e.bound.0 → k.bound.0 ≡ k.cost + from → (from < e.bound.0 - e.cost) ⊎ ((from ≡ e.bound.0 - e.cost) × (k.ring.0 < e.ring.0)) → k.ring.0 < 2 ^ 64 → farness k < farness e
+pub nearer : (e k : Entry) (from : ℕ) → k.bound.0 ≡ e.bound.0 → k.bound.0 ≡ k.cost + from
+    → (from < e.bound.0 - e.cost) ⊎ ((from ≡ e.bound.0 - e.cost) × (k.ring.0 < e.ring.0)) → k.ring.0 < 2 ^ 64
+    → farness k < farness e
 nearer e k from same is earlier small =
     let left : k.bound.0 - k.cost ≡ from = omega (arith, is) in
-    by (2 ^ 64 + 1) (2 ^ 64) k.bound.0 e.bound.0 (k.bound.0 - k.cost) from (e.bound.0 - e.cost) k.ring.0 e.ring.0 same left earlier small
-  where
-    by : (D R b c d x y r t : ℕ) → b ≡ c → d ≡ x → (x < y) ⊎ ((x ≡ y) × (r < t)) → r < R → (b * D + d) * R + r < (c * D + y) * R + t
-    by D R b c d x y r t e g (inl lt) low = rw e (far_second D R c d y r t (omega (arith, g, lt)) low)
-    by D R b c d x y r t e g (inr h) low = rw (e, g, h.0) (plus ((c * D + y) * R) r t h.1)
-      where
-        plus : (n a b : ℕ) → a < b → n + a < n + b
-        plus n a b lt = omega (arith, lt)
+    far_then (2 ^ 64 + 1) (2 ^ 64) k.bound.0 e.bound.0 (k.bound.0 - k.cost) from (e.bound.0 - e.cost) k.ring.0 e.ring.0 same left earlier small
 
 pub one_nearer : (n : ℕ) (e : Entry) → farness e < n → one_near n e ≡ 1
 one_nearer n e lt = test_less (farness e) n lt

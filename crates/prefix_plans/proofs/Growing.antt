@@ -1,6 +1,6 @@
 -- The children of a prefix, operator after operator.
 use Rattle.std.proofs.Common.{◌≡◌, ℕ, zero, suc, ◌+◌, ◌-◌, ◌<◌, ◌≤◌, ◌⊎◌, inl, inr, List, [], ◌∷◌, ◌++◌, length, get_or, refl, sym, ◌∙◌, ap, subst, arith}
-use Rattle.std.specs.List.{AllByRecursion}
+use Rattle.std.specs.List.{AllByRecursion, Contains}
 use Rattle.space_api.proofs.Rising.{IsPast, past_gap}
 use Rattle.symk_task.specs.declared.parts.Mode.TheVariants.{TopK}
 use Rattle.task_system.specs.System.{State, Listed}
@@ -8,20 +8,19 @@ use Rattle.space_api.specs.View.{View}
 use Rattle.cost_to_go.specs.declared.search.CostToGo.{CostToGo}
 use Rattle.prefix_laws.specs.Queue.{Hopeless, ChildrenBelow}
 use Rattle.prefix_laws.proofs.Growing as laws
-use Rattle.prefix_tree.specs.StateGraph.{ops_of, AreMoves}
-use Rattle.prefix_tree.specs.Tree.{IsTree, path_at, end_at}
+use Rattle.prefix_tree.specs.Tree.{path_at}
 use Rattle.prefix_tree.specs.Entries.{prefixes}
-use Rattle.prefix_tree.specs.declared.state_graph.Move.{Move}
 use Rattle.prefix_tree.specs.declared.tree.Node.{Node}
 use Rattle.prefix_tree.specs.declared.entry.Entry.{Entry}
 use Rattle.prefix_tree.proofs.Entries.{prefixes_last, prefixes_like}
 use Rattle.prefix_ends.specs.Children.{IsNew, Added}
 use Rattle.prefix_ends.proofs.Growing.{each_new_like}
-use Rattle.prefix_ends.proofs.Reaching.{lost}
 use Rattle.prefix_plans.specs.Children.{AreChildren}
 
 -- the tree grew
-pub children_like : {Set : Type 0} (v : View Set) (f : CostToGo Set) (a c : List Node) → length a ≤ length c → ((i : ℕ) → i < length a → path_at c i ≡ path_at a i) → (e : List ℕ) (n : ℕ) (kids : List Entry) → AreChildren v f a e n kids → AreChildren v f c e n kids
+pub children_like : {Set : Type 0} (v : View Set) (f : CostToGo Set) (a c : List Node) → length a ≤ length c
+    → ((i : ℕ) → i < length a → path_at c i ≡ path_at a i) → (e : List ℕ) (n : ℕ) (kids : List Entry)
+    → AreChildren v f a e n kids → AreChildren v f c e n kids
 children_like v f a c longer same e n kids g =
     let back = sym (prefixes_like (IsNew v f a) a c kids (λ k z. z.0.inside) same g.each) in
     record {
@@ -60,28 +59,36 @@ module _ {Set : Type 0} (v : View Set) (f : CostToGo Set) (nodes : List Node) (e
   pub children_next : (n : ℕ) (kids new : List Entry) → AreChildren v f nodes e n kids → Added v f nodes e n kids new → AreChildren v f nodes e (n + 1) new
   children_next n kids new g (inl (same, lost)) = subst (λ (l : List Entry). AreChildren v f nodes e (n + 1) l) (sym same) (children_skip n kids g lost)
   children_next n kids new g (inr (k, pushed, stands, path)) =
-      let last : prefixes nodes (kids ++ k ∷ []) ≡ prefixes nodes kids ++ (e ++ n ∷ []) ∷ [] = prefixes_last nodes kids k ∙ ap (λ (p : List ℕ). prefixes nodes kids ++ p ∷ []) path in
+      let last : prefixes nodes (kids ++ k ∷ []) ≡ prefixes nodes kids ++ (e ++ n ∷ []) ∷ [] =
+      prefixes_last nodes kids k ∙ ap (λ (p : List ℕ). prefixes nodes kids ++ p ∷ []) path in
       rw pushed (record {
         each = each_last (IsNew v f nodes) kids k g.each stands;
         counted = subst (ChildrenBelow v.system TopK e (n + 1)) (sym last) (laws.children_more v.system TopK e n (prefixes nodes kids) g.counted);
         all = λ op lt. subst (λ (ks : List (List ℕ)). Hopeless v.system TopK (e ++ op ∷ []) ⊎ Listed ks (e ++ op ∷ [])) (sym last) (elim (below_next op n lt) [
           | inl less ↦ elim (g.all op less) [ inl lost ↦ inl lost | inr l ↦ inr (listed_left (prefixes nodes kids) ((e ++ n ∷ []) ∷ []) (e ++ op ∷ []) l) ]
-          | inr is ↦ inr (subst (λ (j : ℕ). Listed (prefixes nodes kids ++ (e ++ n ∷ []) ∷ []) (e ++ j ∷ [])) is (listed_last (prefixes nodes kids) (e ++ n ∷ [])))
+          | inr is ↦ inr (subst (λ (j : ℕ). Listed (prefixes nodes kids ++ (e ++ n ∷ []) ∷ []) (e ++ j ∷ [])) is
+              (listed_last (prefixes nodes kids) (e ++ n ∷ [])))
         ]);
       })
 
   -- no plan goes on by any of the next so many operators
-  children_past : (n k : ℕ) (kids : List Entry) → AreChildren v f nodes e n kids → ((op : ℕ) → n ≤ op → op < n + k → Hopeless v.system TopK (e ++ op ∷ [])) → AreChildren v f nodes e (n + k) kids
+  children_past : (n k : ℕ) (kids : List Entry) → AreChildren v f nodes e n kids
+      → ((op : ℕ) → n ≤ op → op < n + k → Hopeless v.system TopK (e ++ op ∷ []))
+      → AreChildren v f nodes e (n + k) kids
   children_past n zero kids z lost = let same : n ≡ n + 0 = omega arith in subst (λ (w : ℕ). AreChildren v f nodes e w kids) same z
   children_past n (suc k) kids z lost =
       let same : n + k + 1 ≡ n + suc k = omega arith in
       let before = children_past n k kids z (λ op ge lt. lost op ge (omega (arith, lt))) in
       subst (λ (w : ℕ). AreChildren v f nodes e w kids) same (children_skip (n + k) kids before (lost (n + k) (omega arith) (omega arith)))
 
--- the children by the operators below n are those by the operators below x, where none between is that of a move
-pub skip_to : {Set : Type 0} (v : View Set) (f : CostToGo Set) (ss : List State) (nodes : List Node) (i : ℕ) (z : IsTree v.system TopK ss nodes) (lt : i < length nodes) (moves : List Move) (all : AreMoves v.system ss (end_at ss nodes i) moves) (c : List Node) (kids : List Entry) (k n x : ℕ) → IsPast (ops_of moves) k n → n ≤ x → ((j : ℕ) → k ≤ j → j < length (ops_of moves) → x ≤ get_or (ops_of moves) j 0)
-    → AreChildren v f c (path_at nodes i) n kids → AreChildren v f c (path_at nodes i) x kids
-skip_to v f ss nodes i z lt moves all c kids k n x past le before w =
-    let whole : n + (x - n) ≡ x = omega (arith, le) in
-    subst (λ (top : ℕ). AreChildren v f c (path_at nodes i) top kids) whole
-    (children_past v f c (path_at nodes i) n (x - n) kids w (λ op ge less. lost v f ss nodes i z lt moves all op (past_gap (ops_of moves) k n op past ge (λ j at in_list. let b = before j at in_list in omega (arith, less, le, b)))))
+  -- the children by the operators below n are those by the operators below x, where none between is that of a move
+  pub skip_to : (ops : List ℕ) → ((op : ℕ) → ¬ Contains ops op → Hopeless v.system TopK (e ++ op ∷ []))
+      → (kids : List Entry) (k n x : ℕ) → IsPast ops k n → n ≤ x
+      → ((j : ℕ) → k ≤ j → j < length ops → x ≤ get_or ops j 0)
+      → AreChildren v f nodes e n kids → AreChildren v f nodes e x kids
+  skip_to ops lost kids k n x past le before z =
+      let whole : n + (x - n) ≡ x = omega (arith, le) in
+      subst (λ (top : ℕ). AreChildren v f nodes e top kids) whole
+      (children_past n (x - n) kids z (λ op ge less. lost op
+      (past_gap ops k n op past ge (λ j at in_list. let b = before j at in_list in omega
+      (arith, less, le, b)))))

@@ -1,11 +1,12 @@
 -- How turns stop, and turns one after the other.
-use Rattle.std.proofs.Common.{◌≡◌, ℕ, ◌+◌, ◌<◌, ◌≤◌, ◌^◌, inr, List, [], length, slice_index_or, Option, Some, None, Result, Ok, Err, IfOk, refl, sym, subst, arith}
+use Rattle.std.proofs.Common.{◌≡◌, ℕ, ◌+◌, ◌<◌, ◌≤◌, ◌^◌, inr, List, Option, Some, None, Result, Ok, Err, IfOk, sym, ap, subst, arith}
 use Rattle.std.specs.List.{AllByRecursion}
 use Rattle.symk_task.specs.declared.parts.Mode.TheVariants.{TopK}
 use Rattle.task_system.specs.System.{System}
 use Rattle.space_api.specs.View.{View}
 use Rattle.space_api.specs.Frames as frames
-use Rattle.lazy_plans.specs.Law.{Stays, NoneLeft, Turned, top}
+use Rattle.lazy_plans.specs.Law.{Turned, top}
+use Rattle.lazy_plans.specs.declared.stop.Stop.{Stop}
 use Rattle.lazy_plans.specs.declared.stop.Stop.TheVariants.{Memory, CostRange}
 use Rattle.lazy_plans.proofs.Given.{turned_from, stays_trans}
 use Rattle.cost_to_go.specs.Standing.{next_key_of}
@@ -13,92 +14,91 @@ use Rattle.cost_to_go.specs.declared.search.CostToGo.{CostToGo}
 use Rattle.prefix_laws.specs.Queue.{Right, Pending}
 use Rattle.prefix_laws.proofs.Owed.{memory_stops}
 use Rattle.prefix_laws.proofs.Turns as turns
-use Rattle.prefix_tree.specs.Entries.{prefixes}
-use Rattle.prefix_tree.specs.declared.state_graph.StateGraph.{StateGraph}
-use Rattle.prefix_tree.specs.declared.tree.Node.{Node}
+use Rattle.prefix_tree.specs.Entries.{entries_of}
 use Rattle.prefix_tree.specs.declared.entry.Entry.{Entry}
+use Rattle.prefix_tree.specs.declared.queue.Queue.{Queue}
 use Rattle.prefix_tree.proofs.Entries.{first_is}
 use Rattle.prefix_ends.specs.Left.{Known, known_of}
 use Rattle.prefix_ends.specs.Children.{IsEntry}
-use Rattle.prefix_ends.specs.Standing.{IsReady}
 use Rattle.prefix_ends.proofs.Moving.{ready_stays}
 use Rattle.prefix_ends.proofs.Dearest.{bounds_past, something_waits}
-use Rattle.prefix_plans.specs.Standing.{KeepsPending}
+use Rattle.prefix_plans.specs.Standing.{waiting, Stands, IsFirst, KeepsPending}
+use Rattle.prefix_plans.specs.declared.front.Front.{Front}
 use Rattle.prefix_plans.specs.Turned.{Acts, TurnOf, HaltsAt}
 use Rattle.prefix_plans.specs.declared.walk.Halt.{Halt}
 use Rattle.prefix_plans.specs.declared.walk.Halt.TheVariants.{Gives, Waits, Ends, OutOfRange}
 use Rattle.prefix_plans.proofs.Ranging.{keeps_all}
 
-pub keeps_same : (y : System) (most : Option ℕ) (a b : List Node) (old new : List Entry) → Right y TopK most (prefixes a old) → prefixes b new ≡ prefixes a old → KeepsPending y most a b old new
-keeps_same y most a b old new right same = (
-  subst (Right y TopK most) (sym same) right,
-  subst (λ (ps : List (List ℕ)). Stays (Pending y TopK (prefixes a old)) (Pending y TopK ps)) (sym same) (λ q. ((λ h. h), (λ h. h))),
-)
+pub keeps_same : (y : System) (most : Option ℕ) (old new : List (List ℕ)) → Right y TopK most old → new ≡ old → KeepsPending y most old new
+keeps_same y most old new right same = subst (KeepsPending y most old) (sym same) (keeps_all y most old right)
 
-pub keeps_trans : (y : System) (most : Option ℕ) (a b c : List Node) (old mid new : List Entry) → KeepsPending y most a b old mid → KeepsPending y most b c mid new → KeepsPending y most a c old new
-keeps_trans y most a b c old mid new k h = (h.0, stays_trans (Pending y TopK (prefixes a old)) (Pending y TopK (prefixes b mid)) (Pending y TopK (prefixes c new)) k.1 h.1)
-
--- no entry is left
-pub empty_ends : (y : System) (known : Known) (most : Option ℕ) (nodes : List Node) (es : List Entry) → es ≡ [] → Right y TopK most (prefixes nodes es) → HaltsAt y known most nodes nodes es es Ends
-empty_ends y known most nodes es none right = (keeps_all y most nodes es right, subst (λ (l : List Entry). NoneLeft y most (Pending y TopK (prefixes nodes l))) (sym none) (turns.empty y TopK most))
+pub keeps_trans : {y : System} {most : Option ℕ} {a b c : List (List ℕ)} → KeepsPending y most a b → KeepsPending y most b c → KeepsPending y most a c
+keeps_trans {y} {most} {a} {b} {c} k h = record {
+  right = h.right;
+  stays = stays_trans (Pending y TopK a)
+      (Pending y TopK b) (Pending y TopK c) k.stays h.stays;
+}
 
 -- each entry is dearer than what is wanted
-pub past_ends : {Set : Type 0} (v : View Set) (f : CostToGo Set) (nodes : List Node) (known : Known) (m : ℕ) (es : List Entry) → AllByRecursion (IsEntry v f nodes) es → AllByRecursion (λ (k : Entry). m < k.bound.0) es → Right v.system TopK (Some m) (prefixes nodes es) → HaltsAt v.system known (Some m) nodes nodes es es Ends
-past_ends v f nodes known m es each dear right = (keeps_all v.system (Some m) nodes es right, turns.past v.system TopK m (m + 1) (prefixes nodes es) (bounds_past v f nodes m es each dear) (omega arith))
-
-pub past_some : {Set : Type 0} (v : View Set) (f : CostToGo Set) (nodes : List Node) (known : Known) (most : Option ℕ) (m : ℕ) (es : List Entry) → most ≡ Some m → AllByRecursion (IsEntry v f nodes) es → AllByRecursion (λ (k : Entry). top most < k.bound.0) es → Right v.system TopK most (prefixes nodes es) → HaltsAt v.system known most nodes nodes es es Ends
-past_some v f nodes known None m es is each dear right = absurd (none_some is)
+pub past_ends : {Set : Type 0} (v : View Set) (f : CostToGo Set) (known : Known) (most : Option ℕ) (m : ℕ) (x : Front)
+    → most ≡ Some m → Stands v f x → AllByRecursion (λ (k : Entry). top most < k.bound.0) (entries_of x.queue)
+    → Right v.system TopK most (waiting x)
+    → HaltsAt v.system known most (waiting x) (waiting x) Ends
+past_ends v f known None m x is z dear right = absurd (none_some is)
   where
     none_some : None ≡ Some m → ⊥
     none_some e = cc
-past_some v f nodes known (Some n) m es is each dear right = past_ends v f nodes known n es each dear right
+past_ends v f known (Some n) m x is z dear right = (
+  keeps_all v.system (Some n) (waiting x) right,
+  turns.past v.system TopK n (n + 1) (waiting x) (bounds_past v f x.tree.items n (entries_of x.queue) z.each dear) (omega arith),
+)
 
 -- what was done with the first entry is a turn
-pub turn_acts : {Set : Type 0} (v : View Set) (f : CostToGo Set) (most : Option ℕ) (a b : List Node) (e : Entry) (old new : List Entry) (o : Option Halt) → AllByRecursion (IsEntry v f a) old → 0 < length old → e ≡ slice_index_or old 0 e → e.bound.0 ≤ top most → top most < 2 ^ 64 → Right v.system TopK most (prefixes a old) → Acts v f a b e old new o → TurnOf v.system (known_of f) most a b old new o
-turn_acts v f most a b e old new None each some first cheap range right h = h most right
-turn_acts v f most a b e old new (Some (Gives p)) each some first cheap range right h =
-    let z = first_is (IsEntry v f a) old e some first each in
-    h most right (omega (arith, z.least, cheap))
-turn_acts v f most a b e old new (Some Waits) each some first cheap range right h =
-    let same : prefixes b new ≡ prefixes a old = subst (λ (c : List Node). prefixes c new ≡ prefixes a old) (sym h.0) (subst (λ (l : List Entry). prefixes a l ≡ prefixes a old) (sym h.1) refl) in
-    (keeps_same v.system most a b old new right same, something_waits (next_key_of f) e.cost e.bound.0 (top most) cheap range (λ lt. h.2 (inr lt)))
-turn_acts v f most a b e old new (Some Ends) each some first cheap range right h = absurd h
-turn_acts v f most a b e old new (Some OutOfRange) each some first cheap range right h = absurd h
+module _ {Set : Type 0} (v : View Set) (f : CostToGo Set) (most : Option ℕ) (e : Entry) (x w : Front)
+    (z : Stands v f x) (first : IsFirst e (entries_of x.queue)) (cheap : e.bound.0 ≤ top most)
+    (range : top most < 2 ^ 64) (right : Right v.system TopK most (waiting x)) where
+  turn_acts : (o : Option Halt) → Acts v f e x w o → TurnOf v.system (known_of f) most x w o
+  turn_acts None h = h most right
+  turn_acts (Some (Gives p)) h =
+      let k = first_is (IsEntry v f x.tree.items) (entries_of x.queue) e first.some first.first z.each in
+      h most right (omega (arith, k.least, cheap))
+  turn_acts (Some Waits) h = (
+    keeps_same v.system most (waiting x) (waiting w) right (ap waiting h.0),
+    something_waits
+        (next_key_of f) e.cost e.bound.0 (top most) cheap range (λ lt. h.1 (inr lt)),
+  )
+  turn_acts (Some Ends) h = absurd h
+  turn_acts (Some OutOfRange) h = absurd h
 
-pub acts_ok : {Set E : Type 0} (v : View Set) (f : CostToGo Set) (most : Option ℕ) (a b : List Node) (e : Entry) (old new : List Entry) (r : Result (Option Halt) E) → AllByRecursion (IsEntry v f a) old → 0 < length old → e ≡ slice_index_or old 0 e → e.bound.0 ≤ top most → top most < 2 ^ 64 → Right v.system TopK most (prefixes a old) → IfOk r (Acts v f a b e old new) → IfOk r (TurnOf v.system (known_of f) most a b old new)
-acts_ok v f most a b e old new (Ok o) each some first cheap range right h = turn_acts v f most a b e old new o each some first cheap range right h
-acts_ok v f most a b e old new (Err x) each some first cheap range right h = h
+  pub acts_ok : {E : Type 0} (r : Result (Option Halt) E) → IfOk r (Acts v f e x w) → IfOk r (TurnOf v.system (known_of f) most x w)
+  acts_ok (Ok o) h = turn_acts o h
+  acts_ok (Err u) h = h
 
-module _ (y : System) (known : Known) (most : Option ℕ) (a b c : List Node) (old mid new : List Entry) (keeps : KeepsPending y most a b old mid) where
-  -- after turns that went on
-  halts_after : (halt : Halt) → HaltsAt y known most b c mid new halt → HaltsAt y known most a c old new halt
-  halts_after (Gives p) h = (h.0, turned_from y TopK most (Pending y TopK (prefixes a old)) (Pending y TopK (prefixes b mid)) (Pending y TopK (prefixes c new)) (Ok (Some p)) keeps.1 h.1)
-  halts_after Waits h = (keeps_trans y most a b c old mid new keeps h.0, h.1)
-  halts_after Ends h =
-      let t = turned_from y TopK most (Pending y TopK (prefixes a old)) (Pending y TopK (prefixes b mid)) (Pending y TopK (prefixes c new)) (Ok None) keeps.1 (h.1, h.0.1) in
-      ((h.0.0, t.1), t.0)
-  halts_after OutOfRange h =
-      let t = turned_from y TopK most (Pending y TopK (prefixes a old)) (Pending y TopK (prefixes b mid)) (Pending y TopK (prefixes c new)) (Err CostRange) keeps.1 (h.1, h.0.1) in
-      ((h.0.0, t.1), t.0)
+-- after turns that went on
+module _ {y : System} {most : Option ℕ} {a b : List (List ℕ)} (known : Known) (c : List (List ℕ)) (keeps : KeepsPending y most a b) where
+  turned : (r : Result (Option (List ℕ)) Stop) → Turned y TopK most (Pending y TopK b) (Pending y TopK c) r
+      → Turned y TopK most (Pending y TopK a) (Pending y TopK c) r
+  turned r h = turned_from y TopK most (Pending y TopK a) (Pending y TopK b) (Pending y TopK c) r keeps.stays h
+
+  halts_after : (halt : Halt) → HaltsAt y known most b c halt → HaltsAt y known most a c halt
+  halts_after (Gives p) h = (h.0, turned (Ok (Some p)) h.1)
+  halts_after Waits h = (keeps_trans keeps h.0, h.1)
+  halts_after Ends h = (keeps_trans keeps h.0, (turned (Ok None) (h.1, h.0.stays)).0)
+  halts_after OutOfRange h = (keeps_trans keeps h.0, (turned (Err CostRange) (h.1, h.0.stays)).0)
 
 -- the same, of turns whose system is known to be the same
-pub halts_same : (x y : System) (known : Known) (most : Option ℕ) (a b c : List Node) (old mid new : List Entry) → x ≡ y → KeepsPending y most a b old mid → (halt : Halt) → HaltsAt x known most b c mid new halt → HaltsAt y known most a c old new halt
-halts_same x y known most a b c old mid new same keeps halt h = halts_after y known most a b c old mid new keeps halt (subst (λ (z : System). HaltsAt z known most b c mid new halt) same h)
+pub halts_same : {x y : System} {most : Option ℕ} {a b : List (List ℕ)} (known : Known) (c : List (List ℕ))
+    (halt : Halt) → x ≡ y → KeepsPending y most a b → HaltsAt x known most b c halt → HaltsAt y known most a c halt
+halts_same {x} {y} {most} {a} {b} known c halt same keeps h = halts_after known c keeps halt (subst (λ (z : System). HaltsAt z known most b c halt) same h)
 
 -- the queue has other entries, and the space other sets
-pub ready_left : {Set : Type 0} (v w : View Set) (f : CostToGo Set) (m : StateGraph) (nodes : List Node) (es new : List Entry) → frames.Stays v w → IsReady v f m nodes es → AllByRecursion (IsEntry v f nodes) new → IsReady w f m nodes new
-ready_left v w f m nodes es new stays z each = ready_stays v w f m nodes new stays (record { alone = z.alone; graph = z.graph; tree = z.tree; each = each })
+pub ready_left : {Set : Type 0} (v w : View Set) (f : CostToGo Set) (x : Front) (q : Queue) → frames.Stays v w
+    → Stands v f x → (AllByRecursion (IsEntry v f x.tree.items) (entries_of x.queue)
+    → AllByRecursion (IsEntry v f x.tree.items) (entries_of q)) → Stands w f (record x { queue = q })
+ready_left v w f x q stays z each = ready_stays v w f x.graph x.tree.items (entries_of q) stays
+    (record { alone = z.alone; graph = z.graph; tree = z.tree; each = each z.each })
 
--- what a call answers
-module _ (y : System) (known : Known) (most : Option ℕ) (a b : List Node) (old new : List Entry) where
-  pub law_gives : (p : List ℕ) → HaltsAt y known most a b old new (Gives p) → Turned y TopK most (Pending y TopK (prefixes a old)) (Pending y TopK (prefixes b new)) (Ok (Some p))
-  law_gives p h = h.1
-
-  pub law_ends : HaltsAt y known most a b old new Ends → Turned y TopK most (Pending y TopK (prefixes a old)) (Pending y TopK (prefixes b new)) (Ok None)
-  law_ends h = (h.1, h.0.1)
-
-  pub law_out : HaltsAt y known most a b old new OutOfRange → Turned y TopK most (Pending y TopK (prefixes a old)) (Pending y TopK (prefixes b new)) (Err CostRange)
-  law_out h = (h.1, h.0.1)
-
-  pub law_stops : KeepsPending y most a b old new → Turned y TopK most (Pending y TopK (prefixes a old)) (Pending y TopK (prefixes b new)) (Err Memory)
-  law_stops h = (memory_stops y most (Pending y TopK (prefixes a old)), h.1)
+-- memory was refused
+pub law_stops : {y : System} {most : Option ℕ} {old new : List (List ℕ)} → KeepsPending y most old new
+    → Turned y TopK most (Pending y TopK old) (Pending y TopK new) (Err Memory)
+law_stops {y} {most} {old} {new} k = (memory_stops y most (Pending y TopK old), k.stays)

@@ -6,10 +6,10 @@ use Rattle.space_api.specs.View.{View, Valid}
 use Rattle.lazy_plans.specs.Law.{Last}
 use Rattle.lazy_plans.specs.declared.stop.Stop.{Stop}
 use Rattle.prefix_plans.specs.declared.engine.PrefixPlans.{PrefixPlans}
-use Rattle.prefix_tree.specs.Entries.{entries_of, prefixes}
 use Rattle.prefix_ends.specs.Owned.{IsTidy}
 use Rattle.prefix_ends.specs.Standing.{IsBeneath}
 use Rattle.prefix_laws.specs.Owing.{Owes, tells_owed}
+use Rattle.prefix_plans.specs.Standing.{waiting}
 use Rattle.prefix_plans.specs.Sound.{IsSound, Answered}
 
 abbrev pub system_of : {S Set : Type 0} → (S → View Set) → PrefixPlans S Set → System
@@ -25,14 +25,14 @@ ended_of x = x.ended
 
 -- what is still owed, and the same computed
 abbrev pub Pends : {S Set : Type 0} → (S → View Set) → PrefixPlans S Set → List ℕ → Type 0
-Pends view x p = Owes (view x.space).system TopK (prefixes x.tree.items (entries_of x.queue)) x.held p
+Pends view x p = Owes (view x.space).system TopK (waiting x.front) x.held p
 
 abbrev pub tells : {S Set : Type 0} → (S → View Set) → PrefixPlans S Set → List ℕ → Bool
-tells view x p = tells_owed (view x.space).system TopK (prefixes x.tree.items (entries_of x.queue)) x.held p
+tells view x p = tells_owed (view x.space).system TopK (waiting x.front) x.held p
 
 -- what it meets between two calls
 abbrev pub IsEngine : {S Set : Type 0} → (S → View Set) → PrefixPlans S Set → Type 0
-IsEngine view x = IsSound (view x.space) x.search x.within x.places.graph x.tree.items x.most (entries_of x.queue) x.held x.ended
+IsEngine view x = IsSound (view x.space) x.search x.within x.most x.front x.held x.ended
 
 -- every valid set is one of the search, or the one that it is kept to
 abbrev pub KeepsAll : {S Set : Type 0} → (S → View Set) → PrefixPlans S Set → Type 0

@@ -8,21 +8,18 @@ use Rattle.cost_to_go.specs.Standing.{within_of}
 use Rattle.cost_to_go.specs.declared.search.CostToGo.{CostToGo}
 use Rattle.prefix_laws.specs.Queue.{Right}
 use Rattle.prefix_laws.specs.Owing.{Owes, IsHeld}
-use Rattle.prefix_tree.specs.Entries.{prefixes}
-use Rattle.prefix_tree.specs.declared.state_graph.StateGraph.{StateGraph}
-use Rattle.prefix_tree.specs.declared.tree.Node.{Node}
-use Rattle.prefix_tree.specs.declared.entry.Entry.{Entry}
 use Rattle.prefix_ends.specs.Owned.{IsTidy}
-use Rattle.prefix_ends.specs.Standing.{IsReady}
+use Rattle.prefix_plans.specs.Standing.{waiting, Stands}
+use Rattle.prefix_plans.specs.declared.front.Front.{Front}
 
 -- what every engine meets between two calls: the queue stands, what was answered last still holds, and where no plan was left
 -- the space is tidy
-pub record IsSound {Set : Type 0} (v : View Set) (f : CostToGo Set) (within : Set) (m : StateGraph) (nodes : List Node) (most : Option ℕ) (es : List Entry) (held : Option (List ℕ)) (ended : Last) : Type 0 where
-  pub ready : IsReady v f m nodes es
+pub record IsSound {Set : Type 0} (v : View Set) (f : CostToGo Set) (within : Set) (most : Option ℕ) (x : Front) (held : Option (List ℕ)) (ended : Last) : Type 0 where
+  pub ready : Stands v f x
   pub kept : within ≡ within_of f
-  pub right : Right v.system TopK most (prefixes nodes es)
+  pub right : Right v.system TopK most (waiting x)
   pub holds : IsHeld v.system TopK held ended
-  pub said : Ended v.system most (Owes v.system TopK (prefixes nodes es) held) ended
+  pub said : Ended v.system most (Owes v.system TopK (waiting x) held) ended
   pub room : ended ≡ Some None → IsTidy v
 
 -- what one call gives: the law, and a tidy space after a plan or None

@@ -1,16 +1,31 @@
 -- What is left to do, and what pends of a queue of prefixes before and after a turn.
-use Rattle.std.specs.Prelude.{ℕ, min, ◌+◌, ◌*◌, ◌-◌, ◌<◌, ◌≤◌, ◌^◌, List, [], ◌∷◌, Option, Some, None}
+use Rattle.std.specs.Prelude.{◌≡◌, ℕ, min, ◌+◌, ◌*◌, ◌-◌, ◌<◌, ◌≤◌, ◌^◌, All, List, [], ◌∷◌, length, slice_index_or, Option, Some, None}
 use Rattle.task_system.specs.System.{System}
 use Rattle.space_api.specs.View.{View}
 use Rattle.cost_to_go.specs.declared.search.CostToGo.{CostToGo}
 use Rattle.symk_task.specs.declared.parts.Mode.TheVariants.{TopK}
 use Rattle.lazy_plans.specs.Law.{Gave, Stays, top}
 use Rattle.prefix_laws.specs.Queue.{Right, Pending}
-use Rattle.prefix_tree.specs.Entries.{prefixes}
-use Rattle.prefix_tree.specs.declared.tree.Node.{Node}
+use Rattle.prefix_tree.specs.Order.{IsNoLater}
+use Rattle.prefix_tree.specs.Entries.{entries_of, prefixes}
 use Rattle.prefix_tree.specs.declared.entry.Entry.{Entry}
 use Rattle.prefix_ends.specs.Left.{Known, known_of}
-use Rattle.prefix_ends.specs.Standing.{all_outdated}
+use Rattle.prefix_ends.specs.Standing.{IsReady, all_outdated}
+use Rattle.prefix_plans.specs.declared.front.Front.{Front}
+
+-- the prefixes that wait
+abbrev pub waiting : Front → List (List ℕ)
+waiting x = prefixes x.tree.items (entries_of x.queue)
+
+-- the search, the states, the prefixes and the entries stand
+abbrev pub Stands : {Set : Type 0} → View Set → CostToGo Set → Front → Type 0
+Stands v f x = IsReady v f x.graph x.tree.items (entries_of x.queue)
+
+-- the entry is handed out first
+pub record IsFirst (e : Entry) (es : List Entry) : Type 0 where
+  pub some : 0 < length es
+  pub first : e ≡ slice_index_or es 0 e
+  pub order : All (IsNoLater e) es
 
 -- How far the entry is from a plan, where its last state is ranked: by its bound, then by what is left, then by its number.
 abbrev pub farness : Entry → ℕ
@@ -29,18 +44,19 @@ nearest (e ∷ es) = min (farness e) (nearest es)
 abbrev pub work : Known → List Entry → ℕ
 work known es = all_outdated known es * (farthest + 1) + nearest es
 
--- the old tree and entries, and the new ones: what pends is the same, and the queue stays right
-abbrev pub KeepsPending : System → Option ℕ → List Node → List Node → List Entry → List Entry → Type 0
-KeepsPending y most a b old new = Right y TopK most (prefixes b new) × Stays (Pending y TopK (prefixes a old)) (Pending y TopK (prefixes b new))
+-- the old prefixes that wait, and the new ones: what pends is the same, and they stay right
+pub record KeepsPending (y : System) (most : Option ℕ) (old new : List (List ℕ)) : Type 0 where
+  pub right : Right y TopK most new
+  pub stays : Stays (Pending y TopK old) (Pending y TopK new)
 
 -- the queue goes on: what pends is the same, and there is less to do
-abbrev pub GoesOn : {Set : Type 0} → View Set → CostToGo Set → List Node → List Node → List Entry → List Entry → Type 0
-GoesOn v f a b old new = (most : Option ℕ) → Right v.system TopK most (prefixes a old) → KeepsPending v.system most a b old new × (work (known_of f) new < work (known_of f) old)
+abbrev pub GoesOn : {Set : Type 0} → View Set → CostToGo Set → Front → Front → Type 0
+GoesOn v f old new = (most : Option ℕ) → Right v.system TopK most (waiting old) → KeepsPending v.system most (waiting old) (waiting new) × (work (known_of f) (entries_of new.queue) < work (known_of f) (entries_of old.queue))
 
 -- the plan of the first entry is given, if it is cheap enough
-abbrev pub GivesFirst : System → List Node → List Node → Entry → List Entry → List Entry → List ℕ → Type 0
-GivesFirst y a b e old new p = (most : Option ℕ) → Right y TopK most (prefixes a old) → e.cost ≤ top most → Right y TopK most (prefixes b new) × Gave y TopK most (Pending y TopK (prefixes a old)) (Pending y TopK (prefixes b new)) p
+abbrev pub GivesFirst : System → Entry → List (List ℕ) → List (List ℕ) → List ℕ → Type 0
+GivesFirst y e old new p = (most : Option ℕ) → Right y TopK most old → e.cost ≤ top most → Right y TopK most new × Gave y TopK most (Pending y TopK old) (Pending y TopK new) p
 
-abbrev pub Opens : {Set : Type 0} → View Set → CostToGo Set → List Node → List Node → Entry → List Entry → List Entry → Option (List ℕ) → Type 0
-Opens v f a b e old new None = GoesOn v f a b old new
-Opens v f a b e old new (Some p) = GivesFirst v.system a b e old new p
+abbrev pub Opens : {Set : Type 0} → View Set → CostToGo Set → Entry → Front → Front → Option (List ℕ) → Type 0
+Opens v f e old new None = GoesOn v f old new
+Opens v f e old new (Some p) = GivesFirst v.system e (waiting old) (waiting new) p

@@ -6,7 +6,7 @@ ghost use Rattle.prefix_ends.specs.Owned.{HasNone, HasAlone, HasUseful};
 ghost use Rattle.prefix_plans.specs.Engine.{system_of, most_of, ended_of, IsEngine, OwesAll};
 
 use crate::engine::PrefixPlans;
-use crate::places::Places;
+use crate::front::Front;
 use cost_to_go::CostToGo;
 use prefix_ends::Ranks;
 use prefix_tree::{Entry, Node, Queue, StateGraph, number_of_start};
@@ -60,12 +60,12 @@ impl<S: Space + Drop> PrefixPlans<S> {
             space,
             search,
             within,
-            places: Places {
+            front: Front {
                 graph,
                 ranks: Ranks::new(alloc),
+                tree,
+                queue,
             },
-            tree,
-            queue,
             most,
             held: None,
             ended: None,

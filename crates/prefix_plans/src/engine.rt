@@ -1,9 +1,8 @@
 //! The engine: all plans, the cheapest first.
 
-use crate::places::Places;
+use crate::front::Front;
 use cost_to_go::CostToGo;
 use lazy_plans::Stop;
-use prefix_tree::{Node, Queue};
 use space_api::Space;
 use symk_task::Plan;
 
@@ -15,12 +14,8 @@ pub struct PrefixPlans<S: Space> {
     pub(crate) search: CostToGo<S::Set>,
     /// The states that its ranks are kept to.
     pub(crate) within: S::Set,
-    /// The states to which prefixes come.
-    pub(crate) places: Places,
-    /// The prefixes that were made.
-    pub(crate) tree: Vec<Node>,
-    /// Those that may go on.
-    pub(crate) queue: Queue,
+    /// Prefixes, and those that wait.
+    pub(crate) front: Front,
     /// The greatest cost that is wanted, if there is one.
     pub(crate) most: Option<u64>,
     /// A plan that was found when the space could not be tidied.
@@ -32,7 +27,7 @@ pub struct PrefixPlans<S: Space> {
 ghost use Rattle.std.specs.Prelude.{◌≡◌, ◌≢◌, None, IfOk};
 ghost use Rattle.symk_task.specs.declared.parts.Mode.TheVariants.{TopK};
 ghost use Rattle.lazy_plans.specs.Law.{Turned, last_of};
-ghost use Rattle.prefix_tree.specs.Entries.{entries_of, prefixes};
+ghost use Rattle.prefix_plans.specs.Standing.{waiting};
 ghost use Rattle.prefix_plans.specs.Engine.{system_of, most_of, ended_of, Pends, tells, IsEngine, KeepsAll, HasRoom, Answers};
 ghost use Rattle.prefix_laws.proofs.Owed.{owed_fair, owed_told};
 
@@ -55,10 +50,8 @@ impl<S: Space> PrefixPlans<S> {
             &mut self.space,
             &mut self.search,
             self.within,
-            &mut self.places,
-            &mut self.tree,
             self.most,
-            &mut self.queue,
+            &mut self.front,
             steps,
         ) {
             Err(stop) => {
@@ -124,8 +117,8 @@ impl<S: Space> LazyPlans for PrefixPlans<S> {
         }
     }
 
-    ghost fair = { λ x l. owed_fair (S.view x.space).system TopK x.most
-        (prefixes x.tree.items (entries_of x.queue)) x.held x.ended l.right l.holds };
+    ghost fair = { λ x l. owed_fair (S.view x.space).system TopK x.most (waiting x.front) x.held x.ended l.right
+        l.holds };
 
-    ghost told = { λ x l p. owed_told (S.view x.space).system TopK (prefixes x.tree.items (entries_of x.queue)) x.held p };
+    ghost told = { λ x l p. owed_told (S.view x.space).system TopK (waiting x.front) x.held p };
 }

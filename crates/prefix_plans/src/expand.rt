@@ -9,11 +9,12 @@ ghost use Rattle.prefix_tree.specs.Entries.{HasRoom, entries_of};
 ghost use Rattle.cost_to_go.specs.Standing.{IsCostToGo};
 ghost use Rattle.prefix_ends.specs.Children.{IsEntry};
 ghost use Rattle.prefix_plans.specs.Children.{AreChildren};
+ghost use Rattle.prefix_plans.specs.Standing.{Stands};
 
-use crate::places::Places;
+use crate::front::Front;
 use cost_to_go::CostToGo;
 use prefix_ends::Ranks;
-use prefix_tree::{Entry, Move, Node, Queue, StateGraph, find_moves, node_at};
+use prefix_tree::{Entry, Move, Node, StateGraph, find_moves, node_at};
 use space_api::{Space, SpaceFault};
 use std::alloc::Global;
 
@@ -59,39 +60,35 @@ pub(crate) fn expand<S: Space>(
     alloc: Global,
     space: &S,
     search: &CostToGo<S::Set>,
-    places: &mut Places,
-    tree: &mut Vec<Node>,
-    queue: &mut Queue,
+    front: &mut Front,
     entry: Entry,
 ) -> Result<Vec<Entry>, SpaceFault>
-    requires search { IsCostToGo (S.view space.now) search.now }
-    requires graph { IsStateGraph (S.view space.now).system places.old.graph }
-    requires tree { IsTree (S.view space.now).system TopK (states_of places.old.graph) tree.old.items }
-    requires entry { IsEntry (S.view space.now) search.now tree.old.items entry }
-    ensures graph { IsStateGraph (S.view space.now).system places.new.graph }
-    ensures queue { entries_of queue.new ≡ entries_of queue.old }
-    ensures grows { Grows (S.view space.now).system TopK (states_of places.new.graph) tree.old.items
-        tree.new.items }
-    ensures room { IfOk result (λ kids. HasRoom queue.new (length kids.items)) }
-    ensures children { IfOk result (λ kids. AreChildren (S.view space.now) search.now tree.new.items
-        (path_at tree.old.items entry.node) (S.view space.now).system.operators kids.items) }
+    requires ready { Stands (S.view space.now) search.now front.old }
+    requires entry { IsEntry (S.view space.now) search.now front.old.tree.items entry }
+    ensures graph { IsStateGraph (S.view space.now).system front.new.graph }
+    ensures queue { entries_of front.new.queue ≡ entries_of front.old.queue }
+    ensures grows { Grows (S.view space.now).system TopK (states_of front.new.graph) front.old.tree.items
+        front.new.tree.items }
+    ensures room { IfOk result (λ kids. HasRoom front.new.queue (length kids.items)) }
+    ensures children { IfOk result (λ kids. AreChildren (S.view space.now) search.now front.new.tree.items
+        (path_at front.old.tree.items entry.node) (S.view space.now).system.operators kids.items) }
 {
-    let here = node_at(tree, entry.node);
-    find_moves(alloc, space, &mut places.graph, here.state)?;
-    match places.graph.moves_of(here.state) {
+    let here = node_at(&front.tree, entry.node);
+    find_moves(alloc, space, &mut front.graph, here.state)?;
+    match front.graph.moves_of(here.state) {
         None => unreachable!(),
         Some(moves) => {
             let children = add_all(
                 alloc,
                 space,
                 search,
-                &places.graph,
-                &mut places.ranks,
-                tree,
+                &front.graph,
+                &mut front.ranks,
+                &mut front.tree,
                 entry,
                 moves,
             )?;
-            queue.make_room(children.len())?;
+            front.queue.make_room(children.len())?;
             Ok(children)
         }
     }

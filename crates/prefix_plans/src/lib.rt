@@ -17,7 +17,7 @@
 mod beginning;
 mod engine;
 mod expand;
-mod places;
+mod front;
 mod range;
 mod turn;
 mod walk;

@@ -44,9 +44,9 @@ fn some_goes_on<S: Space, L: Ledger>(
     requires dear { AllByRecursion (IsDear (S.view space.now).system tree.now) (entries_of queue.old) }
     ensures each { (w : View S.Set) (f : CostToGo S.Set) → AllByRecursion (IsEntry w f tree.now)
         (entries_of queue.old) → AllByRecursion (IsEntry w f tree.now) (entries_of queue.new) }
-    ensures keeps { KeepsPending (S.view space.now).system None tree.now tree.now (entries_of queue.old)
-        (entries_of queue.new) }
-    ensures told { IfOk result (TellsLeft (S.view space.now).system tree.now (entries_of queue.old)) }
+    ensures keeps { KeepsPending (S.view space.now).system None (prefixes tree.now (entries_of queue.old))
+        (prefixes tree.now (entries_of queue.new)) }
+    ensures told { IfOk result (TellsLeft (S.view space.now).system (prefixes tree.now (entries_of queue.old))) }
     ensures steps { steps.old ≤ steps.new }
 {
     'entries: loop {
@@ -83,9 +83,9 @@ pub(crate) fn is_left<S: Space, L: Ledger>(
     ensures stays { Stays (S.view space.old) (S.view space.new) }
     ensures each { (w : View S.Set) (f : CostToGo S.Set) → AllByRecursion (IsEntry w f tree.now)
         (entries_of queue.old) → AllByRecursion (IsEntry w f tree.now) (entries_of queue.new) }
-    ensures keeps { KeepsPending (S.view space.old).system None tree.now tree.now (entries_of queue.old)
-        (entries_of queue.new) }
-    ensures told { IfOk result (TellsLeft (S.view space.old).system tree.now (entries_of queue.old)) }
+    ensures keeps { KeepsPending (S.view space.old).system None (prefixes tree.now (entries_of queue.old))
+        (prefixes tree.now (entries_of queue.new)) }
+    ensures told { IfOk result (TellsLeft (S.view space.old).system (prefixes tree.now (entries_of queue.old))) }
     ensures steps { steps.old ≤ steps.new }
 {
     let leading = reach(space, Side::Back, within)?;

@@ -1,27 +1,25 @@
 //! Turns of the queue, until a plan is given.
 
-ghost use Rattle.std.specs.Prelude.{◌≡◌, ◌<◌, All, IfOk, OnErr, length, slice_index_or};
+ghost use Rattle.std.specs.Prelude.{◌≡◌, ◌<◌, IfOk, OnErr};
 ghost use Rattle.std.specs.List.{AllByRecursion};
 ghost use Rattle.symk_task.specs.declared.parts.Mode.TheVariants.{TopK};
 ghost use Rattle.space_api.specs.View.{View};
 ghost use Rattle.lazy_plans.specs.Law.{Turned, top};
 ghost use Rattle.cost_to_go.specs.Standing.{within_of};
 ghost use Rattle.prefix_laws.specs.Queue.{Right, Pending};
-ghost use Rattle.prefix_tree.specs.Order.{IsNoLater};
-ghost use Rattle.prefix_tree.specs.Entries.{entries_of, prefixes};
+ghost use Rattle.prefix_tree.specs.Entries.{entries_of};
 ghost use Rattle.prefix_tree.specs.declared.entry.Entry.{Entry};
 ghost use Rattle.prefix_ends.specs.Left.{known_of};
-ghost use Rattle.prefix_ends.specs.Standing.{IsReady};
-ghost use Rattle.prefix_plans.specs.Standing.{KeepsPending};
+ghost use Rattle.prefix_plans.specs.Standing.{waiting, Stands, IsFirst, KeepsPending};
 ghost use Rattle.prefix_plans.specs.Turned.{Acts, TurnOf, HaltsAt, CountsTurn};
 
-use crate::places::Places;
+use crate::front::Front;
 use crate::range::is_left;
 use crate::turn::open;
 use cost_to_go::CostToGo;
 use lazy_plans::{Steps, Stop};
 use prefix_ends::{go_on, is_outdated, top_of};
-use prefix_tree::{Entry, Node, Queue};
+use prefix_tree::Entry;
 use space_api::{Space, SpaceFault};
 use std::alloc::Global;
 use std::sync::ledger::Ledger;
@@ -46,26 +44,20 @@ fn act<S: Space, L: Ledger>(
     alloc: Global,
     space: &S,
     search: &CostToGo<S::Set>,
-    places: &mut Places,
-    tree: &mut Vec<Node>,
-    queue: &mut Queue,
+    front: &mut Front,
     entry: Entry,
     steps: &mut Steps<L>,
 ) -> Result<Option<Halt>, SpaceFault>
-    requires ready { IsReady (S.view space.now) search.now places.old.graph tree.old.items (entries_of queue.old) }
-    requires some { 0 < length (entries_of queue.old) }
-    requires first { entry ≡ slice_index_or (entries_of queue.old) 0 entry }
-    requires order { All (IsNoLater entry) (entries_of queue.old) }
-    ensures ready { IsReady (S.view space.now) search.now places.new.graph tree.new.items (entries_of queue.new) }
-    ensures ok { IfOk result (Acts (S.view space.now) search.now tree.old.items tree.new.items entry
-        (entries_of queue.old) (entries_of queue.new)) }
-    ensures err { OnErr result (prefixes tree.new.items (entries_of queue.new) ≡ prefixes tree.old.items
-        (entries_of queue.old)) }
+    requires ready { Stands (S.view space.now) search.now front.old }
+    requires first { IsFirst entry (entries_of front.old.queue) }
+    ensures ready { Stands (S.view space.now) search.now front.new }
+    ensures ok { IfOk result (Acts (S.view space.now) search.now entry front.old front.new) }
+    ensures err { OnErr result (waiting front.new ≡ waiting front.old) }
     ensures one { IfOk result (CountsTurn steps.old steps.new) }
     ensures none { OnErr result (steps.new ≡ steps.old) }
 {
     if entry.settled {
-        return match open(alloc, space, search, places, tree, queue, entry, steps)? {
+        return match open(alloc, space, search, front, entry, steps)? {
             None => Ok(None),
             Some(plan) => Ok(Some(Halt::Gives(plan))),
         };
@@ -73,13 +65,13 @@ fn act<S: Space, L: Ledger>(
     if !is_outdated(search, entry) {
         return Ok(Some(Halt::Waits));
     }
-    places.ranks.learn(
+    front.ranks.learn(
         alloc,
         space,
         search,
-        &places.graph,
-        tree,
-        queue,
+        &front.graph,
+        &front.tree,
+        &mut front.queue,
         entry,
         steps,
     )?;
@@ -92,28 +84,33 @@ fn end<S: Space, L: Ledger>(
     space: &mut S,
     search: &CostToGo<S::Set>,
     within: S::Set,
-    places: &Places,
-    tree: &[Node],
     most: Option<u64>,
-    queue: &mut Queue,
+    front: &mut Front,
     steps: &mut Steps<L>,
 ) -> Result<Halt, SpaceFault>
-    requires ready { IsReady (S.view space.old) search.now places.now.graph tree.now (entries_of queue.old) }
+    requires ready { Stands (S.view space.old) search.now front.old }
     requires within { within ≡ within_of search.now }
-    requires right { Right (S.view space.old).system TopK most (prefixes tree.now (entries_of queue.old)) }
-    requires dear { AllByRecursion (λ (k : Entry). top most < k.bound.0) (entries_of queue.old) }
+    requires right { Right (S.view space.old).system TopK most (waiting front.old) }
+    requires dear { AllByRecursion (λ (k : Entry). top most < k.bound.0) (entries_of front.old.queue) }
     ensures system { (S.view space.new).system ≡ (S.view space.old).system }
-    ensures ready { IsReady (S.view space.new) search.now places.now.graph tree.now (entries_of queue.new) }
-    ensures ok { IfOk result (HaltsAt (S.view space.old).system (known_of search.now) most tree.now tree.now
-        (entries_of queue.old) (entries_of queue.new)) }
+    ensures ready { Stands (S.view space.new) search.now front.new }
+    ensures ok { IfOk result (HaltsAt (S.view space.old).system (known_of search.now) most (waiting front.old)
+        (waiting front.new)) }
     ensures last { IfOk result (λ halt. CountsTurn steps.old steps.new (Some halt)) }
-    ensures err { OnErr result (KeepsPending (S.view space.old).system most tree.now tree.now
-        (entries_of queue.old) (entries_of queue.new)) }
+    ensures err { OnErr result (KeepsPending (S.view space.old).system most (waiting front.old) (waiting front.new)) }
 {
     match most {
         Some(_) => Ok(Halt::Ends),
         None => {
-            if is_left(alloc, space, within, &places.graph, tree, queue, steps)? {
+            if is_left(
+                alloc,
+                space,
+                within,
+                &front.graph,
+                &front.tree,
+                &mut front.queue,
+                steps,
+            )? {
                 return Ok(Halt::OutOfRange);
             }
             Ok(Halt::Ends)
@@ -127,33 +124,27 @@ fn take_turn<S: Space, L: Ledger>(
     space: &mut S,
     search: &CostToGo<S::Set>,
     within: S::Set,
-    places: &mut Places,
-    tree: &mut Vec<Node>,
     most: Option<u64>,
-    queue: &mut Queue,
+    front: &mut Front,
     steps: &mut Steps<L>,
 ) -> Result<Option<Halt>, SpaceFault>
-    requires ready { IsReady (S.view space.old) search.now places.old.graph tree.old.items (entries_of queue.old) }
+    requires ready { Stands (S.view space.old) search.now front.old }
     requires within { within ≡ within_of search.now }
-    requires right { Right (S.view space.old).system TopK most (prefixes tree.old.items (entries_of queue.old)) }
+    requires right { Right (S.view space.old).system TopK most (waiting front.old) }
     ensures system { (S.view space.new).system ≡ (S.view space.old).system }
-    ensures ready { IsReady (S.view space.new) search.now places.new.graph tree.new.items (entries_of queue.new) }
-    ensures ok { IfOk result (TurnOf (S.view space.old).system (known_of search.now) most tree.old.items
-        tree.new.items (entries_of queue.old) (entries_of queue.new)) }
+    ensures ready { Stands (S.view space.new) search.now front.new }
+    ensures ok { IfOk result (TurnOf (S.view space.old).system (known_of search.now) most front.old front.new) }
     ensures one { IfOk result (CountsTurn steps.old steps.new) }
-    ensures err { OnErr result (KeepsPending (S.view space.old).system most tree.old.items tree.new.items
-        (entries_of queue.old) (entries_of queue.new)) }
+    ensures err { OnErr result (KeepsPending (S.view space.old).system most (waiting front.old) (waiting front.new)) }
 {
-    match queue.first() {
+    match front.queue.first() {
         None => Ok(Some(Halt::Ends)),
         Some(entry) => {
             if entry.bound.0 > top_of(most) as u128 {
-                let halt = end(
-                    alloc, space, search, within, places, tree, most, queue, steps,
-                )?;
+                let halt = end(alloc, space, search, within, most, front, steps)?;
                 return Ok(Some(halt));
             }
-            act(alloc, space, search, places, tree, queue, entry, steps)
+            act(alloc, space, search, front, entry, steps)
         }
     }
 }
@@ -164,26 +155,21 @@ fn take_turns<S: Space, L: Ledger>(
     space: &mut S,
     search: &CostToGo<S::Set>,
     within: S::Set,
-    places: &mut Places,
-    tree: &mut Vec<Node>,
     most: Option<u64>,
-    queue: &mut Queue,
+    front: &mut Front,
     steps: &mut Steps<L>,
 ) -> Result<Halt, SpaceFault>
-    requires ready { IsReady (S.view space.old) search.now places.old.graph tree.old.items (entries_of queue.old) }
+    requires ready { Stands (S.view space.old) search.now front.old }
     requires within { within ≡ within_of search.now }
-    requires right { Right (S.view space.old).system TopK most (prefixes tree.old.items (entries_of queue.old)) }
+    requires right { Right (S.view space.old).system TopK most (waiting front.old) }
     ensures system { (S.view space.new).system ≡ (S.view space.old).system }
-    ensures ready { IsReady (S.view space.new) search.now places.new.graph tree.new.items (entries_of queue.new) }
-    ensures ok { IfOk result (HaltsAt (S.view space.old).system (known_of search.now) most tree.old.items
-        tree.new.items (entries_of queue.old) (entries_of queue.new)) }
-    ensures err { OnErr result (KeepsPending (S.view space.old).system most tree.old.items tree.new.items
-        (entries_of queue.old) (entries_of queue.new)) }
+    ensures ready { Stands (S.view space.new) search.now front.new }
+    ensures ok { IfOk result (HaltsAt (S.view space.old).system (known_of search.now) most (waiting front.old)
+        (waiting front.new)) }
+    ensures err { OnErr result (KeepsPending (S.view space.old).system most (waiting front.old) (waiting front.new)) }
 {
     'turns: loop {
-        if let Some(halt) = take_turn(
-            alloc, space, search, within, places, tree, most, queue, steps,
-        )? {
+        if let Some(halt) = take_turn(alloc, space, search, within, most, front, steps)? {
             return Ok(halt);
         }
     }
@@ -195,27 +181,23 @@ pub(crate) fn walk<S: Space, L: Ledger>(
     space: &mut S,
     search: &mut CostToGo<S::Set>,
     within: S::Set,
-    places: &mut Places,
-    tree: &mut Vec<Node>,
     most: Option<u64>,
-    queue: &mut Queue,
+    front: &mut Front,
     steps: &mut Steps<L>,
 ) -> Result<Option<Plan>, Stop>
-    requires ready { IsReady (S.view space.old) search.old places.old.graph tree.old.items (entries_of queue.old) }
+    requires ready { Stands (S.view space.old) search.old front.old }
     requires within { within ≡ within_of search.old }
-    requires right { Right (S.view space.old).system TopK most (prefixes tree.old.items (entries_of queue.old)) }
+    requires right { Right (S.view space.old).system TopK most (waiting front.old) }
     ensures system { (S.view space.new).system ≡ (S.view space.old).system }
-    ensures ready { IsReady (S.view space.new) search.new places.new.graph tree.new.items (entries_of queue.new) }
+    ensures ready { Stands (S.view space.new) search.new front.new }
     ensures within { within ≡ within_of search.new }
-    ensures right { Right (S.view space.old).system TopK most (prefixes tree.new.items (entries_of queue.new)) }
-    ensures law { Turned (S.view space.old).system TopK most (Pending (S.view space.old).system TopK
-        (prefixes tree.old.items (entries_of queue.old))) (Pending (S.view space.old).system TopK
-        (prefixes tree.new.items (entries_of queue.new))) result }
+    ensures right { Right (S.view space.old).system TopK most (waiting front.new) }
+    ensures law { Turned (S.view space.old).system TopK most
+        (Pending (S.view space.old).system TopK (waiting front.old))
+        (Pending (S.view space.old).system TopK (waiting front.new)) result }
 {
     'steps: loop {
-        match take_turns(
-            alloc, space, search, within, places, tree, most, queue, steps,
-        ) {
+        match take_turns(alloc, space, search, within, most, front, steps) {
             Err(_) => return Err(Stop::Memory),
             Ok(halt) => match halt {
                 Halt::Gives(plan) => return Ok(Some(plan)),

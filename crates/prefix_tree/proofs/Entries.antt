@@ -14,7 +14,13 @@ use Rattle.prefix_tree.specs.declared.entry.Entry.{Entry}
 
 prefix_sum : (nodes : List Node) (f : List ℕ → ℕ) (es : List Entry) → sum_by f (prefixes nodes es) ≡ sum_by (λ (e : Entry). f (path_at nodes e.node)) es
 prefix_sum nodes f [] = refl
-prefix_sum nodes f (e ∷ es) = omega (arith, prefix_sum nodes f es, sum_by-cons f (path_at nodes e.node) (prefixes nodes es), sum_by-cons (λ (k : Entry). f (path_at nodes k.node)) e es)
+prefix_sum nodes f (e ∷ es) = omega (
+  arith,
+  prefix_sum nodes f es,
+  sum_by-cons f (path_at nodes e.node)
+      (prefixes nodes es),
+  sum_by-cons (λ (k : Entry). f (path_at nodes k.node)) e es,
+)
 
 pub prefixes_length : (nodes : List Node) (es : List Entry) → length (prefixes nodes es) ≡ length es
 prefixes_length nodes [] = refl
@@ -25,7 +31,8 @@ prefixes_last nodes [] k = refl
 prefixes_last nodes (j ∷ ks) k = ap (λ (z : List (List ℕ)). path_at nodes j.node ∷ z) (prefixes_last nodes ks k)
 
 -- where the places of the entries have the same prefixes
-pub prefixes_like : (P : Entry → Type 0) (a c : List Node) (es : List Entry) → ((e : Entry) → P e → e.node < length a) → ((i : ℕ) → i < length a → path_at c i ≡ path_at a i) → AllByRecursion P es → prefixes c es ≡ prefixes a es
+pub prefixes_like : (P : Entry → Type 0) (a c : List Node) (es : List Entry) → ((e : Entry) → P e → e.node < length a)
+    → ((i : ℕ) → i < length a → path_at c i ≡ path_at a i) → AllByRecursion P es → prefixes c es ≡ prefixes a es
 prefixes_like P a c [] inside same z = refl
 prefixes_like P a c (e ∷ es) inside same z =
     let one = same e.node (inside e z.0) in
@@ -51,7 +58,14 @@ module _ (es kids new : List Entry) (e : Entry) (perm : IsPermutation (es ++ kid
   entries_replaced f = omega (arith, sum_by-IsPermutation f (es ++ kids) (e ∷ new) perm, sum_by-append f es kids, sum_by-cons f e new)
 
   pub replaced_by : (nodes : List Node) → Replaced (prefixes nodes es) (prefixes nodes kids) (path_at nodes e.node) (prefixes nodes new)
-  replaced_by nodes f = omega (arith, entries_replaced (λ (k : Entry). f (path_at nodes k.node)), prefix_sum nodes f es, prefix_sum nodes f kids, prefix_sum nodes f new)
+  replaced_by nodes f = omega (
+    arith,
+    entries_replaced (λ (k : Entry). f (path_at nodes k.node)),
+    prefix_sum nodes f
+        es,
+    prefix_sum nodes f kids,
+    prefix_sum nodes f new,
+  )
 
   pub each_new : (P : Entry → Type 0) → AllByRecursion P es → AllByRecursion P kids → AllByRecursion P new
   each_new P a b = let all : AllByRecursion P (e ∷ new) = recursion_from_All P (e ∷ new) (All-permutation P (es ++ kids) (e ∷ new) perm (All-from_recursion P (es ++ kids) (join_each P es kids a b))) in all.1

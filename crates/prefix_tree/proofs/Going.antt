@@ -36,10 +36,13 @@ module _ (y : System) (m : Mode) (ss : List State) (nodes : List Node) (i : ℕ)
   -- the state to which a move leads
   module _ (move : Move) (step : IsMove y ss (end_at ss nodes i) move) where
     pub next_run : Runs y y.initial (path_at nodes i ++ move.op ∷ []) (state_at ss move.to)
-    next_run = runs_join y (path_at nodes i) (move.op ∷ []) y.initial (end_at ss nodes i) (state_at ss move.to) (z.each i lt).runs (state_at ss move.to, step.leads, refl)
+    next_run = runs_join y (path_at nodes i) (move.op ∷ []) y.initial (end_at ss nodes i) (state_at ss move.to)
+        (z.each i lt).runs (state_at ss move.to, step.leads, refl)
 
     pub from_end : Leads y move.op (z.each i lt).good.end (state_at ss move.to)
-    from_end = subst (λ (x : State). Leads y move.op x (state_at ss move.to)) (one_end y (path_at nodes i) y.initial (end_at ss nodes i) (z.each i lt).good.end (z.each i lt).runs (z.each i lt).good.runs) step.leads
+    from_end = subst (λ (x : State). Leads y move.op x (state_at ss move.to))
+        (one_end y (path_at nodes i) y.initial (end_at ss nodes i) (z.each i lt).good.end (z.each i lt).runs
+        (z.each i lt).good.runs) step.leads
 
     pub next_good : Listed y.states (state_at ss move.to) → IsAllowed y m (path_at nodes i ++ move.op ∷ []) → Good y m (path_at nodes i ++ move.op ∷ [])
     next_good listed allowed = good_child y m (path_at nodes i) move.op (state_at ss move.to) (z.each i lt).good from_end listed allowed
@@ -50,8 +53,12 @@ module _ (y : System) (m : Mode) (ss : List State) (nodes : List Node) (i : ℕ)
     lost op missing = no_move y m (path_at nodes i) op (end_at ss nodes i) (z.each i lt).runs (λ t leads. missing (all.all op t leads))
 
     -- the children by the operators below n are those by the operators below x, where none between is listed
-    pub skip_to : (kids : List (List ℕ)) (k n x : ℕ) → IsPast (ops_of moves) k n → n ≤ x → ((j : ℕ) → k ≤ j → j < length (ops_of moves) → x ≤ get_or (ops_of moves) j 0) → ChildrenBelow y m (path_at nodes i) n kids → ChildrenBelow y m (path_at nodes i) x kids
+    pub skip_to : (kids : List (List ℕ)) (k n x : ℕ) → IsPast (ops_of moves) k n → n ≤ x
+        → ((j : ℕ) → k ≤ j → j < length (ops_of moves) → x ≤ get_or (ops_of moves) j 0)
+        → ChildrenBelow y m (path_at nodes i) n kids → ChildrenBelow y m (path_at nodes i) x kids
     skip_to kids k n x past le before c =
         let whole : n + (x - n) ≡ x = omega (arith, le) in
         subst (λ (w : ℕ). ChildrenBelow y m (path_at nodes i) w kids) whole
-        (children_past y m (path_at nodes i) n (x - n) kids c (λ op ge less. lost op (past_gap (ops_of moves) k n op past ge (λ j at in_list. let b = before j at in_list in omega (arith, less, le, b)))))
+        (children_past y m (path_at nodes i) n (x - n) kids c
+        (λ op ge less. lost op (past_gap (ops_of moves) k n op past ge
+        (λ j at in_list. let b = before j at in_list in omega (arith, less, le, b)))))

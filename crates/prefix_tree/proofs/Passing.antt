@@ -32,12 +32,15 @@ trace_end y (op ∷ p) s t r = inr (subst (λ (x : State). Listed (trace y x p) 
     next_is : (y : System) (op : ℕ) (s m : State) → Leads y op s m → next_state y op s ≡ m
     next_is y op s m l = ap (λ (o : Option State). unwrap_or o s) l.step
 
-module _ (nodes : List Node) (at : ℕ) (n : Node) (within : at < length nodes) (is : n ≡ slice_index_or nodes at n) (state : ℕ) (y : System) (m : Mode) (ss : List State) (z : IsTree y m ss nodes) (once : AreOnce ss) (known : state < length ss) where
+module _ (nodes : List Node) (at : ℕ) (n : Node) (within : at < length nodes) (is : n ≡ slice_index_or nodes at n)
+    (state : ℕ) (y : System) (m : Mode) (ss : List State) (z : IsTree y m ss nodes) (once : AreOnce ss)
+    (known : state < length ss) where
   run : Runs y y.initial (path_at nodes at) (state_at ss n.state)
   run = subst (λ (k : ℕ). Runs y y.initial (path_at nodes at) (state_at ss k)) (sym (number_is nodes at n within is)) (z.each at within).runs
 
   pub here : n.state ≡ state → Listed (trace y y.initial (path_at nodes at)) (state_at ss state)
-  here e = subst (λ (k : ℕ). Listed (trace y y.initial (path_at nodes at)) (state_at ss k)) e (trace_end y (path_at nodes at) y.initial (state_at ss n.state) run)
+  here e = subst (λ (k : ℕ). Listed (trace y y.initial (path_at nodes at)) (state_at ss k)) e
+      (trace_end y (path_at nodes at) y.initial (state_at ss n.state) run)
 
   apart : ¬ (n.state ≡ state) → ¬ (state_at ss n.state ≡ state_at ss state)
   apart off e = off (once n.state state (omega (arith, number_is nodes at n within is, (z.each at within).within)) known e)
@@ -62,8 +65,11 @@ module _ (nodes : List Node) (at : ℕ) (n : Node) (within : at < length nodes) 
       ap (trace y y.initial) p ∙ trace_more y (path_at nodes n.parent) n.op y.initial c.0 (state_at ss n.state) c.1 lead
 
   -- one up
-  pub up_same : ¬ (at ≡ 0) → ¬ (n.state ≡ state) → Listed (trace y y.initial (path_at nodes at)) (state_at ss state) ↔ Listed (trace y y.initial (path_at nodes n.parent)) (state_at ss state)
+  pub up_same : ¬ (at ≡ 0) → ¬ (n.state ≡ state) → Listed (trace y y.initial (path_at nodes at)) (state_at ss state)
+      ↔ Listed (trace y y.initial (path_at nodes n.parent)) (state_at ss state)
   up_same off other = (
-    (λ h. unlisted_last (trace y y.initial (path_at nodes n.parent)) (state_at ss n.state) (state_at ss state) (apart other) (subst (λ (l : List State). Listed l (state_at ss state)) (trace_up off) h)),
-    (λ h. subst (λ (l : List State). Listed l (state_at ss state)) (sym (trace_up off)) (listed_first (trace y y.initial (path_at nodes n.parent)) (state_at ss n.state) (state_at ss state) h)),
+    (λ h. unlisted_last (trace y y.initial (path_at nodes n.parent)) (state_at ss n.state) (state_at ss state)
+        (apart other) (subst (λ (l : List State). Listed l (state_at ss state)) (trace_up off) h)),
+    (λ h. subst (λ (l : List State). Listed l (state_at ss state)) (sym (trace_up off))
+        (listed_first (trace y y.initial (path_at nodes n.parent)) (state_at ss n.state) (state_at ss state) h)),
   )

@@ -19,27 +19,37 @@ last_at [] y (suc i) d e = absurd (omega arith)
 last_at (x ∷ xs) y zero d e = absurd (omega arith)
 last_at (x ∷ xs) y (suc i) d e = last_at xs y i d (omega arith)
 
-paths_more : (sofar : List (List ℕ)) (nodes : List Node) (n : Node) → paths_on sofar (nodes ++ n ∷ []) ≡ paths_on sofar nodes ++ (slice_index_or (paths_on sofar nodes) n.parent [] ++ n.op ∷ []) ∷ []
+paths_more : (sofar : List (List ℕ)) (nodes : List Node) (n : Node)
+    → paths_on sofar (nodes ++ n ∷ []) ≡ paths_on sofar nodes
+    ++ (slice_index_or (paths_on sofar nodes) n.parent [] ++ n.op ∷ []) ∷ []
 paths_more sofar [] n = refl
 paths_more sofar (m ∷ nodes) n = paths_more (sofar ++ (slice_index_or sofar m.parent [] ++ m.op ∷ []) ∷ []) nodes n
 
 paths_length : (sofar : List (List ℕ)) (nodes : List Node) → length (paths_on sofar nodes) ≡ length sofar + length nodes
 paths_length sofar [] = omega arith
-paths_length sofar (m ∷ nodes) = omega (arith, paths_length (sofar ++ (slice_index_or sofar m.parent [] ++ m.op ∷ []) ∷ []) nodes, length-append sofar ((slice_index_or sofar m.parent [] ++ m.op ∷ []) ∷ []))
+paths_length sofar (m ∷ nodes) =
+    omega (
+      arith,
+      paths_length (sofar ++ (slice_index_or sofar m.parent [] ++ m.op ∷ []) ∷ []) nodes,
+      length-append
+          sofar ((slice_index_or sofar m.parent [] ++ m.op ∷ []) ∷ []),
+    )
 
 -- the other prefixes keep their operators
 pub path_front : (nodes : List Node) (n : Node) (i : ℕ) → i < length nodes → path_at (nodes ++ n ∷ []) i ≡ path_at nodes i
 path_front [] n i lt = absurd (omega arith)
 path_front (r ∷ nodes) n i lt =
     ap (λ (z : List (List ℕ)). slice_index_or z i []) (paths_more ([] ∷ []) nodes n)
-    ∙ front_at (paths_on ([] ∷ []) nodes) ((slice_index_or (paths_on ([] ∷ []) nodes) n.parent [] ++ n.op ∷ []) ∷ []) i [] (omega (arith, lt, paths_length ([] ∷ []) nodes))
+    ∙ front_at (paths_on ([] ∷ []) nodes) ((slice_index_or (paths_on ([] ∷ []) nodes) n.parent [] ++ n.op ∷ []) ∷ [])
+    i [] (omega (arith, lt, paths_length ([] ∷ []) nodes))
 
 -- the new one is longer by its operator
 pub path_last : (nodes : List Node) (n : Node) (i : ℕ) → 0 < length nodes → i ≡ length nodes → path_at (nodes ++ n ∷ []) i ≡ path_at nodes n.parent ++ n.op ∷ []
 path_last [] n i some e = absurd (omega arith)
 path_last (r ∷ nodes) n i some e =
     ap (λ (z : List (List ℕ)). slice_index_or z i []) (paths_more ([] ∷ []) nodes n)
-    ∙ last_at (paths_on ([] ∷ []) nodes) (slice_index_or (paths_on ([] ∷ []) nodes) n.parent [] ++ n.op ∷ []) i [] (omega (arith, e, paths_length ([] ∷ []) nodes))
+    ∙ last_at (paths_on ([] ∷ []) nodes) (slice_index_or (paths_on ([] ∷ []) nodes) n.parent [] ++ n.op ∷ []) i []
+    (omega (arith, e, paths_length ([] ∷ []) nodes))
 
 before_or_at : (i n : ℕ) → i < n + 1 → (i < n) ⊎ (i ≡ n)
 before_or_at i n lt = grind arith
@@ -50,7 +60,12 @@ module _ (nodes : List Node) (n : Node) (z : AreLinked nodes) (some : 0 < length
       let at = front_at nodes (n ∷ []) i d lt in
       subst (IsLinked (nodes ++ n ∷ []) i) (sym at) (elim (z i d lt) [
         | inl e ↦ inl (e.0, path_front nodes n i lt ∙ e.1)
-        | inr h ↦ inr (h.0, path_front nodes n i lt ∙ (h.1 ∙ ap (λ (q : List ℕ). q ++ (slice_index_or nodes i d).op ∷ []) (sym (path_front nodes n (slice_index_or nodes i d).parent (omega (arith, h.0, lt))))))
+        | inr h ↦ inr (
+          h.0,
+          path_front nodes n i lt ∙ (h.1 ∙ ap
+              (λ (q : List ℕ). q ++ (slice_index_or nodes i d).op ∷ [])
+              (sym (path_front nodes n (slice_index_or nodes i d).parent (omega (arith, h.0, lt))))),
+        )
       ])
 
   linked_new : (i : ℕ) (d : Node) → i ≡ length nodes → IsLinked (nodes ++ n ∷ []) i (slice_index_or (nodes ++ n ∷ []) i d)
@@ -60,7 +75,8 @@ module _ (nodes : List Node) (n : Node) (z : AreLinked nodes) (some : 0 < length
 
   -- the links with one prefix more
   linked_more : AreLinked (nodes ++ n ∷ [])
-  linked_more i d lt = elim (before_or_at i (length nodes) (omega (arith, lt, length-append nodes (n ∷ [])))) [ inl h ↦ linked_old i d h | inr e ↦ linked_new i d e ]
+  linked_more i d lt = elim (before_or_at i (length nodes) (omega (arith, lt, length-append nodes (n ∷ []))))
+      [ inl h ↦ linked_old i d h | inr e ↦ linked_new i d e ]
 
 -- where the prefixes end, in the longer tree
 number_front : (nodes : List Node) (n : Node) (i : ℕ) → i < length nodes → number_at (nodes ++ n ∷ []) i ≡ number_at nodes i
@@ -75,17 +91,25 @@ number_last (r ∷ nodes) n zero e = absurd (omega arith)
 number_last (r ∷ nodes) n (suc i) e = number_last nodes n i (omega arith)
 
 -- a tree stays a tree, where the new prefix is good
-module _ (y : System) (m : Mode) (ss : List State) (nodes : List Node) (n : Node) (z : IsTree y m ss nodes) (behind : n.parent < length nodes) (good : Good y m (path_at nodes n.parent ++ n.op ∷ [])) (within : n.state < length ss) (runs : Runs y y.initial (path_at nodes n.parent ++ n.op ∷ []) (state_at ss n.state)) where
+module _ (y : System) (m : Mode) (ss : List State) (nodes : List Node) (n : Node) (z : IsTree y m ss nodes)
+    (behind : n.parent < length nodes) (good : Good y m (path_at nodes n.parent ++ n.op ∷ []))
+    (within : n.state < length ss) (runs : Runs y y.initial (path_at nodes n.parent ++ n.op ∷ [])
+    (state_at ss n.state)) where
   node_old : (i : ℕ) → i < length nodes → IsNode y m ss i (path_at (nodes ++ n ∷ []) i) (number_at (nodes ++ n ∷ []) i)
-  node_old i lt = subst (λ (p : List ℕ). IsNode y m ss i p (number_at (nodes ++ n ∷ []) i)) (sym (path_front nodes n i lt)) (subst (λ (k : ℕ). IsNode y m ss i (path_at nodes i) k) (sym (number_front nodes n i lt)) (z.each i lt))
+  node_old i lt = subst (λ (p : List ℕ). IsNode y m ss i p (number_at (nodes ++ n ∷ []) i))
+      (sym (path_front nodes n i lt)) (subst (λ (k : ℕ). IsNode y m ss i (path_at nodes i) k)
+      (sym (number_front nodes n i lt)) (z.each i lt))
 
   node_new : (i : ℕ) → i ≡ length nodes → IsNode y m ss i (path_at (nodes ++ n ∷ []) i) (number_at (nodes ++ n ∷ []) i)
-  node_new i e = subst (λ (p : List ℕ). IsNode y m ss i p (number_at (nodes ++ n ∷ []) i)) (sym (path_last nodes n i z.some e)) (subst (λ (k : ℕ). IsNode y m ss i (path_at nodes n.parent ++ n.op ∷ []) k) (sym (number_last nodes n i e)) (record {
-    good = good;
-    within = within;
-    runs = runs;
-    deep = omega (arith, e, behind, (z.each n.parent behind).deep, length-append (path_at nodes n.parent) (n.op ∷ []));
-  }))
+  node_new i e = subst (λ (p : List ℕ). IsNode y m ss i p (number_at (nodes ++ n ∷ []) i))
+      (sym (path_last nodes n i z.some e))
+      (subst (λ (k : ℕ). IsNode y m ss i (path_at nodes n.parent ++ n.op ∷ []) k)
+      (sym (number_last nodes n i e)) (record {
+        good = good;
+        within = within;
+        runs = runs;
+        deep = omega (arith, e, behind, (z.each n.parent behind).deep, length-append (path_at nodes n.parent) (n.op ∷ []));
+      }))
 
   tree_more : IsTree y m ss (nodes ++ n ∷ [])
   tree_more = record {
@@ -95,7 +119,13 @@ module _ (y : System) (m : Mode) (ss : List State) (nodes : List Node) (n : Node
   }
 
   pub grows_more : Grows y m ss nodes (nodes ++ n ∷ [])
-  grows_more = record { longer = omega (arith, length-append nodes (n ∷ [])); paths = λ i lt. path_front nodes n i lt; ends = λ i lt. number_front nodes n i lt; tree = tree_more }
+  grows_more = record {
+    longer = omega (arith, length-append nodes (n ∷ []));
+    paths =
+        λ i lt. path_front nodes n i lt;
+    ends = λ i lt. number_front nodes n i lt;
+    tree = tree_more;
+  }
 
 pub grows_refl : (y : System) (m : Mode) (ss : List State) (nodes : List Node) → IsTree y m ss nodes → Grows y m ss nodes nodes
 grows_refl y m ss nodes z = record { longer = omega arith; paths = λ i lt. refl; ends = λ i lt. refl; tree = z }

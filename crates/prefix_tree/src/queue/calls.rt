@@ -67,7 +67,8 @@ impl Queue {
 
     /// One turn: takes the first entry out, puts the others in, and counts one step. It takes no memory.
     ///
-    /// No other call takes an entry out, so the steps that are counted are the turns of the queue.
+    /// No other call takes an entry out, but for `join`, which hands all of them to another queue: so the steps that are
+    /// counted are the turns of both queues.
     pub fn replace<L: Ledger>(&mut self, others: Vec<Entry>, steps: &mut Steps<L>)
         requires some { 0 < length (entries_of self.old) }
         requires room { HasRoom self.old (length others.items) }

@@ -28,7 +28,10 @@ returns-clause-ready g c =
     let both : es ++ entries_of c.new-2.result ≡ es = beside_none es (entries_of c.new-2.result) c.new-2.ensures in
     let is = c.in_ok-start.ensures.is in
     let goal = subst (λ (s : State). Decides c.in_ok-at_goal.at_goal (IsTrue (v.system.goal s))) (c.state.ensures ∙ is) c.in_ok-at_goal.ensures in
-    subst (IsReady v b c.number_of_start.new.graph c.push.new.self.items) (sym both) (subst (λ (l : List Node). IsReady v b c.number_of_start.new.graph l es) (sym tree) (ready_first v b c.number_of_start.new.graph n e es c.requires.alone c.number_of_start.ensures.graph c.in_ok-start.ensures.within is put refl refl refl refl refl goal))
+    subst (IsReady v b c.number_of_start.new.graph c.push.new.self.items) (sym both)
+    (subst (λ (l : List Node). IsReady v b c.number_of_start.new.graph l es) (sym tree)
+    (ready_first v b c.number_of_start.new.graph n e es c.requires.alone c.number_of_start.ensures.graph
+    c.in_ok-start.ensures.within is put refl refl refl refl refl goal))
 
 pub returns-clause-first : goal.returns-clause-first
 returns-clause-first g c =
@@ -42,4 +45,7 @@ returns-clause-first g c =
     let both : es ++ entries_of c.new-2.result ≡ es = beside_none es (entries_of c.new-2.result) c.new-2.ensures in
     let is = c.in_ok-start.ensures.is in
     let goal = subst (λ (s : State). Decides c.in_ok-at_goal.at_goal (IsTrue (v.system.goal s))) (c.state.ensures ∙ is) c.in_ok-at_goal.ensures in
-    subst (λ (l : List Entry). prefixes c.push.new.self.items l ≡ [] ∷ []) (sym both) (subst (λ (l : List Node). prefixes l es ≡ [] ∷ []) (sym tree) (prefixes_first v b c.number_of_start.new.graph n e es c.requires.alone c.number_of_start.ensures.graph c.in_ok-start.ensures.within is put refl refl refl refl refl goal))
+    subst (λ (l : List Entry). prefixes c.push.new.self.items l ≡ [] ∷ []) (sym both)
+    (subst (λ (l : List Node). prefixes l es ≡ [] ∷ []) (sym tree)
+    (prefixes_first v b c.number_of_start.new.graph n e es c.requires.alone c.number_of_start.ensures.graph
+    c.in_ok-start.ensures.within is put refl refl refl refl refl goal))

@@ -9,6 +9,7 @@ use Rattle.prefix_tree.proofs.Paths.{grows_refl, grows_trans}
 use Rattle.prefix_tree.proofs.Going.{op_at, ops_few, ops_many}
 use Rattle.prefix_ends.specs.Children.{Added}
 use Rattle.prefix_ends.proofs.Growing.{entry_like}
+use Rattle.prefix_ends.proofs.Reaching.{lost}
 use Rattle.member_plans.specs.Moves.{is_taken}
 use Rattle.member_plans.specs.Children.{AreChosen}
 use Rattle.member_plans.proofs.Choosing.{chosen_none, chosen_like, chosen_added, chosen_left, skip_to}
@@ -40,7 +41,9 @@ add_child-requires-clause-step g c =
     let y = (g.S.Space.view c.args.space.now).system in
     let ss = states_of c.args.graph.now in
     let d : Move = record { op = 0; to = 0 } in
-    subst (λ (s : State). IsMove y ss s (get_or c.args.moves.now c.moves.step-index d)) (sym (ap (state_at ss) (c.moves.invariant.grows.ends c.args.entry.node c.requires.entry.inside))) (c.requires.moves.each c.moves.step-index d c.moves-test.true)
+    subst (λ (s : State). IsMove y ss s (get_or c.args.moves.now c.moves.step-index d))
+    (sym (ap (state_at ss) (c.moves.invariant.grows.ends c.args.entry.node c.requires.entry.inside)))
+    (c.requires.moves.each c.moves.step-index d c.moves-test.true)
 
 pub moves-preserved : goal.moves-preserved
 moves-preserved g c =
@@ -64,11 +67,19 @@ moves-preserved g c =
     let is = op_at c.args.moves.now d c.moves.step-index c.moves-test.true in
     let inside = ops_few c.args.moves.now c.moves.step-index c.moves-test.true in
     let path = i.grows.paths c.args.entry.node c.requires.entry.inside in
-    let added = subst (λ (k : ℕ). Added v f t e k old new) is (subst (λ (p : List ℕ). Added v f t p (get_or c.args.moves.now c.moves.step-index d).op old new) path c.in_ok-add_child.ensures.added) in
-    let sofar = skip_to v f ss a c.args.entry.node c.requires.tree c.requires.entry.inside moves c.requires.moves b set old at i.children.0 op i.children.1 (never_falls ops c.requires.moves.rising at) i.children.2 in
+    let added = subst (λ (k : ℕ). Added v f t e k old new) is
+    (subst (λ (p : List ℕ). Added v f t p (get_or c.args.moves.now c.moves.step-index d).op old new) path
+    c.in_ok-add_child.ensures.added) in
+    let none = lost v f ss a c.args.entry.node c.requires.tree c.requires.entry.inside moves c.requires.moves in
+    let sofar = skip_to v f b e set ops none old at i.children.0 op i.children.1 (never_falls ops c.requires.moves.rising at) i.children.2 in
     record {
       grows = grows_trans v.system TopK ss a b t i.grows m;
-      children = (op + 1, past_next ops c.requires.moves.rising at inside, chosen_added v f t e set op old new (chosen_like v f b t m.longer m.paths e set op old sofar) added);
+      children = (
+        op + 1,
+        past_next ops c.requires.moves.rising at inside,
+        chosen_added v f t e set op old new
+            (chosen_like v f b t m.longer m.paths e set op old sofar) added,
+      );
     }
 
 pub returns-clause-children : goal.returns-clause-children
@@ -77,7 +88,12 @@ returns-clause-children g c =
     let ss = states_of c.args.graph.now in
     let i = c.moves.invariant in
     let few = ops_many c.args.moves.now c.moves.step-index c.moves-test.false in
-    skip_to v c.args.search.now ss c.args.tree.now.items c.args.entry.node c.requires.tree c.requires.entry.inside c.args.moves.now c.requires.moves c.moves.tree.items (is_taken c.args.marks.now c.args.marked) c.moves.children.items c.moves.step-index i.children.0 v.system.operators i.children.1
+    let f = c.args.search.now in
+    let a = c.args.tree.now.items in
+    let none = lost v f ss a c.args.entry.node c.requires.tree c.requires.entry.inside c.args.moves.now c.requires.moves in
+    let set = is_taken c.args.marks.now c.args.marked in
+    skip_to v f c.moves.tree.items (path_at a c.args.entry.node) set (ops_of c.args.moves.now) none
+    c.moves.children.items c.moves.step-index i.children.0 v.system.operators i.children.1
     (λ j ge lt. absurd (omega (arith, ge, lt, few))) i.children.2
 
 pub moves-preserved-then-not-takes : goal.moves-preserved-then-not-takes
@@ -98,9 +114,16 @@ moves-preserved-then-not-takes g c =
     let old = c.moves.children.items in
     let is = op_at c.args.moves.now d c.moves.step-index c.moves-test.true in
     let inside = ops_few c.args.moves.now c.moves.step-index c.moves-test.true in
-    let off : is_taken c.args.marks.now c.args.marked (get_or c.args.moves.now c.moves.step-index d).op ≡ false = grind (arith, c.takes.ensures, c.if-not-takes.true) in
-    let sofar = skip_to v f ss a c.args.entry.node c.requires.tree c.requires.entry.inside moves c.requires.moves b set old at i.children.0 op i.children.1 (never_falls ops c.requires.moves.rising at) i.children.2 in
+    let off : is_taken c.args.marks.now c.args.marked (get_or c.args.moves.now c.moves.step-index d).op ≡ false =
+    grind (arith, c.takes.ensures, c.if-not-takes.true) in
+    let none = lost v f ss a c.args.entry.node c.requires.tree c.requires.entry.inside moves c.requires.moves in
+    let sofar = skip_to v f b e set ops none old at i.children.0 op i.children.1 (never_falls ops c.requires.moves.rising at) i.children.2 in
     record {
       grows = i.grows;
-      children = (op + 1, past_next ops c.requires.moves.rising at inside, chosen_left v f b e set op old sofar (subst (λ (k : ℕ). is_taken c.args.marks.now c.args.marked k ≡ false) is off));
+      children = (
+        op + 1,
+        past_next ops c.requires.moves.rising at inside,
+        chosen_left v f b e set op old sofar
+            (subst (λ (k : ℕ). is_taken c.args.marks.now c.args.marked k ≡ false) is off),
+      );
     }

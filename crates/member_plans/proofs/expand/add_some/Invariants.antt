@@ -12,5 +12,7 @@ invariant-moves g l =
     let v = g.S.Space.view l.space in
     record {
       grows : Grows v.system TopK (states_of l.graph) l.fn.tree.items l.tree.items;
-      children : (m : ℕ) × IsPast (ops_of l.moves) l.step-index m × AreChosen v l.search l.tree.items (path_at l.fn.tree.items l.entry.node) (is_taken l.marks l.marked) m l.children.items;
+      children : (m : ℕ) × IsPast (ops_of l.moves) l.step-index m
+          × AreChosen v l.search l.tree.items (path_at l.fn.tree.items l.entry.node)
+          (is_taken l.marks l.marked) m l.children.items;
     }

@@ -14,4 +14,5 @@ returns-clause-children g c =
     let kids = c.in_ok-children.children.items in
     let new = c.in_ok-here.here.items ++ c.in_ok-here.there.items in
     let perm = subst (λ (l : List Entry). IsPermutation l new) c.deref-2.ensures.value c.in_ok-here.ensures in
-    enough_permuted (g.S.Space.view c.args.space.now) c.args.search.now w.tree.items (path_at x.tree.items i) (end_at (states_of w.graph) x.tree.items i) kids new perm c.in_ok-children.ensures.children
+    enough_permuted (g.S.Space.view c.args.space.now) c.args.search.now w.tree.items (path_at x.tree.items i)
+    (end_at (states_of w.graph) x.tree.items i) kids new perm c.in_ok-children.ensures.children

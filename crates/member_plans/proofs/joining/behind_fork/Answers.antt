@@ -14,5 +14,6 @@ pub returns : goal.returns
 returns c = record {
   front = path_at c.args.tree.now c.up.at;
   first = c.up.invariant.first;
-  second = subst (λ (i : ℕ). path_at c.args.tree.now c.args.other ≡ path_at c.args.tree.now i ++ reverse c.up.two.items) (sym c.up-test.false) c.up.invariant.second;
+  second = subst (λ (i : ℕ). path_at c.args.tree.now c.args.other ≡ path_at c.args.tree.now i ++ reverse
+      c.up.two.items) (sym c.up-test.false) c.up.invariant.second;
 }

@@ -10,4 +10,4 @@ returns c y ss z on =
     let one = number_is nodes c.args.node c.node_at.result c.requires.node (c.node_at.ensures c.node_at.result) in
     let two = number_is nodes c.args.other c.node_at-2.result c.requires.other (c.node_at-2.ensures c.node_at-2.result) in
     let end : number_at nodes c.args.node ≡ number_at nodes c.args.other = sym one ∙ (c.if-node_at.false ∙ two) in
-    fork_joins y ss nodes c.args.node c.args.other c.in_ok-one.one.items c.in_ok-one.two.items z c.requires.node c.requires.other end c.in_ok-one.ensures (c.are_rearranged.ensures on)
+    fork_joins y ss nodes z c.requires.node c.requires.other end c.in_ok-one.ensures (c.are_rearranged.ensures on)

@@ -18,7 +18,9 @@ operators-init c =
     rw (c.in_ok-push.ensures.items, c.new-key.ensures.items) (ap (λ (k : ℕ). k ∷ []) number)
 
 pub operators-preserved : goal.operators-preserved
-operators-preserved c = next (number_at c.args.tree.now c.args.node) c.deref-op-items.result.now c.operators.key.items c.push-in-operators.new.self.items c.operators.op-index _ c.operators.invariant c.in_ok-push-2.ensures.items (take_more c.deref-op-items.result.now c.operators.op-index 0 c.operators-test.true)
+operators-preserved c = next (number_at c.args.tree.now c.args.node) c.deref-op-items.result.now c.operators.key.items
+    c.push-in-operators.new.self.items c.operators.op-index _ c.operators.invariant c.in_ok-push-2.ensures.items
+    (take_more c.deref-op-items.result.now c.operators.op-index 0 c.operators-test.true)
 
 pub returns : goal.returns
 returns c =

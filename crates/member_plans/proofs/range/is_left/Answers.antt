@@ -11,10 +11,18 @@ use Rattle.member_plans.specs.Left.{TellsLeft}
 use Rattle.member_plans.proofs.range.is_left.Goals as goal
 
 pub some_goes_on-left-requires-clause-tells : goal.some_goes_on-left-requires-clause-tells
-some_goes_on-left-requires-clause-tells g c = tells_leading (g.S.Space.view c.args.space.now) (g.S.Space.view c.reach.new.space) c.args.within c.in_ok-leading.leading c.in_ok-leading.ensures.kept.system c.requires.wide c.in_ok-leading.ensures.ok
+some_goes_on-left-requires-clause-tells g c = tells_leading (g.S.Space.view c.args.space.now)
+    (g.S.Space.view c.reach.new.space) c.args.within c.in_ok-leading.leading c.in_ok-leading.ensures.kept.system
+    c.requires.wide c.in_ok-leading.ensures.ok
 
 pub returns-clause-covers : goal.returns-clause-covers
-returns-clause-covers g c = subst (λ (y : System). (o : List (List ℕ)) → Covers y o (prefixes c.args.tree.now (entries_of c.args.queue.now)) → Covers y o (prefixes c.args.tree.now (entries_of c.some_goes_on-left.new.queue))) c.in_ok-leading.ensures.kept.system c.some_goes_on-left.ensures.covers
+returns-clause-covers g c = subst (λ (y : System). (o : List (List ℕ)) → Covers y o
+    (prefixes c.args.tree.now (entries_of c.args.queue.now))
+    → Covers y o (prefixes c.args.tree.now (entries_of c.some_goes_on-left.new.queue)))
+    c.in_ok-leading.ensures.kept.system c.some_goes_on-left.ensures.covers
 
 pub returns-clause-told : goal.returns-clause-told
-returns-clause-told g c = subst (λ (y : System). (o : List (List ℕ)) → ListsReached y → Covers y o (prefixes c.args.tree.now (entries_of c.args.queue.now)) → AllByRecursion (λ p. cost_of y p ≤ top None) o → IfOk c.some_goes_on-left.result (TellsLeft y o)) c.in_ok-leading.ensures.kept.system c.some_goes_on-left.ensures.told
+returns-clause-told g c = subst (λ (y : System). (o : List (List ℕ)) → ListsReached y → Covers y o
+    (prefixes c.args.tree.now (entries_of c.args.queue.now)) → AllByRecursion (λ p. cost_of y p ≤ top None) o
+    → IfOk c.some_goes_on-left.result (TellsLeft y o)) c.in_ok-leading.ensures.kept.system
+    c.some_goes_on-left.ensures.told

@@ -36,7 +36,9 @@ returns-then-goes_on-clause-told g c opened lists covers cheap =
     let y = (g.S.Space.view c.args.space.now).system in
     let ss = states_of c.args.graph.now in
     let i = c.entries.invariant in
-    some_left y ss c.args.tree.now c.requires.tree (entries_of c.entries.queue) i.dear c.in-Some.entry c.in-Some.ensures.some c.in-Some.ensures.at (c.goes_on.ensures.0 c.if-goes_on.true) opened lists (i.covers opened covers) cheap
+    some_left y ss c.args.tree.now c.requires.tree (entries_of c.entries.queue) i.dear c.in-Some.entry
+    c.in-Some.ensures.some c.in-Some.ensures.at (c.goes_on.ensures.0 c.if-goes_on.true) opened lists
+    (i.covers opened covers) cheap
 
 pub entries-smaller : goal.entries-smaller
 entries-smaller g c =
@@ -65,9 +67,12 @@ entries-preserved g c =
     let new = entries_of c.replace.new.self in
     let perm = replaced_perm es (entries_of c.make_room.new.self) kids new e c.make_room.ensures.same c.in-Some.ensures.at c.replace.ensures.replaces in
     record {
-      each = λ w f a. each_on y ss nodes c.requires.tree es i.dear e c.in-Some.ensures.some c.in-Some.ensures.at off kids new c.new.ensures.items perm (IsEntry w f nodes) (i.each w f a);
-      covers = λ o k. covers_on y ss nodes c.requires.tree es i.dear e c.in-Some.ensures.some c.in-Some.ensures.at off kids new c.new.ensures.items perm o (i.covers o k);
-      dear = each_on y ss nodes c.requires.tree es i.dear e c.in-Some.ensures.some c.in-Some.ensures.at off kids new c.new.ensures.items perm (IsDear y nodes) i.dear;
+      each = λ w f a. each_on y ss nodes c.requires.tree es i.dear e c.in-Some.ensures.some c.in-Some.ensures.at off
+          kids new c.new.ensures.items perm (IsEntry w f nodes) (i.each w f a);
+      covers = λ o k. covers_on y ss nodes c.requires.tree es i.dear e c.in-Some.ensures.some c.in-Some.ensures.at off
+          kids new c.new.ensures.items perm o (i.covers o k);
+      dear = each_on y ss nodes c.requires.tree es i.dear e c.in-Some.ensures.some c.in-Some.ensures.at off kids new
+          c.new.ensures.items perm (IsDear y nodes) i.dear;
       steps = omega (arith, i.steps, c.replace.ensures.steps);
     }
 

@@ -12,7 +12,9 @@ abbrev pub invariant-entries : goal.invariant-entries
 invariant-entries g l =
     let y = (g.S.Space.view l.space).system in
     record {
-      each : (w : View g.row.S-Set.Denot) (f : CostToGo g.row.S-Set.Denot) → AllByRecursion (IsEntry w f l.tree) (entries_of l.fn.queue) → AllByRecursion (IsEntry w f l.tree) (entries_of l.queue);
+      each : (w : View g.row.S-Set.Denot) (f : CostToGo g.row.S-Set.Denot)
+          → AllByRecursion (IsEntry w f l.tree) (entries_of l.fn.queue)
+          → AllByRecursion (IsEntry w f l.tree) (entries_of l.queue);
       covers : (opened : List (List ℕ)) → Covers y opened (prefixes l.tree (entries_of l.fn.queue)) → Covers y opened (prefixes l.tree (entries_of l.queue));
       dear : AllByRecursion (IsDear y l.tree) (entries_of l.queue);
       steps : l.fn.steps ≤ l.steps;

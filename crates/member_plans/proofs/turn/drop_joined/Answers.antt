@@ -22,7 +22,10 @@ returns-clause-follows g c =
     let new = entries_of c.replace.new.self in
     let all = replaced_perm q (entries_of c.make_room.new.self) c.new.result.items new e c.make_room.ensures.same c.requires.first c.replace.ensures.replaces in
     let perm = perm_beside q o [] new e (subst (λ (l : List Entry). IsPermutation (q ++ l) (e ∷ new)) c.new.ensures.items all) in
-    follows_requeued v f c.args.most x c.replace.new.self x.other z (dropped_each v f x.graph x.tree.items (waiting x) (new ++ o) e (opened x) z.covers z.ready.each perm) (dropped_covers v f x.graph x.tree.items (waiting x) (new ++ o) e (opened x) z.covers c.requires.joined perm)
+    follows_requeued v f c.args.most x c.replace.new.self x.other z
+    (dropped_each v f x.graph x.tree.items (waiting x) (new ++ o) e (opened x) z.covers z.ready.each perm)
+    (dropped_covers v f x.graph x.tree.items (waiting x) (new ++ o) e (opened x) z.covers
+    c.requires.joined perm)
 
 pub returns-clause-less : goal.returns-clause-less
 returns-clause-less g c =

@@ -1,7 +1,5 @@
-use Rattle.std.proofs.Common.{◌≡◌, ℕ, List, ◌++◌, Result, Ok, Err, OnOk, OnErr, subst, sym}
-use Rattle.task_system.specs.System.{System}
+use Rattle.std.proofs.Common.{◌≡◌, List, ◌++◌, Result, Ok, Err, OnOk, OnErr, subst, sym}
 use Rattle.prefix_tree.specs.Entries.{entries_of, prefixes}
-use Rattle.prefix_tree.specs.declared.tree.Node.{Node}
 use Rattle.prefix_tree.specs.declared.entry.Entry.{Entry}
 use Rattle.prefix_ends.specs.Children.{IsEntry}
 use Rattle.member_laws.specs.Nodes.{Covers}
@@ -12,9 +10,9 @@ use Rattle.member_plans.proofs.Walking.{follows_requeued, requeued, reranked_fol
 use Rattle.member_plans.proofs.turn.learn.Goals as goal
 
 -- what covers covers, refused or not
-either : {X E : Type 0} (y : System) (nodes : List Node) (os : List (List ℕ)) (q o new : List Entry) (L : Type 0) (r : Result X E) → OnOk r L → OnErr r (new ≡ q) → (L → Covers y os (prefixes nodes (new ++ o))) → Covers y os (prefixes nodes (q ++ o)) → Covers y os (prefixes nodes (new ++ o))
-either y nodes os q o new L (Ok x) ok err on covers = on ok
-either y nodes os q o new L (Err e) ok err on covers = subst (λ (l : List Entry). Covers y os (prefixes nodes (l ++ o))) (sym err) covers
+either : {X E : Type 0} (P : List Entry → Type 0) (q new : List Entry) (L : Type 0) (r : Result X E) → OnOk r L → OnErr r (new ≡ q) → (L → P new) → P q → P new
+either P q new L (Ok x) ok err on here = on ok
+either P q new L (Err e) ok err on here = subst P (sym err) here
 
 on_ok : {X E : Type 0} (A B : Type 0) (r : Result X E) → (A → B) → OnOk r A → OnOk r B
 on_ok A B (Ok x) f h = f h
@@ -23,7 +21,8 @@ on_ok A B (Err e) f h = tt
 pub learn-requires-clause-ready : goal.learn-requires-clause-ready
 learn-requires-clause-ready g c =
     let x = c.args.front.now in
-    rw c.deref.ensures.value (ready_left (g.S.Space.view c.args.space.now) c.args.search.now x.graph x.tree.items (entries_of x.queue) (entries_of x.other) c.requires.steady.ready)
+    rw c.deref.ensures.value (ready_left (g.S.Space.view c.args.space.now) c.args.search.now x.graph x.tree.items
+    (entries_of x.queue) (entries_of x.other) c.requires.steady.ready)
 
 pub returns-clause-follows : goal.returns-clause-follows
 returns-clause-follows g c =
@@ -36,8 +35,12 @@ returns-clause-follows g c =
     let o = entries_of x.other in
     let new = entries_of c.learn.new.queue in
     let P = IsEntry v f x.tree.items in
-    reranked_follows v f c.args.most x (requeued x c.learn.new.queue x.other) c.learn.new.self (follows_requeued v f c.args.most x c.learn.new.queue x.other z (join_each P new o (rw c.deref.ensures.value at c.learn.ensures.ready).each (right_each P q o z.ready.each))
-    (either v.system x.tree.items (opened x) q o new _ c.learn.result (rw c.deref.ensures.value at c.learn.ensures.ok) c.learn.ensures.err (λ l. learned_covers v f x.graph x.tree.items (waiting x) (new ++ o) e (opened x) z.covers (learned_beside v f x.tree.items q o new e l)) z.covers))
+    let each = join_each P new o (rw c.deref.ensures.value at c.learn.ensures.ready).each (right_each P q o z.ready.each) in
+    let covers = either (λ (l : List Entry). Covers v.system (opened x) (prefixes x.tree.items (l ++ o))) q new _
+    c.learn.result (rw c.deref.ensures.value at c.learn.ensures.ok) c.learn.ensures.err
+    (λ l. learned_covers v f x.graph x.tree.items (waiting x) (new ++ o) e (opened x) z.covers (learned_beside v f x.tree.items q o new e l)) z.covers in
+    reranked_follows v f c.args.most x (requeued x c.learn.new.queue x.other) c.learn.new.self
+    (follows_requeued v f c.args.most x c.learn.new.queue x.other z each covers)
 
 pub returns-clause-less : goal.returns-clause-less
 returns-clause-less g c =
@@ -49,4 +52,6 @@ returns-clause-less g c =
     let q = entries_of x.queue in
     let o = entries_of x.other in
     let new = entries_of c.learn.new.queue in
-    on_ok _ _ c.learn.result (λ l. learned_less v f x.graph x.tree.items (waiting x) (new ++ o) e (opened x) z.covers c.requires.open c.requires.more (learned_beside v f x.tree.items q o new e l)) (rw c.deref.ensures.value at c.learn.ensures.ok)
+    on_ok _ _ c.learn.result (λ l. learned_less v f x.graph x.tree.items (waiting x) (new ++ o) e (opened x) z.covers
+    c.requires.open c.requires.more (learned_beside v f x.tree.items q o new e l))
+    (rw c.deref.ensures.value at c.learn.ensures.ok)

@@ -22,7 +22,11 @@ returns-clause-steady g c =
     let one = replaced_perm q (entries_of w.queue) here new c.args.entry e.queue c.requires.first c.replace.ensures.replaces in
     let two = subst (λ (l : List Entry). IsPermutation (l ++ there) rest) e.other c.add.ensures in
     let perm = perm_parted q o here there new rest c.args.entry one two in
-    open_steady v c.args.search.now c.args.most x w c.requires.steady e.graph e.serves e.grows (both_same q o (entries_of w.queue) (entries_of w.other) e.queue e.other) e.opened c.args.entry (some_beside q o c.requires.some) (first_beside q o c.args.entry c.requires.some c.requires.first) c.requires.cheap (here ++ there) c.in_ok-here.ensures.children c.replace.new.self c.add.new.self perm c.put.new.self (rw c.deref.ensures.value at c.in_ok-put.ensures.ok)
+    open_steady v c.args.search.now c.args.most x w c.requires.steady e.graph e.serves e.grows
+    (both_same q o (entries_of w.queue) (entries_of w.other) e.queue e.other) e.opened c.args.entry
+    (some_beside q o c.requires.some) (first_beside q o c.args.entry c.requires.some c.requires.first)
+    c.requires.cheap (here ++ there) c.in_ok-here.ensures.children c.replace.new.self c.add.new.self perm
+    c.put.new.self (rw c.deref.ensures.value at c.in_ok-put.ensures.ok)
 
 pub returns-clause-ok : goal.returns-clause-ok
 returns-clause-ok g c =
@@ -39,7 +43,11 @@ returns-clause-ok g c =
     let one = replaced_perm q (entries_of w.queue) here new c.args.entry e.queue c.requires.first c.replace.ensures.replaces in
     let two = subst (λ (l : List Entry). IsPermutation (l ++ there) rest) e.other c.add.ensures in
     let perm = perm_parted q o here there new rest c.args.entry one two in
-    open_opened v c.args.search.now c.args.most x w c.requires.steady e.graph e.serves e.grows (both_same q o (entries_of w.queue) (entries_of w.other) e.queue e.other) e.opened c.args.entry (some_beside q o c.requires.some) (first_beside q o c.args.entry c.requires.some c.requires.first) c.requires.cheap (here ++ there) c.in_ok-here.ensures.children c.replace.new.self c.add.new.self perm c.put.new.self (rw c.deref.ensures.value at c.in_ok-put.ensures.ok)
+    open_opened v c.args.search.now c.args.most x w c.requires.steady e.graph e.serves e.grows
+    (both_same q o (entries_of w.queue) (entries_of w.other) e.queue e.other) e.opened c.args.entry
+    (some_beside q o c.requires.some) (first_beside q o c.args.entry c.requires.some c.requires.first)
+    c.requires.cheap (here ++ there) c.in_ok-here.ensures.children c.replace.new.self c.add.new.self perm
+    c.put.new.self (rw c.deref.ensures.value at c.in_ok-put.ensures.ok)
 
 pub returns-clause-more : goal.returns-clause-more
 returns-clause-more g c =
@@ -56,28 +64,49 @@ returns-clause-more g c =
     let one = replaced_perm q (entries_of w.queue) here new c.args.entry e.queue c.requires.first c.replace.ensures.replaces in
     let two = subst (λ (l : List Entry). IsPermutation (l ++ there) rest) e.other c.add.ensures in
     let perm = perm_parted q o here there new rest c.args.entry one two in
-    open_more v c.args.search.now c.args.most x w c.requires.steady e.graph e.serves e.grows (both_same q o (entries_of w.queue) (entries_of w.other) e.queue e.other) e.opened c.args.entry (some_beside q o c.requires.some) (first_beside q o c.args.entry c.requires.some c.requires.first) c.requires.cheap (here ++ there) c.in_ok-here.ensures.children c.replace.new.self c.add.new.self perm c.put.new.self (rw c.deref.ensures.value at c.in_ok-put.ensures.ok)
+    open_more v c.args.search.now c.args.most x w c.requires.steady e.graph e.serves e.grows
+    (both_same q o (entries_of w.queue) (entries_of w.other) e.queue e.other) e.opened c.args.entry
+    (some_beside q o c.requires.some) (first_beside q o c.args.entry c.requires.some c.requires.first)
+    c.requires.cheap (here ++ there) c.in_ok-here.ensures.children c.replace.new.self c.add.new.self perm
+    c.put.new.self (rw c.deref.ensures.value at c.in_ok-put.ensures.ok)
 
 pub returns-in_err-here-clause-steady : goal.returns-in_err-here-clause-steady
 returns-in_err-here-clause-steady g c =
     let e = c.expand.ensures in
-    grown_steady (g.S.Space.view c.args.space.now) c.args.search.now c.args.most c.args.front.now c.expand.new.front c.requires.steady e.graph e.serves e.grows (both_same (entries_of c.args.front.now.queue) (entries_of c.args.front.now.other) (entries_of c.expand.new.front.queue) (entries_of c.expand.new.front.other) e.queue e.other) e.opened
+    grown_steady (g.S.Space.view c.args.space.now) c.args.search.now c.args.most c.args.front.now c.expand.new.front
+    c.requires.steady e.graph e.serves e.grows (both_same (entries_of c.args.front.now.queue)
+    (entries_of c.args.front.now.other) (entries_of c.expand.new.front.queue)
+    (entries_of c.expand.new.front.other) e.queue e.other) e.opened
 
 pub returns-in_err-here-clause-err : goal.returns-in_err-here-clause-err
 returns-in_err-here-clause-err g c =
     let e = c.expand.ensures in
-    on_err c.from_residual.result (grown_same (g.S.Space.view c.args.space.now) c.args.search.now c.args.most c.args.front.now c.expand.new.front c.requires.steady e.graph e.serves e.grows (both_same (entries_of c.args.front.now.queue) (entries_of c.args.front.now.other) (entries_of c.expand.new.front.queue) (entries_of c.expand.new.front.other) e.queue e.other) e.opened)
+    on_err c.from_residual.result (grown_same (g.S.Space.view c.args.space.now) c.args.search.now c.args.most
+    c.args.front.now c.expand.new.front c.requires.steady e.graph e.serves e.grows
+    (both_same (entries_of c.args.front.now.queue) (entries_of c.args.front.now.other)
+    (entries_of c.expand.new.front.queue) (entries_of c.expand.new.front.other) e.queue e.other) e.opened)
 
 pub returns-in_err-put-clause-steady : goal.returns-in_err-put-clause-steady
 returns-in_err-put-clause-steady g c =
     let e = c.expand.ensures in
     let w = c.expand.new.front in
-    let z = grown_steady (g.S.Space.view c.args.space.now) c.args.search.now c.args.most c.args.front.now w c.requires.steady e.graph e.serves e.grows (both_same (entries_of c.args.front.now.queue) (entries_of c.args.front.now.other) (entries_of c.expand.new.front.queue) (entries_of c.expand.new.front.other) e.queue e.other) e.opened in
+    let z = grown_steady (g.S.Space.view c.args.space.now) c.args.search.now c.args.most c.args.front.now w
+    c.requires.steady e.graph e.serves e.grows (both_same (entries_of c.args.front.now.queue)
+    (entries_of c.args.front.now.other) (entries_of c.expand.new.front.queue)
+    (entries_of c.expand.new.front.other) e.queue e.other) e.opened in
     retold_steady (g.S.Space.view c.args.space.now) c.args.search.now c.args.most w c.put.new.self c.in_err-put.ensures.places c.in_err-put.ensures.keys z
 
 pub returns-in_err-put-clause-err : goal.returns-in_err-put-clause-err
 returns-in_err-put-clause-err g c =
     let e = c.expand.ensures in
     let w = c.expand.new.front in
-    let z = grown_steady (g.S.Space.view c.args.space.now) c.args.search.now c.args.most c.args.front.now w c.requires.steady e.graph e.serves e.grows (both_same (entries_of c.args.front.now.queue) (entries_of c.args.front.now.other) (entries_of c.expand.new.front.queue) (entries_of c.expand.new.front.other) e.queue e.other) e.opened in
-    on_err c.from_residual-in_err-put.result (retold_opened (g.S.Space.view c.args.space.now) c.args.search.now c.args.most w c.put.new.self c.in_err-put.ensures.places c.in_err-put.ensures.keys z ∙ grown_same (g.S.Space.view c.args.space.now) c.args.search.now c.args.most c.args.front.now w c.requires.steady e.graph e.serves e.grows (both_same (entries_of c.args.front.now.queue) (entries_of c.args.front.now.other) (entries_of c.expand.new.front.queue) (entries_of c.expand.new.front.other) e.queue e.other) e.opened)
+    let z = grown_steady (g.S.Space.view c.args.space.now) c.args.search.now c.args.most c.args.front.now w
+    c.requires.steady e.graph e.serves e.grows (both_same (entries_of c.args.front.now.queue)
+    (entries_of c.args.front.now.other) (entries_of c.expand.new.front.queue)
+    (entries_of c.expand.new.front.other) e.queue e.other) e.opened in
+    on_err c.from_residual-in_err-put.result (retold_opened (g.S.Space.view c.args.space.now) c.args.search.now
+    c.args.most w c.put.new.self c.in_err-put.ensures.places c.in_err-put.ensures.keys z
+    ∙ grown_same (g.S.Space.view c.args.space.now) c.args.search.now c.args.most c.args.front.now w
+    c.requires.steady e.graph e.serves e.grows (both_same (entries_of c.args.front.now.queue)
+    (entries_of c.args.front.now.other) (entries_of c.expand.new.front.queue)
+    (entries_of c.expand.new.front.other) e.queue e.other) e.opened)

@@ -9,5 +9,6 @@ returns-clause-follows g c =
     let f = c.args.search.now in
     let x = c.args.front.now in
     let o = c.open.ensures in
-    let k = first_entry v f x.graph x.tree.items (entries_of x.queue) (entries_of x.other) c.args.entry c.requires.some c.requires.first c.requires.steady.ready in
-    pass_follows v f c.args.most x c.open.new.front c.args.entry c.open.result k c.requires.off o.steady o.ok o.err o.more o.same
+    let k = first_entry v f x.graph x.tree.items (entries_of x.queue) (entries_of x.other) c.args.entry
+    c.requires.some c.requires.first c.requires.steady.ready in
+    pass_follows v f c.args.most x c.open.new.front c.args.entry k c.requires.off o.steady c.open.result o.ok o.err o.more o.same

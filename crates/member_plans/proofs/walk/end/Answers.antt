@@ -16,7 +16,9 @@ returns-in_err-join-in-None-clause-follows g c =
     let x = c.args.front.now in
     let q = c.join.new.self in
     let o = c.join.new.other in
-    kept_follows (g.S.Space.view c.args.space.now) c.args.search.now c.args.most x q o c.requires.steady (both_same (entries_of x.queue) (entries_of x.other) (entries_of q) (entries_of o) c.in_err-join-in-None.ensures.err c.in_err-join-in-None.ensures.same)
+    kept_follows (g.S.Space.view c.args.space.now) c.args.search.now c.args.most x q o c.requires.steady
+    (both_same (entries_of x.queue) (entries_of x.other) (entries_of q) (entries_of o)
+    c.in_err-join-in-None.ensures.err c.in_err-join-in-None.ensures.same)
 
 pub is_left-requires-clause-dear : goal.is_left-requires-clause-dear
 is_left-requires-clause-dear g c =
@@ -33,24 +35,34 @@ returns-in_err-is_left-in-None-clause-follows g c =
     let v = g.S.Space.view c.args.space.now in
     let x = c.args.front.now in
     let j = c.in_ok-join-in-None.ensures in
-    left_follows v c.args.search.now c.args.most x c.join.new.self j.ok c.requires.steady (g.S.Space.view c.is_left.new.space) c.is_left.new.queue c.join.new.other c.is_left.ensures.stays j.none (rw c.deref.ensures.value at (c.is_left.ensures.each v c.args.search.now)) (rw c.deref.ensures.value at (c.is_left.ensures.covers (opened x)))
+    left_follows v c.args.search.now c.args.most x c.join.new.self j.ok c.requires.steady
+    (g.S.Space.view c.is_left.new.space) c.is_left.new.queue c.join.new.other c.is_left.ensures.stays j.none
+    (rw c.deref.ensures.value at (c.is_left.ensures.each v c.args.search.now))
+    (rw c.deref.ensures.value at (c.is_left.ensures.covers (opened x)))
 
 pub returns-then-branch-clause-follows : goal.returns-then-branch-clause-follows
 returns-then-branch-clause-follows g c =
     let v = g.S.Space.view c.args.space.now in
     let x = c.args.front.now in
     let j = c.in_ok-join-in-None.ensures in
-    left_follows v c.args.search.now c.args.most x c.join.new.self j.ok c.requires.steady (g.S.Space.view c.is_left.new.space) c.is_left.new.queue c.join.new.other c.is_left.ensures.stays j.none (rw c.deref.ensures.value at (c.is_left.ensures.each v c.args.search.now)) (rw c.deref.ensures.value at (c.is_left.ensures.covers (opened x)))
+    left_follows v c.args.search.now c.args.most x c.join.new.self j.ok c.requires.steady
+    (g.S.Space.view c.is_left.new.space) c.is_left.new.queue c.join.new.other c.is_left.ensures.stays j.none
+    (rw c.deref.ensures.value at (c.is_left.ensures.each v c.args.search.now))
+    (rw c.deref.ensures.value at (c.is_left.ensures.covers (opened x)))
 
 pub returns-else-branch-clause-follows : goal.returns-else-branch-clause-follows
 returns-else-branch-clause-follows g c =
     let v = g.S.Space.view c.args.space.now in
     let x = c.args.front.now in
     let j = c.in_ok-join-in-None.ensures in
-    left_follows v c.args.search.now c.args.most x c.join.new.self j.ok c.requires.steady (g.S.Space.view c.is_left.new.space) c.is_left.new.queue c.join.new.other c.is_left.ensures.stays j.none (rw c.deref.ensures.value at (c.is_left.ensures.each v c.args.search.now)) (rw c.deref.ensures.value at (c.is_left.ensures.covers (opened x)))
+    left_follows v c.args.search.now c.args.most x c.join.new.self j.ok c.requires.steady
+    (g.S.Space.view c.is_left.new.space) c.is_left.new.queue c.join.new.other c.is_left.ensures.stays j.none
+    (rw c.deref.ensures.value at (c.is_left.ensures.each v c.args.search.now))
+    (rw c.deref.ensures.value at (c.is_left.ensures.covers (opened x)))
 
 pub returns-in-Some-clause-ok : goal.returns-in-Some-clause-ok
-returns-in-Some-clause-ok g c = past_ends (g.S.Space.view c.args.space.now) c.args.search.now c.args.most c.in-Some.field-0 c.args.front.now c.in-Some.is c.requires.steady c.requires.dear
+returns-in-Some-clause-ok g c = past_ends (g.S.Space.view c.args.space.now) c.args.search.now c.args.most
+    c.in-Some.field-0 c.args.front.now c.in-Some.is c.requires.steady c.requires.dear
 
 pub returns-then-branch-clause-ok : goal.returns-then-branch-clause-ok
 returns-then-branch-clause-ok g c =
@@ -60,7 +72,9 @@ returns-then-branch-clause-ok g c =
     let z = c.requires.steady in
     let covers = joined_covers v c.args.search.now c.args.most x c.join.new.self c.in_ok-join-in-None.ensures.ok z in
     let cheap = rw c.in-None.is at (table_cheap y c.args.most x.tree.items (places x) (keys_of x.opened) z.table) in
-    told_out y c.args.most (opened x) _ c.in-None.is c.if-branch.true ((rw c.deref.ensures.value at (c.in_ok-is_left-in-None.ensures.told (opened x))) z.serves.lists covers cheap)
+    told_out y c.args.most (opened x) _ c.in-None.is c.if-branch.true
+    ((rw c.deref.ensures.value at (c.in_ok-is_left-in-None.ensures.told (opened x)))
+    z.serves.lists covers cheap)
 
 pub returns-else-branch-clause-ok : goal.returns-else-branch-clause-ok
 returns-else-branch-clause-ok g c =
@@ -70,4 +84,6 @@ returns-else-branch-clause-ok g c =
     let z = c.requires.steady in
     let covers = joined_covers v c.args.search.now c.args.most x c.join.new.self c.in_ok-join-in-None.ensures.ok z in
     let cheap = rw c.in-None.is at (table_cheap y c.args.most x.tree.items (places x) (keys_of x.opened) z.table) in
-    told_none y c.args.most (opened x) _ c.in-None.is c.if-branch.false ((rw c.deref.ensures.value at (c.in_ok-is_left-in-None.ensures.told (opened x))) z.serves.lists covers cheap)
+    told_none y c.args.most (opened x) _ c.in-None.is c.if-branch.false
+    ((rw c.deref.ensures.value at (c.in_ok-is_left-in-None.ensures.told (opened x)))
+    z.serves.lists covers cheap)

@@ -14,13 +14,10 @@ turns-init g c = record {
 
 pub turns-preserved : goal.turns-preserved
 turns-preserved g c =
-    let u = g.S.Space.view c.args.space.now in
-    let f = c.args.search.now in
     let i = c.turns.invariant in
-    let same = c.take_turn.ensures.system ∙ i.system in
     record {
-      system = same;
-      follows = follows_then u (g.S.Space.view c.turns.space) (g.S.Space.view c.take_turn.new.space) f f f c.args.most c.args.front.now c.turns.front c.take_turn.new.front i.system same i.follows c.take_turn.ensures.follows;
+      system = c.take_turn.ensures.system ∙ i.system;
+      follows = follows_then c.take_turn.ensures.system i.follows c.take_turn.ensures.follows;
       steps = omega (arith, i.steps, c.take_turn.ensures.steps);
     }
 
@@ -28,23 +25,16 @@ pub turns-smaller : goal.turns-smaller
 turns-smaller g c = rw c.in_default.is at c.in_ok-halt.ensures.ok
 
 pub returns-in-Some-clause-follows : goal.returns-in-Some-clause-follows
-returns-in-Some-clause-follows g c =
-    let u = g.S.Space.view c.args.space.now in
-    let f = c.args.search.now in
-    let i = c.turns.invariant in
-    follows_then u (g.S.Space.view c.turns.space) (g.S.Space.view c.take_turn.new.space) f f f c.args.most c.args.front.now c.turns.front c.take_turn.new.front i.system (c.take_turn.ensures.system ∙ i.system) i.follows c.take_turn.ensures.follows
+returns-in-Some-clause-follows g c = follows_then c.take_turn.ensures.system c.turns.invariant.follows c.take_turn.ensures.follows
 
 pub returns-in-Some-clause-ok : goal.returns-in-Some-clause-ok
 returns-in-Some-clause-ok g c =
     let u = g.S.Space.view c.args.space.now in
     let f = c.args.search.now in
     let i = c.turns.invariant in
-    let t = subst (λ (y : System). HaltsAt y (known_of f) c.args.most c.turns.front c.take_turn.new.front c.in-Some.halt) i.system (rw c.in-Some.is at c.in_ok-halt.ensures.ok) in
+    let t = subst (λ (y : System). HaltsAt y (known_of f) c.args.most c.turns.front c.take_turn.new.front
+    c.in-Some.halt) i.system (rw c.in-Some.is at c.in_ok-halt.ensures.ok) in
     halts_after u.system (known_of f) c.args.most c.args.front.now c.turns.front c.take_turn.new.front i.follows.more c.in-Some.halt t
 
 pub returns-in_err-halt-clause-follows : goal.returns-in_err-halt-clause-follows
-returns-in_err-halt-clause-follows g c =
-    let u = g.S.Space.view c.args.space.now in
-    let f = c.args.search.now in
-    let i = c.turns.invariant in
-    follows_then u (g.S.Space.view c.turns.space) (g.S.Space.view c.take_turn.new.space) f f f c.args.most c.args.front.now c.turns.front c.take_turn.new.front i.system (c.take_turn.ensures.system ∙ i.system) i.follows c.take_turn.ensures.follows
+returns-in_err-halt-clause-follows g c = follows_then c.take_turn.ensures.system c.turns.invariant.follows c.take_turn.ensures.follows

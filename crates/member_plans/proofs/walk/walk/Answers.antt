@@ -17,74 +17,38 @@ steps-init g c = record {
 }
 
 pub returns-in-Err-clause-follows : goal.returns-in-Err-clause-follows
-returns-in-Err-clause-follows g c =
-    let u = g.S.Space.view c.args.space.now in
-    let v = g.S.Space.view c.steps.space in
-    let w = g.S.Space.view c.take_turns.new.space in
-    let f = c.steps.search in
-    let i = c.steps.invariant in
-    let most = c.args.most in
-    let x = c.args.front.now in
-    let m = c.steps.front in
-    let z = c.take_turns.new.front in
-    follows_then u v w f f f most x m z i.system (c.take_turns.ensures.system ∙ i.system) i.follows c.take_turns.ensures.follows
+returns-in-Err-clause-follows g c = follows_then c.take_turns.ensures.system c.steps.invariant.follows c.take_turns.ensures.follows
 
 pub returns-in-Due-clause-follows : goal.returns-in-Due-clause-follows
-returns-in-Due-clause-follows g c =
-    let u = g.S.Space.view c.args.space.now in
-    let v = g.S.Space.view c.steps.space in
-    let w = g.S.Space.view c.take_turns.new.space in
-    let f = c.steps.search in
-    let i = c.steps.invariant in
-    let most = c.args.most in
-    let x = c.args.front.now in
-    let m = c.steps.front in
-    let z = c.take_turns.new.front in
-    follows_then u v w f f f most x m z i.system (c.take_turns.ensures.system ∙ i.system) i.follows c.take_turns.ensures.follows
+returns-in-Due-clause-follows g c = follows_then c.take_turns.ensures.system c.steps.invariant.follows c.take_turns.ensures.follows
 
 pub returns-in-Ends-clause-follows : goal.returns-in-Ends-clause-follows
-returns-in-Ends-clause-follows g c =
-    let u = g.S.Space.view c.args.space.now in
-    let v = g.S.Space.view c.steps.space in
-    let w = g.S.Space.view c.take_turns.new.space in
-    let f = c.steps.search in
-    let i = c.steps.invariant in
-    let most = c.args.most in
-    let x = c.args.front.now in
-    let m = c.steps.front in
-    let z = c.take_turns.new.front in
-    follows_then u v w f f f most x m z i.system (c.take_turns.ensures.system ∙ i.system) i.follows c.take_turns.ensures.follows
+returns-in-Ends-clause-follows g c = follows_then c.take_turns.ensures.system c.steps.invariant.follows c.take_turns.ensures.follows
 
 pub returns-in-OutOfRange-clause-follows : goal.returns-in-OutOfRange-clause-follows
-returns-in-OutOfRange-clause-follows g c =
-    let u = g.S.Space.view c.args.space.now in
-    let v = g.S.Space.view c.steps.space in
-    let w = g.S.Space.view c.take_turns.new.space in
-    let f = c.steps.search in
-    let i = c.steps.invariant in
-    let most = c.args.most in
-    let x = c.args.front.now in
-    let m = c.steps.front in
-    let z = c.take_turns.new.front in
-    follows_then u v w f f f most x m z i.system (c.take_turns.ensures.system ∙ i.system) i.follows c.take_turns.ensures.follows
+returns-in-OutOfRange-clause-follows g c = follows_then c.take_turns.ensures.system c.steps.invariant.follows c.take_turns.ensures.follows
 
 pub returns-in-Err-clause-ok : goal.returns-in-Err-clause-ok
-returns-in-Err-clause-ok g c = memory_stops (g.S.Space.view c.args.space.now).system c.args.most (PendsNode (g.S.Space.view c.args.space.now).system (opened c.take_turns.new.front))
+returns-in-Err-clause-ok g c = memory_stops (g.S.Space.view c.args.space.now).system c.args.most
+    (PendsNode (g.S.Space.view c.args.space.now).system (opened c.take_turns.new.front))
 
 pub returns-in-Due-clause-ok : goal.returns-in-Due-clause-ok
 returns-in-Due-clause-ok g c =
     let i = c.steps.invariant in
-    subst (λ (y : System). HaltsAt y (known_of c.steps.search) c.args.most c.steps.front c.take_turns.new.front (Due c.in-Due.entry)) i.system (rw c.in-Due.is at c.in-Ok.ensures.ok)
+    subst (λ (y : System). HaltsAt y (known_of c.steps.search) c.args.most c.steps.front c.take_turns.new.front
+    (Due c.in-Due.entry)) i.system (rw c.in-Due.is at c.in-Ok.ensures.ok)
 
 pub returns-in-Ends-clause-ok : goal.returns-in-Ends-clause-ok
 returns-in-Ends-clause-ok g c =
     let i = c.steps.invariant in
-    subst (λ (y : System). HaltsAt y (known_of c.steps.search) c.args.most c.steps.front c.take_turns.new.front Ends) i.system (rw c.in-Ends.is at c.in-Ok.ensures.ok)
+    subst (λ (y : System). HaltsAt y (known_of c.steps.search) c.args.most c.steps.front c.take_turns.new.front Ends)
+    i.system (rw c.in-Ends.is at c.in-Ok.ensures.ok)
 
 pub returns-in-OutOfRange-clause-ok : goal.returns-in-OutOfRange-clause-ok
 returns-in-OutOfRange-clause-ok g c =
     let i = c.steps.invariant in
-    subst (λ (y : System). HaltsAt y (known_of c.steps.search) c.args.most c.steps.front c.take_turns.new.front OutOfRange) i.system (rw c.in-OutOfRange.is at c.in-Ok.ensures.ok)
+    subst (λ (y : System). HaltsAt y (known_of c.steps.search) c.args.most c.steps.front c.take_turns.new.front
+    OutOfRange) i.system (rw c.in-OutOfRange.is at c.in-Ok.ensures.ok)
 
 pub go_on-requires-clause-alone : goal.go_on-requires-clause-alone
 go_on-requires-clause-alone g c = c.take_turns.ensures.follows.steady.ready.alone
@@ -92,41 +56,39 @@ go_on-requires-clause-alone g c = c.take_turns.ensures.follows.steady.ready.alon
 pub go_on-requires-clause-more : goal.go_on-requires-clause-more
 go_on-requires-clause-more g c =
     let i = c.steps.invariant in
-    subst (λ (y : System). HaltsAt y (known_of c.steps.search) c.args.most c.steps.front c.take_turns.new.front Waits) i.system (rw c.in-Waits.is at c.in-Ok.ensures.ok)
+    subst (λ (y : System). HaltsAt y (known_of c.steps.search) c.args.most c.steps.front c.take_turns.new.front Waits)
+    i.system (rw c.in-Waits.is at c.in-Ok.ensures.ok)
 
 pub returns-in-Err-go_on-clause-follows : goal.returns-in-Err-go_on-clause-follows
 returns-in-Err-go_on-clause-follows g c =
-    let u = g.S.Space.view c.args.space.now in
-    let v = g.S.Space.view c.steps.space in
     let w = g.S.Space.view c.take_turns.new.space in
     let f = c.steps.search in
     let i = c.steps.invariant in
     let most = c.args.most in
     let x = c.args.front.now in
-    let m = c.steps.front in
     let z = c.take_turns.new.front in
-    let k = follows_then u v w f f f most x m z i.system (c.take_turns.ensures.system ∙ i.system) i.follows c.take_turns.ensures.follows in
-    follows_on w (g.S.Space.view c.go_on.new.space) f c.go_on.new.search most x z c.go_on.ensures.system (c.go_on.ensures.ready z.graph z.tree.items (waiting z) k.steady.ready) k
+    let k = follows_then c.take_turns.ensures.system i.follows c.take_turns.ensures.follows in
+    follows_on w (g.S.Space.view c.go_on.new.space) f c.go_on.new.search most x z c.go_on.ensures.system
+    (c.go_on.ensures.ready z.graph z.tree.items (waiting z) k.steady.ready) k
 
 pub returns-in-Err-go_on-clause-ok : goal.returns-in-Err-go_on-clause-ok
-returns-in-Err-go_on-clause-ok g c = memory_stops (g.S.Space.view c.args.space.now).system c.args.most (PendsNode (g.S.Space.view c.args.space.now).system (opened c.take_turns.new.front))
+returns-in-Err-go_on-clause-ok g c = memory_stops (g.S.Space.view c.args.space.now).system c.args.most
+    (PendsNode (g.S.Space.view c.args.space.now).system (opened c.take_turns.new.front))
 
 pub steps-preserved : goal.steps-preserved
 steps-preserved g c =
-    let u = g.S.Space.view c.args.space.now in
-    let v = g.S.Space.view c.steps.space in
     let w = g.S.Space.view c.take_turns.new.space in
     let f = c.steps.search in
     let i = c.steps.invariant in
     let most = c.args.most in
     let x = c.args.front.now in
-    let m = c.steps.front in
     let z = c.take_turns.new.front in
-    let k = follows_then u v w f f f most x m z i.system (c.take_turns.ensures.system ∙ i.system) i.follows c.take_turns.ensures.follows in
+    let k = follows_then c.take_turns.ensures.system i.follows c.take_turns.ensures.follows in
     record {
       system = c.go_on.ensures.system ∙ (c.take_turns.ensures.system ∙ i.system);
       within = i.within ∙ sym c.go_on.ensures.within;
-      follows = follows_on w (g.S.Space.view c.go_on.new.space) f c.go_on.new.search most x z c.go_on.ensures.system (c.go_on.ensures.ready z.graph z.tree.items (waiting z) k.steady.ready) k;
+      follows = follows_on w (g.S.Space.view c.go_on.new.space) f c.go_on.new.search most x z c.go_on.ensures.system
+          (c.go_on.ensures.ready z.graph z.tree.items (waiting z) k.steady.ready) k;
       steps = omega (arith, i.steps, c.take_turns.ensures.steps);
     }
 
@@ -134,28 +96,22 @@ pub steps-smaller : goal.steps-smaller
 steps-smaller g c =
     let i = c.steps.invariant in
     let same = c.take_turns.ensures.system ∙ i.system in
-    step_fewer _ _ _ _ (subst (λ (y : System). steps_left y c.go_on.new.search < steps_left y c.steps.search) same c.in-Ok-go_on.ensures.fewer) c.take_turns.ensures.follows.more
+    step_fewer _ _ _ _ (subst (λ (y : System). steps_left y c.go_on.new.search < steps_left y c.steps.search) same
+    c.in-Ok-go_on.ensures.fewer) c.take_turns.ensures.follows.more
 
 pub steps-preserved-in-Opens : goal.steps-preserved-in-Opens
 steps-preserved-in-Opens g c =
-    let u = g.S.Space.view c.args.space.now in
-    let v = g.S.Space.view c.steps.space in
-    let w = g.S.Space.view c.take_turns.new.space in
-    let f = c.steps.search in
     let i = c.steps.invariant in
-    let most = c.args.most in
-    let x = c.args.front.now in
-    let m = c.steps.front in
-    let z = c.take_turns.new.front in
     record {
       system = c.take_turns.ensures.system ∙ i.system;
       within = i.within;
-      follows = follows_then u v w f f f most x m z i.system (c.take_turns.ensures.system ∙ i.system) i.follows c.take_turns.ensures.follows;
+      follows = follows_then c.take_turns.ensures.system i.follows c.take_turns.ensures.follows;
       steps = omega (arith, i.steps, c.take_turns.ensures.steps);
     }
 
 pub steps-smaller-in-Opens : goal.steps-smaller-in-Opens
 steps-smaller-in-Opens g c =
     let i = c.steps.invariant in
-    let h = subst (λ (y : System). HaltsAt y (known_of c.steps.search) c.args.most c.steps.front c.take_turns.new.front Opens) i.system (rw c.in-Opens.is at c.in-Ok.ensures.ok) in
+    let h = subst (λ (y : System). HaltsAt y (known_of c.steps.search) c.args.most c.steps.front
+    c.take_turns.new.front Opens) i.system (rw c.in-Opens.is at c.in-Ok.ensures.ok) in
     opened_fewer _ _ _ h.0 h.1

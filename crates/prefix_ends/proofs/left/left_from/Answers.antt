@@ -17,7 +17,8 @@ returns-in-None g c =
     let v = g.S.Space.view c.args.space.now in
     let f = c.args.search.now in
     let s = c.args.state.now in
-    let none = unranked_by v f c.requires.search s c.args.cost c.requires.reached c.args.first c.args.low c.requires.low c.requires.first (rw c.in_default.is at c.rank_from.ensures) in
+    let none = unranked_by v f c.requires.search s c.args.cost c.requires.reached c.args.first c.args.low
+    c.requires.low c.requires.first (rw c.in_default.is at c.rank_from.ensures) in
     nowhere v f c.requires.search s c.args.cost c.requires.reached none (sym c.left_unranked.ensures ∙ c.in-None.is)
 
 pub returns-in-Some-left_unranked : goal.returns-in-Some-left_unranked
@@ -25,8 +26,11 @@ returns-in-Some-left_unranked g c =
     let v = g.S.Space.view c.args.space.now in
     let f = c.args.search.now in
     let s = c.args.state.now in
-    let none = unranked_by v f c.requires.search s c.args.cost c.requires.reached c.args.first c.args.low c.requires.low c.requires.first (rw c.in_default.is at c.rank_from.ensures) in
+    let none = unranked_by v f c.requires.search s c.args.cost c.requires.reached c.args.first c.args.low
+    c.requires.low c.requires.first (rw c.in_default.is at c.rank_from.ensures) in
     let left : Left = record { cost = c.max.result; ranked = false; ring = c.ranks.result } in
     let range : c.args.low < 2 ^ 64 = omega arith in
     let cost : c.max.result ≡ max c.in-Some-left_unranked.left c.args.low = omega arith in
-    known_none v f c.requires.search s c.args.cost c.requires.reached none c.in-Some-left_unranked.left c.args.low c.requires.low range (sym c.left_unranked.ensures ∙ c.in-Some-left_unranked.is) left refl c.ranks.ensures.many cost
+    known_none v f c.requires.search s c.args.cost c.requires.reached none c.in-Some-left_unranked.left c.args.low
+    c.requires.low range (sym c.left_unranked.ensures ∙ c.in-Some-left_unranked.is) left refl
+    c.ranks.ensures.many cost

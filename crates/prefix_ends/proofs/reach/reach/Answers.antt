@@ -16,19 +16,27 @@ left_from-requires-clause-reached g c =
     let f = c.args.search.now in
     let ss = states_of c.args.graph.now in
     let i = c.args.entry.node in
-    let cost = next_cost v f ss c.args.tree.now i c.requires.tree c.requires.entry.inside c.args.step c.requires.step c.args.entry c.requires.entry refl (c.args.entry.cost + c.cost_of.result) (omega (arith, c.cost_of.ensures)) in
-    subst (λ (s : State). ReachedAt v.system (c.args.entry.cost + c.cost_of.result) s) (sym c.state-next.ensures) (next_at v f ss c.args.tree.now i c.requires.tree c.requires.entry.inside c.args.step c.requires.step (c.args.entry.cost + c.cost_of.result) cost)
+    let cost = next_cost v f ss c.args.tree.now i c.requires.tree c.requires.entry.inside c.args.step c.requires.step
+    c.args.entry c.requires.entry refl (c.args.entry.cost + c.cost_of.result)
+    (omega (arith, c.cost_of.ensures)) in
+    subst (λ (s : State). ReachedAt v.system (c.args.entry.cost + c.cost_of.result) s) (sym c.state-next.ensures)
+    (next_at v f ss c.args.tree.now i c.requires.tree c.requires.entry.inside c.args.step c.requires.step
+    (c.args.entry.cost + c.cost_of.result) cost)
 
 pub left_from-requires-clause-low : goal.left_from-requires-clause-low
 left_from-requires-clause-low g c =
     let v = g.S.Space.view c.args.space.now in
     let f = c.args.search.now in
     let ss = states_of c.args.graph.now in
-    let low = ends_longer v f c.args.tree.now c.args.entry c.requires.entry c.args.step.op c.left_after-low.result (omega (arith, c.left_after-low.ensures, c.cost_of.ensures)) in
-    subst (λ (s : State). CostsAtLeast v.system s c.left_after-low.result) (sym c.state-next.ensures) (next_least v f ss c.args.tree.now c.args.entry.node c.requires.tree c.requires.entry.inside c.args.step c.requires.step c.left_after-low.result low)
+    let low = ends_longer v f c.args.tree.now c.args.entry c.requires.entry c.args.step.op c.left_after-low.result
+    (omega (arith, c.left_after-low.ensures, c.cost_of.ensures)) in
+    subst (λ (s : State). CostsAtLeast v.system s c.left_after-low.result) (sym c.state-next.ensures)
+    (next_least v f ss c.args.tree.now c.args.entry.node c.requires.tree c.requires.entry.inside c.args.step
+    c.requires.step c.left_after-low.result low)
 
 pub goal_after-requires-clause-reached : goal.goal_after-requires-clause-reached
-goal_after-requires-clause-reached g c = subst (IsReached (g.S.Space.view c.args.space.now).system) (sym c.state-next.ensures) (c.requires.graph.reached c.args.step.to c.requires.step.within)
+goal_after-requires-clause-reached g c = subst (IsReached (g.S.Space.view c.args.space.now).system)
+    (sym c.state-next.ensures) (c.requires.graph.reached c.args.step.to c.requires.step.within)
 
 pub goal_after-requires-clause-left : goal.goal_after-requires-clause-left
 goal_after-requires-clause-left g c = (rw c.in-Some.is at c.left_from.ensures).least
@@ -39,7 +47,9 @@ returns-in-None g c =
     let f = c.args.search.now in
     let ss = states_of c.args.graph.now in
     let cost = c.args.entry.cost + c.cost_of.result in
-    nowhere_lost v f ss c.args.tree.now c.args.entry.node c.requires.tree c.requires.entry.inside c.args.step c.requires.step (subst (λ (s : State). IsLeft v f (c.args.entry.cost + c.cost_of.result) s None) c.state-next.ensures (rw c.in-None.is at c.left_from.ensures))
+    nowhere_lost v f ss c.args.tree.now c.args.entry.node c.requires.tree c.requires.entry.inside c.args.step
+    c.requires.step (subst (λ (s : State). IsLeft v f (c.args.entry.cost + c.cost_of.result) s None)
+    c.state-next.ensures (rw c.in-None.is at c.left_from.ensures))
 
 pub returns-in_ok-at_goal-in-Some : goal.returns-in_ok-at_goal-in-Some
 returns-in_ok-at_goal-in-Some g c =
@@ -48,11 +58,15 @@ returns-in_ok-at_goal-in-Some g c =
     let ss = states_of c.args.graph.now in
     let i = c.args.entry.node in
     let sum = c.args.entry.cost + c.cost_of.result in
-    let cost = next_cost v f ss c.args.tree.now i c.requires.tree c.requires.entry.inside c.args.step c.requires.step c.args.entry c.requires.entry refl (c.args.entry.cost + c.cost_of.result) (omega (arith, c.cost_of.ensures)) in
-    let left = subst (λ (s : State). IsLeft v f (c.args.entry.cost + c.cost_of.result) s (Some c.in-Some.left)) c.state-next.ensures (rw c.in-Some.is at c.left_from.ensures) in
+    let cost = next_cost v f ss c.args.tree.now i c.requires.tree c.requires.entry.inside c.args.step c.requires.step
+    c.args.entry c.requires.entry refl (c.args.entry.cost + c.cost_of.result)
+    (omega (arith, c.cost_of.ensures)) in
+    let left = subst (λ (s : State). IsLeft v f (c.args.entry.cost + c.cost_of.result) s (Some c.in-Some.left))
+    c.state-next.ensures (rw c.in-Some.is at c.left_from.ensures) in
     let goal = subst (λ (s : State). Decides c.in_ok-at_goal-in-Some.at_goal (IsTrue (v.system.goal s))) c.state-next.ensures c.in_ok-at_goal-in-Some.ensures in
     let small : v.system.cost c.args.step.op < 2 ^ 64 = omega (arith, c.cost_of.ensures) in (
-      longer v f ss c.args.tree.now i c.requires.tree c.requires.entry.inside c.args.step c.requires.step (c.requires.graph.listed c.args.step.to c.requires.step.within)
+      longer v f ss c.args.tree.now i c.requires.tree c.requires.entry.inside c.args.step c.requires.step
+          (c.requires.graph.listed c.args.step.to c.requires.step.within)
           (record { cost = c.args.entry.cost + c.cost_of.result; left = c.in-Some.left; at_goal = c.in_ok-at_goal-in-Some.at_goal }) cost left goal,
       small,
     )

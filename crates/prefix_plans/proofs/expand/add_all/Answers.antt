@@ -9,6 +9,7 @@ use Rattle.prefix_tree.proofs.Paths.{grows_refl, grows_trans}
 use Rattle.prefix_tree.proofs.Going.{op_at, ops_few, ops_many}
 use Rattle.prefix_ends.specs.Children.{Added}
 use Rattle.prefix_ends.proofs.Growing.{entry_like}
+use Rattle.prefix_ends.proofs.Reaching.{lost}
 use Rattle.prefix_plans.specs.Children.{AreChildren}
 use Rattle.prefix_plans.proofs.Growing.{children_none, children_like, children_next, skip_to}
 use Rattle.prefix_plans.proofs.expand.add_all.Goals as goal
@@ -21,7 +22,13 @@ moves-init g c =
     let e = path_at a c.args.entry.node in
     record {
       grows = grows_refl v.system TopK (states_of c.args.graph.now) a c.requires.tree;
-      children = (0, past_none (ops_of c.args.moves.now), omega arith, subst (AreChildren v f a e 0) (sym c.new-children.ensures.items) (children_none v f a e));
+      children = (
+        0,
+        past_none (ops_of c.args.moves.now),
+        omega arith,
+        subst (AreChildren v f a e 0)
+            (sym c.new-children.ensures.items) (children_none v f a e),
+      );
     }
 
 pub add_child-requires-clause-entry : goal.add_child-requires-clause-entry
@@ -35,7 +42,9 @@ add_child-requires-clause-step g c =
     let y = (g.S.Space.view c.args.space.now).system in
     let ss = states_of c.args.graph.now in
     let d : Move = record { op = 0; to = 0 } in
-    subst (λ (s : State). IsMove y ss s (get_or c.args.moves.now c.moves.step-index d)) (sym (ap (state_at ss) (c.moves.invariant.grows.ends c.args.entry.node c.requires.entry.inside))) (c.requires.moves.each c.moves.step-index d c.moves-test.true)
+    subst (λ (s : State). IsMove y ss s (get_or c.args.moves.now c.moves.step-index d))
+    (sym (ap (state_at ss) (c.moves.invariant.grows.ends c.args.entry.node c.requires.entry.inside)))
+    (c.requires.moves.each c.moves.step-index d c.moves-test.true)
 
 pub moves-preserved : goal.moves-preserved
 moves-preserved g c =
@@ -60,11 +69,21 @@ moves-preserved g c =
     let one = c.requires.moves.each c.moves.step-index d c.moves-test.true in
     let known : get_or (ops_of c.args.moves.now) c.moves.step-index 0 < v.system.operators = subst (λ (k : ℕ). k < v.system.operators) is one.leads.number in
     let path = i.grows.paths c.args.entry.node c.requires.entry.inside in
-    let added = subst (λ (k : ℕ). Added v f t e k old new) is (subst (λ (p : List ℕ). Added v f t p (get_or c.args.moves.now c.moves.step-index d).op old new) path c.in_ok-add_child.ensures.added) in
-    let sofar = skip_to v f ss a c.args.entry.node c.requires.tree c.requires.entry.inside moves c.requires.moves b old at i.children.0 op i.children.1 (i.children.1.above at (omega arith) inside) (never_falls ops c.requires.moves.rising at) i.children.3 in
+    let added = subst (λ (k : ℕ). Added v f t e k old new) is
+    (subst (λ (p : List ℕ). Added v f t p (get_or c.args.moves.now c.moves.step-index d).op old new) path
+    c.in_ok-add_child.ensures.added) in
+    let none = lost v f ss a c.args.entry.node c.requires.tree c.requires.entry.inside moves c.requires.moves in
+    let sofar = skip_to v f b e ops none old at i.children.0 op i.children.1
+    (i.children.1.above at (omega arith) inside) (never_falls ops c.requires.moves.rising at) i.children.3 in
     record {
       grows = grows_trans v.system TopK ss a b t i.grows m;
-      children = (op + 1, past_next ops c.requires.moves.rising at inside, omega (arith, known), children_next v f t e op old new (children_like v f b t m.longer m.paths e op old sofar) added);
+      children = (
+        op + 1,
+        past_next ops c.requires.moves.rising at inside,
+        omega (arith, known),
+        children_next v f t e
+            op old new (children_like v f b t m.longer m.paths e op old sofar) added,
+      );
     }
 
 pub returns-clause-children : goal.returns-clause-children
@@ -73,5 +92,9 @@ returns-clause-children g c =
     let ss = states_of c.args.graph.now in
     let i = c.moves.invariant in
     let few = ops_many c.args.moves.now c.moves.step-index c.moves-test.false in
-    skip_to v c.args.search.now ss c.args.tree.now.items c.args.entry.node c.requires.tree c.requires.entry.inside c.args.moves.now c.requires.moves c.moves.tree.items c.moves.children.items c.moves.step-index i.children.0 v.system.operators i.children.1 i.children.2
+    let f = c.args.search.now in
+    let a = c.args.tree.now.items in
+    let none = lost v f ss a c.args.entry.node c.requires.tree c.requires.entry.inside c.args.moves.now c.requires.moves in
+    skip_to v f c.moves.tree.items (path_at a c.args.entry.node) (ops_of c.args.moves.now) none c.moves.children.items
+    c.moves.step-index i.children.0 v.system.operators i.children.1 i.children.2
     (λ j ge lt. absurd (omega (arith, ge, lt, few))) i.children.3

@@ -2,4 +2,6 @@ use Rattle.prefix_ends.proofs.Dearest.{tells_leading}
 use Rattle.prefix_plans.proofs.range.is_left.Goals as goal
 
 pub some_goes_on-left-requires-clause-tells : goal.some_goes_on-left-requires-clause-tells
-some_goes_on-left-requires-clause-tells g c = tells_leading (g.S.Space.view c.args.space.now) (g.S.Space.view c.reach.new.space) c.args.within c.in_ok-leading.leading c.in_ok-leading.ensures.kept.system c.requires.wide c.in_ok-leading.ensures.ok
+some_goes_on-left-requires-clause-tells g c = tells_leading (g.S.Space.view c.args.space.now)
+    (g.S.Space.view c.reach.new.space) c.args.within c.in_ok-leading.leading c.in_ok-leading.ensures.kept.system
+    c.requires.wide c.in_ok-leading.ensures.ok

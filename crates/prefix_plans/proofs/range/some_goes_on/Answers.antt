@@ -1,5 +1,5 @@
 use Rattle.std.proofs.Common.{arith, None}
-use Rattle.prefix_tree.specs.Entries.{entries_of}
+use Rattle.prefix_tree.specs.Entries.{entries_of, prefixes}
 use Rattle.prefix_tree.specs.StateGraph.{states_of}
 use Rattle.prefix_tree.specs.Tree.{path_at}
 use Rattle.space_api.proofs.Trading.{valid_clash}
@@ -12,7 +12,7 @@ use Rattle.prefix_plans.proofs.range.some_goes_on.Goals as goal
 pub entries-init : goal.entries-init
 entries-init g c = record {
   each = λ w f a. a;
-  keeps = keeps_all (g.S.Space.view c.args.space.now).system None c.args.tree.now (entries_of c.args.queue.now) c.requires.right;
+  keeps = keeps_all (g.S.Space.view c.args.space.now).system None (prefixes c.args.tree.now (entries_of c.args.queue.now)) c.requires.right;
   dear = c.requires.dear;
   steps = omega arith;
 }
@@ -81,9 +81,11 @@ entries-preserved g c =
     let new = entries_of c.replace.new.self in
     let perm = replaced_perm es (entries_of c.make_room.new.self) kids new e c.make_room.ensures.same c.in-Some.ensures.at c.replace.ensures.replaces in
     record {
-      each = λ w f a. each_on y ss nodes z old es i.keeps i.dear e c.in-Some.ensures.some c.in-Some.ensures.at off kids new c.new.ensures.items perm (IsEntry w f nodes) (i.each w f a);
+      each = λ w f a. each_on y ss nodes z old es i.keeps i.dear e c.in-Some.ensures.some c.in-Some.ensures.at off
+          kids new c.new.ensures.items perm (IsEntry w f nodes) (i.each w f a);
       keeps = keeps_on y ss nodes z old es i.keeps i.dear e c.in-Some.ensures.some c.in-Some.ensures.at off kids new c.new.ensures.items perm;
-      dear = each_on y ss nodes z old es i.keeps i.dear e c.in-Some.ensures.some c.in-Some.ensures.at off kids new c.new.ensures.items perm (IsDear y nodes) i.dear;
+      dear = each_on y ss nodes z old es i.keeps i.dear e c.in-Some.ensures.some c.in-Some.ensures.at off kids new
+          c.new.ensures.items perm (IsDear y nodes) i.dear;
       steps = omega (arith, i.steps, c.replace.ensures.steps);
     }
 

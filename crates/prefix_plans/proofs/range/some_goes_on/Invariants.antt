@@ -2,7 +2,7 @@ use Rattle.std.proofs.Common.{◌≤◌, length, None}
 use Rattle.std.specs.List.{AllByRecursion}
 use Rattle.space_api.specs.View.{View}
 use Rattle.cost_to_go.specs.declared.search.CostToGo.{CostToGo}
-use Rattle.prefix_tree.specs.Entries.{entries_of}
+use Rattle.prefix_tree.specs.Entries.{entries_of, prefixes}
 use Rattle.prefix_ends.specs.Children.{IsEntry}
 use Rattle.prefix_ends.specs.Leading.{IsDear}
 use Rattle.prefix_plans.specs.Standing.{KeepsPending}
@@ -12,8 +12,10 @@ abbrev pub invariant-entries : goal.invariant-entries
 invariant-entries g l =
     let y = (g.S.Space.view l.space).system in
     record {
-      each : (w : View g.row.S-Set.Denot) (f : CostToGo g.row.S-Set.Denot) → AllByRecursion (IsEntry w f l.tree) (entries_of l.fn.queue) → AllByRecursion (IsEntry w f l.tree) (entries_of l.queue);
-      keeps : KeepsPending y None l.tree l.tree (entries_of l.fn.queue) (entries_of l.queue);
+      each : (w : View g.row.S-Set.Denot) (f : CostToGo g.row.S-Set.Denot)
+          → AllByRecursion (IsEntry w f l.tree) (entries_of l.fn.queue)
+          → AllByRecursion (IsEntry w f l.tree) (entries_of l.queue);
+      keeps : KeepsPending y None (prefixes l.tree (entries_of l.fn.queue)) (prefixes l.tree (entries_of l.queue));
       dear : AllByRecursion (IsDear y l.tree) (entries_of l.queue);
       steps : l.fn.steps ≤ l.steps;
     }

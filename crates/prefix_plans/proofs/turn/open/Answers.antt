@@ -8,23 +8,44 @@ use Rattle.prefix_plans.proofs.turn.open.Goals as goal
 pub returns-clause-ready : goal.returns-clause-ready
 returns-clause-ready g c =
     let v = g.S.Space.view c.args.space.now in
-    let es = entries_of c.args.queue.now in
+    let x = c.args.front.now in
+    let w = c.expand.new.front in
+    let z = c.expand.ensures in
     let kids = c.in_ok-children.children.items in
-    let new = entries_of c.replace.new.self in
-    let perm = replaced_perm es (entries_of c.expand.new.queue) kids new c.args.entry c.expand.ensures.queue c.requires.first c.replace.ensures.replaces in
-    open_ready v c.args.search.now c.args.places.now.graph c.expand.new.places.graph c.args.tree.now.items c.expand.new.tree.items es kids new c.args.entry c.expand.ensures.graph c.expand.ensures.grows c.requires.ready c.requires.some c.requires.first c.requires.ranked c.requires.order c.in_ok-children.ensures.children perm
+    let q = c.replace.new.self in
+    let perm = replaced_perm (entries_of x.queue) (entries_of w.queue) kids (entries_of q) c.args.entry z.queue
+    c.requires.first.first c.replace.ensures.replaces in
+    open_ready v c.args.search.now x w kids q c.args.entry z.graph z.grows c.requires.ready c.requires.first
+    c.requires.ranked c.in_ok-children.ensures.children perm
 
 pub returns-clause-ok : goal.returns-clause-ok
 returns-clause-ok g c =
     let v = g.S.Space.view c.args.space.now in
-    let es = entries_of c.args.queue.now in
+    let x = c.args.front.now in
+    let w = c.expand.new.front in
+    let z = c.expand.ensures in
     let kids = c.in_ok-children.children.items in
-    let new = entries_of c.replace.new.self in
-    let perm = replaced_perm es (entries_of c.expand.new.queue) kids new c.args.entry c.expand.ensures.queue c.requires.first c.replace.ensures.replaces in
-    open_opens v c.args.search.now c.args.places.now.graph c.expand.new.places.graph c.args.tree.now.items c.expand.new.tree.items es kids new c.args.entry c.expand.ensures.graph c.expand.ensures.grows c.requires.ready c.requires.some c.requires.first c.requires.ranked c.requires.order c.in_ok-children.ensures.children perm c.in_ok-plan.plan (rw c.deref.ensures.value at c.in_ok-plan.ensures)
+    let q = c.replace.new.self in
+    let perm = replaced_perm (entries_of x.queue) (entries_of w.queue) kids (entries_of q) c.args.entry z.queue
+    c.requires.first.first c.replace.ensures.replaces in
+    open_opens v c.args.search.now x w kids q c.args.entry z.graph z.grows c.requires.ready c.requires.first
+    c.requires.ranked c.in_ok-children.ensures.children perm
+    c.in_ok-plan.plan (rw c.deref.ensures.value at c.in_ok-plan.ensures)
 
 pub returns-in_err-children-clause-ready : goal.returns-in_err-children-clause-ready
-returns-in_err-children-clause-ready g c = rw c.expand.ensures.queue (ready_grown (g.S.Space.view c.args.space.now) c.args.search.now c.args.places.now.graph c.expand.new.places.graph c.args.tree.now.items c.expand.new.tree.items (entries_of c.args.queue.now) c.expand.ensures.graph c.expand.ensures.grows c.requires.ready)
+returns-in_err-children-clause-ready g c =
+    let x = c.args.front.now in
+    let w = c.expand.new.front in
+    let z = c.expand.ensures in
+    rw z.queue (ready_grown (g.S.Space.view c.args.space.now) c.args.search.now x.graph w.graph x.tree.items
+    w.tree.items (entries_of x.queue) z.graph z.grows c.requires.ready)
 
 pub returns-in_err-children-clause-err : goal.returns-in_err-children-clause-err
-returns-in_err-children-clause-err g c = on_err c.from_residual-in_err-children.result (rw c.expand.ensures.queue (prefixes_like (IsEntry (g.S.Space.view c.args.space.now) c.args.search.now c.args.tree.now.items) c.args.tree.now.items c.expand.new.tree.items (entries_of c.args.queue.now) (λ k w. w.inside) c.expand.ensures.grows.paths c.requires.ready.each))
+returns-in_err-children-clause-err g c =
+    let x = c.args.front.now in
+    let w = c.expand.new.front in
+    let z = c.expand.ensures in
+    let each = IsEntry (g.S.Space.view c.args.space.now) c.args.search.now x.tree.items in
+    on_err c.from_residual-in_err-children.result (rw z.queue
+    (prefixes_like each x.tree.items w.tree.items (entries_of x.queue) (λ k i. i.inside) z.grows.paths
+    c.requires.ready.each))

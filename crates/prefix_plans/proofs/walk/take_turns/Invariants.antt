@@ -1,8 +1,7 @@
 use Rattle.std.proofs.Common.{◌≡◌}
 use Rattle.prefix_tree.specs.Entries.{entries_of}
 use Rattle.prefix_ends.specs.Left.{known_of}
-use Rattle.prefix_ends.specs.Standing.{IsReady}
-use Rattle.prefix_plans.specs.Standing.{KeepsPending, work}
+use Rattle.prefix_plans.specs.Standing.{waiting, Stands, KeepsPending, work}
 use Rattle.prefix_plans.proofs.walk.take_turns.Given as goal
 
 abbrev pub invariant-turns : goal.invariant-turns
@@ -11,9 +10,9 @@ invariant-turns g l =
     let y = (view l.fn.space).system in
     record {
       system : (view l.space).system ≡ y;
-      ready : IsReady (view l.space) l.search l.places.graph l.tree.items (entries_of l.queue);
-      keeps : KeepsPending y l.most l.fn.tree.items l.tree.items (entries_of l.fn.queue) (entries_of l.queue);
+      ready : Stands (view l.space) l.search l.front;
+      keeps : KeepsPending y l.most (waiting l.fn.front) (waiting l.front);
     }
 
 abbrev pub decreases-turns : goal.decreases-turns
-decreases-turns g l = work (known_of l.search) (entries_of l.queue)
+decreases-turns g l = work (known_of l.search) (entries_of l.front.queue)

@@ -1,8 +1,6 @@
 use Rattle.std.proofs.Common.{◌≡◌}
 use Rattle.cost_to_go.specs.Standing.{within_of, steps_left}
-use Rattle.prefix_tree.specs.Entries.{entries_of}
-use Rattle.prefix_ends.specs.Standing.{IsReady}
-use Rattle.prefix_plans.specs.Standing.{KeepsPending}
+use Rattle.prefix_plans.specs.Standing.{waiting, Stands, KeepsPending}
 use Rattle.prefix_plans.proofs.walk.walk.Given as goal
 
 abbrev pub invariant-steps : goal.invariant-steps
@@ -11,9 +9,9 @@ invariant-steps g l =
     let y = (view l.fn.space).system in
     record {
       system : (view l.space).system ≡ y;
-      ready : IsReady (view l.space) l.search l.places.graph l.tree.items (entries_of l.queue);
+      ready : Stands (view l.space) l.search l.front;
       within : l.within ≡ within_of l.search;
-      keeps : KeepsPending y l.most l.fn.tree.items l.tree.items (entries_of l.fn.queue) (entries_of l.queue);
+      keeps : KeepsPending y l.most (waiting l.fn.front) (waiting l.front);
     }
 
 abbrev pub decreases-steps : goal.decreases-steps

@@ -8,7 +8,9 @@ use Rattle.prefix_tree.proofs.tree.passes.Given as goal
 abbrev pub invariant-up : goal.invariant-up
 invariant-up l = record {
   within : l.at < length l.tree;
-  same : (y : System) (m : Mode) (ss : List State) → IsTree y m ss l.tree → AreOnce ss → l.state < length ss → Listed (trace y y.initial (path_at l.tree l.node)) (state_at ss l.state) ↔ Listed (trace y y.initial (path_at l.tree l.at)) (state_at ss l.state);
+  same : (y : System) (m : Mode) (ss : List State) → IsTree y m ss l.tree → AreOnce ss → l.state < length ss
+      → Listed (trace y y.initial (path_at l.tree l.node)) (state_at ss l.state)
+      ↔ Listed (trace y y.initial (path_at l.tree l.at)) (state_at ss l.state);
 }
 
 abbrev pub decreases-up : goal.decreases-up

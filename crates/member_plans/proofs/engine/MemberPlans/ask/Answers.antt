@@ -66,9 +66,11 @@ returns-in-Err-give-clause-answers g c =
     let system = t.kept.system ∙ r.system in
     let follows = follows_tidied w x c.walk.new.search me.most me.front c.walk.new.front t r.follows in
     record {
-      engine = sound_refused v x c.walk.new.search me.within me.most me.front c.walk.new.front system r.within follows c.give.new.front c.give.ensures.steady c.in-Err-give.ensures.err;
+      engine = sound_refused v x c.walk.new.search me.within me.most me.front c.walk.new.front system r.within follows
+          c.give.new.front c.give.ensures.steady c.in-Err-give.ensures.err;
       system = system;
-      law = law_refused v x c.walk.new.search me.within me.most me.front c.walk.new.front system r.within follows c.give.new.front c.give.ensures.steady c.in-Err-give.ensures.err;
+      law = law_refused v x c.walk.new.search me.within me.most me.front c.walk.new.front system r.within follows
+          c.give.new.front c.give.ensures.steady c.in-Err-give.ensures.err;
       last = refl;
       room = tt;
     }
@@ -85,9 +87,11 @@ returns-in-Ok-give-clause-answers g c =
     let follows = follows_tidied w x c.walk.new.search me.most me.front c.walk.new.front t r.follows in
     let few = c.in-Ok-tidy.ensures.ok.few in
     record {
-      engine = rw c.requires.goes_on (sound_gives v x c.walk.new.search me.within me.most me.front c.walk.new.front system r.within follows c.give.new.front c.give.ensures.steady c.in-Ok-give.plan c.in-Ok-give.ensures.ok);
+      engine = rw c.requires.goes_on (sound_gives v x c.walk.new.search me.within me.most me.front c.walk.new.front
+          system r.within follows c.give.new.front c.give.ensures.steady c.in-Ok-give.plan c.in-Ok-give.ensures.ok);
       system = system;
-      law = law_gives v x c.walk.new.search me.within me.most me.front c.walk.new.front system r.within follows c.give.new.front c.give.ensures.steady c.in-Ok-give.plan c.in-Ok-give.ensures.ok;
+      law = law_gives v x c.walk.new.search me.within me.most me.front c.walk.new.front system r.within follows
+          c.give.new.front c.give.ensures.steady c.in-Ok-give.plan c.in-Ok-give.ensures.ok;
       last = c.requires.goes_on;
       room = few;
     }

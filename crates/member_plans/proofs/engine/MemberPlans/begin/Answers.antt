@@ -6,7 +6,11 @@ use Rattle.member_plans.proofs.Asking.{begun_sound, begun_all}
 use Rattle.member_plans.proofs.engine.MemberPlans.begin.Goals as goal
 
 pub first_front-requires : goal.first_front-requires
-first_front-requires g c = record { alone = alone_fresh (g.S.Space.view c.args.space) (g.S.Space.view c.new.new.space) c.in_ok-search.search c.args.within c.requires.alone c.in_ok-search.ensures.within c.in_ok-search.ensures.stands c.in_ok-search.ensures.trades }
+first_front-requires g c = record {
+  alone = alone_fresh (g.S.Space.view c.args.space) (g.S.Space.view c.new.new.space)
+      c.in_ok-search.search c.args.within c.requires.alone c.in_ok-search.ensures.within c.in_ok-search.ensures.stands
+      c.in_ok-search.ensures.trades;
+}
 
 pub returns-clause-lawful : goal.returns-clause-lawful
 returns-clause-lawful g c =
@@ -14,7 +18,9 @@ returns-clause-lawful g c =
     let x = c.in_ok-front.front in
     let e = c.in_ok-front.ensures in
     let same = (kept_made c.in_ok-search.ensures.trades).system in
-    begun_sound v c.in_ok-search.search c.args.within c.args.most x e.ready (subst (Serves x.moves) (sym (same ∙ c.requires.task)) e.serves) e.none e.keys e.first (sym c.in_ok-search.ensures.within)
+    begun_sound v c.in_ok-search.search c.args.within c.args.most x e.ready
+    (subst (Serves x.moves) (sym (same ∙ c.requires.task)) e.serves) e.none e.keys e.first
+    (sym c.in_ok-search.ensures.within)
 
 pub returns-clause-all : goal.returns-clause-all
 returns-clause-all g c =
@@ -22,4 +28,6 @@ returns-clause-all g c =
     let x = c.in_ok-front.front in
     let e = c.in_ok-front.ensures in
     let same = (kept_made c.in_ok-search.ensures.trades).system in
-    begun_all v c.in_ok-search.search c.args.within c.args.most x e.ready (subst (Serves x.moves) (sym (same ∙ c.requires.task)) e.serves) e.none e.keys e.first (g.S.Space.view c.args.space).system same
+    begun_all v c.in_ok-search.search c.args.within c.args.most x e.ready
+    (subst (Serves x.moves) (sym (same ∙ c.requires.task)) e.serves) e.none e.keys e.first
+    (g.S.Space.view c.args.space).system same

@@ -8,7 +8,8 @@ use Rattle.member_plans.proofs.Keeping.{still_stubborn}
 use Rattle.member_plans.proofs.moves.Moves.find_marks.Goals as goal
 
 pub returns-then-has_at-clause-found : goal.returns-then-has_at-clause-found
-returns-then-has_at-clause-found c = subst (λ (xs : List (Option Marked)). IsKept xs c.args.number c.args.state.now) c.deref.ensures.value (c.has_at.ensures c.if-has_at.true)
+returns-then-has_at-clause-found c = subst (λ (xs : List (Option Marked)). IsKept xs c.args.number c.args.state.now)
+    c.deref.ensures.value (c.has_at.ensures c.if-has_at.true)
 
 pub returns-clause-serves : goal.returns-clause-serves
 returns-clause-serves c = λ y z.

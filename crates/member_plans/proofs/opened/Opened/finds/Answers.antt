@@ -14,6 +14,7 @@ returns-in-Some-get-clause-joined c y ss z =
     let look = c.in-Some-get.ensures.lookup in
     let within : c.in-Some.number < length c.deref.result.now = below c.in-Some.number (length c.deref.result.now) look.0 in
     let less : c.in-Some.number < length places = subst (λ (l : List ℕ). c.in-Some.number < length l) c.deref.ensures.value within in
-    let is : get_or places c.in-Some.number place ≡ place = sym (subst (λ (l : List ℕ). place ≡ get_or l c.in-Some.number place) c.deref.ensures.value look.1) in
+    let is : get_or places c.in-Some.number place ≡ place = sym
+    (subst (λ (l : List ℕ). place ≡ get_or l c.in-Some.number place) c.deref.ensures.value look.1) in
     if_weaker (λ found. IsTrue found → Joins y me (path_at nodes place)) (λ found. IsTrue found → IsJoined y (opened_of nodes places) me) c.do_join.result
     (λ found h on. (path_at nodes place, place_listed nodes places c.in-Some.number place place less is, h on)) (c.do_join.ensures y ss z)

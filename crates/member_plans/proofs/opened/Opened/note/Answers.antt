@@ -8,5 +8,7 @@ returns-clause-ok c =
     let key = c.in_ok-key.key in (
       key.items,
       c.in_ok-key.ensures,
-      noted_insert _ c.args.self.now.plans.keys c.insert.new.self.keys key (present_told _ key.items (λ k. bytes_eq-Decides key.items k.items) c.args.self.now.plans.keys) c.in_ok-insert.ensures.keys,
+      noted_insert _ c.args.self.now.plans.keys c.insert.new.self.keys key
+          (present_told _ key.items (λ k. bytes_eq-Decides key.items k.items) c.args.self.now.plans.keys)
+          c.in_ok-insert.ensures.keys,
     )

@@ -1,4 +1,4 @@
-use Rattle.std.proofs.Common.{◌≡◌, false, List, [], ◌∷◌, ◌++◌, None, refl, sym, ◌∙◌, ap, subst, IsTrue}
+use Rattle.std.proofs.Common.{◌≡◌, false, List, [], ◌∷◌, ◌++◌, refl, sym, ◌∙◌, ap, subst, IsTrue}
 use Rattle.std.specs.Bool.{Decides}
 use Rattle.std.specs.List.Sorted.{IsPermutation}
 use Rattle.task_system.specs.System.{State}
@@ -6,11 +6,9 @@ use Rattle.space_api.proofs.Trading.{kept_made}
 use Rattle.prefix_tree.specs.Entries.{entries_of, prefixes}
 use Rattle.prefix_tree.specs.declared.tree.Node.{Node}
 use Rattle.prefix_tree.specs.declared.entry.Entry.{Entry}
-use Rattle.symk_task.specs.declared.parts.Mode.TheVariants.{TopK}
 use Rattle.prefix_ends.proofs.First.{ready_first, prefixes_first}
 use Rattle.prefix_ends.proofs.Moving.{alone_fresh}
-use Rattle.prefix_laws.specs.Owing.{Owes}
-use Rattle.prefix_plans.specs.Sound.{IsSound}
+use Rattle.prefix_ends.specs.Standing.{IsReady}
 use Rattle.prefix_plans.proofs.First.{begun, begun_all}
 use Rattle.prefix_plans.proofs.engine.PrefixPlans.begin.Goals as goal
 
@@ -23,7 +21,8 @@ returns-clause-lawful g c =
     let v = view c.new.new.space in
     let b = c.in_ok-search.search in
     let inner = c.args.within in
-    let alone = alone_fresh (view c.args.space) v b inner c.requires.alone c.in_ok-search.ensures.within c.in_ok-search.ensures.stands c.in_ok-search.ensures.trades in
+    let alone = alone_fresh (view c.args.space) v b inner c.requires.alone c.in_ok-search.ensures.within
+    c.in_ok-search.ensures.stands c.in_ok-search.ensures.trades in
     let n : Node = record { parent = 0; op = 0; state = c.in_ok-start.start } in
     let e : Entry = record { bound = record { 0 = 0 }; cost = 0; ring = record { 0 = 0 }; node = 0; settled = false; at_goal = c.in_ok-at_goal.at_goal } in
     let es = entries_of c.push-2.new.self in
@@ -34,7 +33,9 @@ returns-clause-lawful g c =
     let goal = subst (λ (s : State). Decides c.in_ok-at_goal.at_goal (IsTrue (v.system.goal s))) (c.state.ensures ∙ is) c.in_ok-at_goal.ensures in
     let ready = ready_first v b m n e es alone c.number_of_start.ensures.graph c.in_ok-start.ensures.within is put refl refl refl refl refl goal in
     let first = prefixes_first v b m n e es alone c.number_of_start.ensures.graph c.in_ok-start.ensures.within is put refl refl refl refl refl goal in
-    subst (λ (l : List Node). IsSound v b inner m l c.args.most es None None) (sym tree) (begun v (n ∷ []) es first b inner m (sym c.in_ok-search.ensures.within) ready c.args.most)
+    begun v b inner c.args.most _ (sym c.in_ok-search.ensures.within)
+    (subst (λ (l : List Node). IsReady v b m l es) (sym tree) ready)
+    (subst (λ (l : List Node). prefixes l es ≡ [] ∷ []) (sym tree) first)
 
 pub returns-clause-all : goal.returns-clause-all
 returns-clause-all g c p i =
@@ -42,7 +43,8 @@ returns-clause-all g c p i =
     let v = view c.new.new.space in
     let b = c.in_ok-search.search in
     let inner = c.args.within in
-    let alone = alone_fresh (view c.args.space) v b inner c.requires.alone c.in_ok-search.ensures.within c.in_ok-search.ensures.stands c.in_ok-search.ensures.trades in
+    let alone = alone_fresh (view c.args.space) v b inner c.requires.alone c.in_ok-search.ensures.within
+    c.in_ok-search.ensures.stands c.in_ok-search.ensures.trades in
     let n : Node = record { parent = 0; op = 0; state = c.in_ok-start.start } in
     let e : Entry = record { bound = record { 0 = 0 }; cost = 0; ring = record { 0 = 0 }; node = 0; settled = false; at_goal = c.in_ok-at_goal.at_goal } in
     let es = entries_of c.push-2.new.self in
@@ -52,7 +54,9 @@ returns-clause-all g c p i =
     let is = c.in_ok-start.ensures.is in
     let goal = subst (λ (s : State). Decides c.in_ok-at_goal.at_goal (IsTrue (v.system.goal s))) (c.state.ensures ∙ is) c.in_ok-at_goal.ensures in
     let first = prefixes_first v b m n e es alone c.number_of_start.ensures.graph c.in_ok-start.ensures.within is put refl refl refl refl refl goal in
-    subst (λ (l : List Node). Owes v.system TopK (prefixes l es) None p) (sym tree) (begun_all v (n ∷ []) es first (view c.args.space).system (kept_made c.in_ok-search.ensures.trades).system p i)
+    let same = (kept_made c.in_ok-search.ensures.trades).system in
+    begun_all v.system (view c.args.space).system (prefixes c.push.new.self.items es)
+    (subst (λ (l : List Node). prefixes l es ≡ [] ∷ []) (sym tree) first) same p i
 
 pub goal_at-requires : goal.goal_at-requires
 goal_at-requires g c = ([], sym (c.state.ensures ∙ c.in_ok-start.ensures.is))

@@ -8,9 +8,15 @@ pub returns-in-None-clause-replaces : goal.returns-in-None-clause-replaces
 returns-in-None-clause-replaces g c e first =
     let old = heap_items c.args.self.now.heap in
     let kids = c.args.others.items in
-    let none : length c.args.others.items ≡ 0 = omega (arith, c.in-None.ensures.none, length_permutation kids (heap_items c.from-others.result) c.from-others.ensures.1) in
+    let none : length c.args.others.items ≡ 0 = omega (
+      arith,
+      c.in-None.ensures.none,
+      length_permutation kids
+          (heap_items c.from-others.result) c.from-others.ensures.1,
+    ) in
     let p = c.pop-in-None.ensures in
-    replaced_alone old kids (heap_items c.pop-in-None.new.self) c.pop-in-None.result e c.requires.some none first (p.variant.1 (omega (arith, c.requires.some))) p.top p.permutation
+    replaced_alone old kids (heap_items c.pop-in-None.new.self) c.pop-in-None.result e c.requires.some none first
+    (p.variant.1 (omega (arith, c.requires.some))) p.top p.permutation
 
 pub returns-clause-replaces : goal.returns-clause-replaces
 returns-clause-replaces g c e first =
@@ -18,6 +24,14 @@ returns-clause-replaces g c e first =
     let all = heap_items c.from-others.result in
     let more = heap_items c.pop.new.self in
     let put = heap_items c.put_first.new.heap in
-    let room : heap_len c.put_first.new.heap + heap_len c.pop.new.self ≤ heap_capacity c.put_first.new.heap = omega (arith, c.requires.room, c.in-Some.ensures.len, c.put_first.ensures.len, c.put_first.ensures.capacity) in
-    replaced_first old c.args.others.items all more put (heap_items c.append.new.self) c.in-Some.next e c.requires.some first c.from-others.ensures.1 c.in-Some.ensures.permutation c.put_first.ensures.items
+    let room : heap_len c.put_first.new.heap + heap_len c.pop.new.self ≤ heap_capacity c.put_first.new.heap =
+    omega (
+      arith,
+      c.requires.room,
+      c.in-Some.ensures.len,
+      c.put_first.ensures.len,
+      c.put_first.ensures.capacity,
+    ) in
+    replaced_first old c.args.others.items all more put (heap_items c.append.new.self) c.in-Some.next e
+    c.requires.some first c.from-others.ensures.1 c.in-Some.ensures.permutation c.put_first.ensures.items
     (on_ok c.append.result c.append.ensures.permutation (c.append.ensures.succeeds room))

@@ -107,9 +107,9 @@ costed_more task pends after cheapest dearest total count plan fits c gave =
     }
 
 -- the same costs
-pub costed_as : (task : TaskParts) (pends : List ℕ → Type 0) (cheapest dearest total cheapest' dearest' total' count : ℕ) → cheapest ≡ cheapest' → dearest ≡ dearest' → total ≡ total'
+pub costed_as : {task : TaskParts} {pends : List ℕ → Type 0} {cheapest dearest total cheapest' dearest' total' count : ℕ} → cheapest ≡ cheapest' → dearest ≡ dearest' → total ≡ total'
     → Costed task pends cheapest dearest total count → Costed task pends cheapest' dearest' total' count
-costed_as task pends cheapest dearest total cheapest' dearest' total' count a b d c = record {
+costed_as {task = task} a b d c = record {
   plans = c.plans;
   given = c.given;
   number = c.number;

@@ -87,16 +87,8 @@ module _ (task : TaskParts) (mode : Mode) (wanted : Wanted) (limit : Option ℕ)
       → Ends status.Reached (end_line (end.Reached (length earlier.plans + wanted.count))) mid new result → Puts (OrPart here) old new result
   reached_ends mid new count result l least e no_more ends =
       let n : length earlier.plans + wanted.count ≡ length earlier.plans + count = omega (arith, e) in
-      list_ends here (Joined task mode limit earlier.plans pends) count (end.Reached (length earlier.plans + wanted.count)) old mid new result (some_listed mid count l least e)
+      list_ends here (end.Reached (length earlier.plans + wanted.count)) new result (some_listed mid count l least e)
       (λ plans h. list_reached task mode limit (earlier.plans ++ plans) (length earlier.plans + wanted.count) h.promise) (n, e, no_more) ends
-
-  -- there is another
-  pub more_ends : (after : List ℕ → Type 0) (plan : List ℕ) (mid new : SinkView) (count : ℕ) (result : Status) → So mid count → 1 ≤ wanted.count → count ≡ wanted.count → wanted.more ≡ true
-      → Gave (system_of task) mode limit pends after plan → Ends status.MoreLeft (end_line (end.More (length earlier.plans + wanted.count))) mid new result → Puts (OrPart here) old new result
-  more_ends after plan mid new count result l least e more gave ends =
-      let n : length earlier.plans + wanted.count ≡ length earlier.plans + count = omega (arith, e) in
-      list_ends here (Joined task mode limit earlier.plans pends) count (end.More (length earlier.plans + wanted.count)) old mid new result (some_listed mid count l least e)
-      (λ plans h. list_goes_on task mode limit pends after (earlier.plans ++ plans) plan (length earlier.plans + wanted.count) fits h gave) (n, e, more) ends
 
   -- no plan is left
   pub none_ends : (mid new : SinkView) (count : ℕ) (result : Status) → So mid count → count < asked wanted → NoneLeft (system_of task) limit pends
@@ -104,7 +96,7 @@ module _ (task : TaskParts) (mode : Mode) (wanted : Wanted) (limit : Option ℕ)
   none_ends mid new count result l lt none ends =
       let why = all_end limit (length earlier.plans + count) in
       let whole = listed_as here (Owed task mode limit earlier pends) (Joined task mode limit earlier.plans pends) old mid count (joined_end task mode earlier fits pends limit none) l in
-      list_ends here (Joined task mode limit earlier.plans pends) count why old mid new result whole
+      list_ends here why new result whole
       (λ plans h. list_exhausted task mode limit pends (earlier.plans ++ plans) (length earlier.plans + count) fits h none) (fewer limit wanted (length earlier.plans) count lt) ends
 
   -- only plans that 64 bits don't hold the cost of are left
@@ -112,16 +104,24 @@ module _ (task : TaskParts) (mode : Mode) (wanted : Wanted) (limit : Option ℕ)
       → Ends status.CostRange (end_line end.CostRange) mid new result → Puts (OrPart here) old new result
   range_ends mid new count result l lt stops ends =
       let whole = listed_as here (Owed task mode limit earlier pends) (Joined task mode limit earlier.plans pends) old mid count (joined_range task mode earlier fits pends limit stops) l in
-      list_ends here (Joined task mode limit earlier.plans pends) count end.CostRange old mid new result whole
+      list_ends here end.CostRange new result whole
       (λ plans h. list_in_range task mode limit pends (earlier.plans ++ plans) fits h stops) lt ends
 
   module _ (after : List ℕ → Type 0) (plan : List ℕ) (gave : Gave (system_of task) mode limit pends after plan) where
+    -- there is another
+    pub more_ends : (mid new : SinkView) (count : ℕ) (result : Status) → So mid count → 1 ≤ wanted.count → count ≡ wanted.count → wanted.more ≡ true
+        → Ends status.MoreLeft (end_line (end.More (length earlier.plans + wanted.count))) mid new result → Puts (OrPart here) old new result
+    more_ends mid new count result l least e more ends =
+        let n : length earlier.plans + wanted.count ≡ length earlier.plans + count = omega (arith, e) in
+        list_ends here (end.More (length earlier.plans + wanted.count)) new result (some_listed mid count l least e)
+        (λ plans h. list_goes_on task mode limit pends after (earlier.plans ++ plans) plan (length earlier.plans + wanted.count) fits h gave) (n, e, more) ends
+
     -- the earlier list misses the plan
     pub gave_gap : {E : Type 0} (made : Result Bytes E) (mid new : SinkView) (count cost : ℕ) (result : Status) → So mid count → cost ≡ cost_of task plan → cost < earlier.dearest
         → IfOk made (λ text. text ≡ gap_text cost) → MatchResult made (λ text. Ends status.Gap text mid new result) (λ _. (result ≡ status.Memory) × (new ≡ mid)) → Puts (OrPart here) old new result
     gave_gap made mid new count cost result l e lt is ends =
         let below : cost_of task plan < earlier.dearest = omega (arith, e, lt) in
-        gap_ends here (Owed task mode limit earlier pends) count cost made old mid new result l
+        gap_ends here cost made new result l
         (λ plans h. (let m = misses task mode limit earlier fits pends after plan gave below plans h in (m.0, subst (λ (n : ℕ). Misses task mode earlier.plans n) (sym e) m.1))) is ends
 
     module _ (le : earlier.dearest ≤ cost_of task plan) where
@@ -141,5 +141,4 @@ module _ (task : TaskParts) (mode : Mode) (wanted : Wanted) (limit : Option ℕ)
       pub given_breaks : (then new : SinkView) (count : ℕ) (result : Status) → (result ≡ status.WriteFault) ⊎ (result ≡ status.Memory) → So then count → count < wanted.count
           → TookFront (block task (next_number here count) plan) then new → Puts (OrPart here) old new result
       given_breaks then new count result why l lt put =
-          block_stops here (Joined task mode limit earlier.plans pends) (Joined task mode limit earlier.plans after) old then new count plan result
-          (λ plans h. h.promise) why (λ plans h. (further plans h).given) (joined then count l) lt put
+          block_stops here (Joined task mode limit earlier.plans after) new plan result (λ plans h. h.promise) why (λ plans h. (further plans h).given) (joined then count l) lt put

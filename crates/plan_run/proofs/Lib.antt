@@ -1,6 +1,7 @@
 pub mod Given
 pub mod Going
 pub mod Serving
+pub mod Owing
 mod Listed
 mod Members
 pub mod Ended

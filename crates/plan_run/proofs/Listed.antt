@@ -86,10 +86,10 @@ listed_stops a Holds old new count result promises why l le =
     (all_of (list_pieces a l.plans), l.took, stopped_is_part a result _ why (inr part))
 
 -- a part of one more block went out
-pub block_stops : (a : Aim) (Holds After : List (List ℕ) → Type 0) (old then new : SinkView) (count : ℕ) (plan : List ℕ) (result : Status) → Promises a After None
-    → (result ≡ status.WriteFault) ⊎ (result ≡ status.Memory) → ((plans : List (List ℕ)) → Holds plans → After (plans ++ plan ∷ [])) → Listed a Holds old then count → count < a.wanted.count
-    → TookFront (block a.task (next_number a count) plan) then new → Puts (OrPart a) old new result
-block_stops a Holds After old then new count plan result promises why more l lt put =
+pub block_stops : (a : Aim) {Holds : List (List ℕ) → Type 0} (After : List (List ℕ) → Type 0) {old then : SinkView} (new : SinkView) {count : ℕ} (plan : List ℕ) (result : Status)
+    → Promises a After None → (result ≡ status.WriteFault) ⊎ (result ≡ status.Memory) → ((plans : List (List ℕ)) → Holds plans → After (plans ++ plan ∷ []))
+    → Listed a Holds old then count → count < a.wanted.count → TookFront (block a.task (next_number a count) plan) then new → Puts (OrPart a) old new result
+block_stops a After {old = old} {then = then} new {count = count} plan result promises why more l lt put =
     let text = block a.task (next_number a count) plan in
     let p = took_front text then new put in
     let plans = l.plans ++ (plan ∷ []) in
@@ -119,10 +119,10 @@ whole_lists a (end.Bounded n) pieces l = (inl l, refl)
 whole_lists a (end.Exhausted n) pieces l = (inl l, refl)
 whole_lists a end.CostRange pieces l = (inl l, refl)
 
-ending_stops : (a : Aim) (Holds : List (List ℕ) → Type 0) (count : ℕ) (why : End) (old mid new : SinkView) (result : Status)
+ending_stops : (a : Aim) {Holds : List (List ℕ) → Type 0} {count : ℕ} (why : End) {old mid : SinkView} (new : SinkView) (result : Status)
     → (result ≡ status.WriteFault) ⊎ (result ≡ status.Memory) → Listed a Holds old mid count → Promises a Holds (Some why) → IsEndOf a.wanted (length a.earlier) count why
     → TookFront (end_line why) mid new → Puts (OrPart a) old new result
-ending_stops a Holds count why old mid new result stop l promises fits took =
+ending_stops a {Holds = Holds} {count = count} why {old = old} {mid = mid} new result stop l promises fits took =
     let whole = list_pieces a l.plans ++ (end_line why ∷ []) in
     let p = took_front (end_line why) mid new took in
     let out : Sent = record { pieces = list_pieces a l.plans ++ []; rest = take p.0 (end_line why) } in
@@ -131,17 +131,17 @@ ending_stops a Holds count why old mid new result stop l promises fits took =
     (out, took_after (list_pieces a l.plans) _ old mid new l.took p.1, stopped_is_part a result out stop (inl (inr (end_status why, whole, inl listing, front))))
 
 -- the line that ends the list
-pub list_ends : (a : Aim) (Holds : List (List ℕ) → Type 0) (count : ℕ) (why : End) (old mid new : SinkView) (result : Status)
+pub list_ends : (a : Aim) {Holds : List (List ℕ) → Type 0} {count : ℕ} (why : End) {old mid : SinkView} (new : SinkView) (result : Status)
     → Listed a Holds old mid count → Promises a Holds (Some why) → IsEndOf a.wanted (length a.earlier) count why → Ends (end_status why) (end_line why) mid new result
     → Puts (OrPart a) old new result
-list_ends a Holds count why old mid new result l promises fits (inl h) = (
+list_ends a {Holds = Holds} {count = count} why {old = old} {mid = mid} new result l promises fits (inl h) = (
   all_of (list_pieces a l.plans ++ (end_line why ∷ [])),
   took_after (list_pieces a l.plans) _ old mid new l.took (took_piece (end_line why) mid new h.1),
   subst (λ s. OrPart a s (all_of (list_pieces a l.plans ++ (end_line why ∷ [])))) (sym h.0)
       (whole_lists a why _ (listing_of a Holds count why old mid l promises fits)),
 )
-list_ends a Holds count why old mid new result l promises fits (inr (inl h)) = ending_stops a Holds count why old mid new result (inl h.0) l promises fits h.1
-list_ends a Holds count why old mid new result l promises fits (inr (inr h)) = ending_stops a Holds count why old mid new result (inr h.0) l promises fits h.1
+list_ends a why new result l promises fits (inr (inl h)) = ending_stops a why new result (inl h.0) l promises fits h.1
+list_ends a why new result l promises fits (inr (inr h)) = ending_stops a why new result (inr h.0) l promises fits h.1
 
 -- what the earlier list misses
 gap_of : (a : Aim) (cost : ℕ) → Misses a.task a.mode a.earlier cost → MayCome a status.Gap (gap_text cost ∷ [])
@@ -165,13 +165,13 @@ puts_on : (a : Aim) (old mid new : SinkView) (result : Status) → Took nothing 
 puts_on a old mid new result none p = (p.0, took_after [] p.0 old mid new none p.1, p.2)
 
 -- the line that says so, if there was memory for it
-pub gap_ends : {E : Type 0} (a : Aim) (Holds : List (List ℕ) → Type 0) (count cost : ℕ) (made : Result Bytes E) (old mid new : SinkView) (result : Status)
+pub gap_ends : {E : Type 0} (a : Aim) {Holds : List (List ℕ) → Type 0} {count : ℕ} (cost : ℕ) (made : Result Bytes E) {old mid : SinkView} (new : SinkView) (result : Status)
     → Listed a Holds old mid count → ((plans : List (List ℕ)) → Holds plans → (plans ≡ []) × Misses a.task a.mode a.earlier cost)
     → IfOk made (λ text. text ≡ gap_text cost) → MatchResult made (λ text. Ends status.Gap text mid new result) (λ _. (result ≡ status.Memory) × (new ≡ mid)) → Puts (OrPart a) old new result
-gap_ends a Holds count cost (Ok text) old mid new result l misses is ends =
+gap_ends a cost (Ok text) {old = old} {mid = mid} new result l misses is ends =
     let m = misses l.plans l.holds in
     puts_on a old mid new result (took_none a l.plans old mid m.0 l.took) (gap_puts a cost mid new result m.1 (subst (λ (t : Bytes). Ends status.Gap t mid new result) is ends))
-gap_ends a Holds count cost (Err e) old mid new result l misses is ends =
+gap_ends a cost (Err e) {old = old} new result l misses is ends =
     let m = misses l.plans l.holds in
     let stayed : Took (all_of (list_pieces a l.plans)) old new = subst (λ (v : SinkView). Took (all_of (list_pieces a l.plans)) old v) (sym ends.1) l.took in
     none_stops a l.plans old new result m.0 (inr ends.0) stayed

@@ -114,16 +114,15 @@ module _ {I : Type 0} (system : I → System) (mode : I → Mode) (most : I → 
       }
 
 -- An engine that gives what another lacks.
-module _ {I J : Type 0} (system : I → System) (mode : I → Mode) (most : I → Option ℕ) (pends : I → List ℕ → Type 0) (lawful : I → Type 0)
-    (system' : J → System) (mode' : J → Mode) (most' : J → Option ℕ) (pends' : J → List ℕ → Type 0) (lawful' : J → Type 0) where
+module _ {I J : Type 0} {system : I → System} {mode : I → Mode} {most : I → Option ℕ} {pends : I → List ℕ → Type 0} {lawful : I → Type 0}
+    {system' : J → System} {mode' : J → Mode} {most' : J → Option ℕ} {pends' : J → List ℕ → Type 0} {lawful' : J → Type 0} where
   -- where the engine below owes all, it owes the rest of the list that it goes on from
-  pub rest_owed : (task : TaskParts) (wanted : Mode) (limit : Option ℕ) (earlier : List (List ℕ)) (below : I) (a : J) → OwesAll system mode most pends lawful task wanted limit below → lawful' a → system' a ≡ system below
-      → mode' a ≡ wanted → most' a ≡ most below → (((p : List ℕ) → IsPlanOf (system below) wanted p → pends below p) → Rest (system below) wanted earlier (pends' a)) → OwesRest system' mode' most' pends' lawful' task (mode' a) limit earlier a
-  rest_owed task wanted limit earlier below a owes ok same in_mode limited rest =
+  pub rest_owed : {task : TaskParts} {wanted : Mode} {limit : Option ℕ} (earlier : List (List ℕ)) {below : I} (a : J) → OwesAll system mode most pends lawful task wanted limit below → lawful' a → system' a ≡ system below
+      → mode' a ≡ wanted → most' a ≡ most below → (((p : List ℕ) → IsPlanOf (system below) wanted p → pends below p) → Rest (system below) wanted earlier (pends' a)) → OwesRest system' mode' most' pends' lawful' task wanted limit earlier a
+  rest_owed {wanted = wanted} earlier {below = below} a owes ok same in_mode limited rest =
       let of_task = owes.serves.of_task in
       let all : (p : List ℕ) → IsPlanOf (system below) wanted p → pends below p = λ p plan. owes.all p (subst (λ (y : System). IsPlanOf y wanted p) of_task plan) in
-      let there = subst (λ (y : System). Rest y wanted earlier (pends' a)) of_task (rest all) in
       record {
-        serves = record { holds = ok; of_task = same ∙ of_task; in_mode = refl; limited = limited ∙ owes.serves.limited };
-        rest = subst (λ (m : Mode). Rest (system_of task) m earlier (pends' a)) (sym in_mode) there;
+        serves = record { holds = ok; of_task = same ∙ of_task; in_mode = in_mode; limited = limited ∙ owes.serves.limited };
+        rest = subst (λ (y : System). Rest y wanted earlier (pends' a)) of_task (rest all);
       }

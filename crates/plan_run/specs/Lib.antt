@@ -4,5 +4,6 @@ pub mod Missed
 pub mod Lists
 pub mod Reaches
 pub mod Engines
+pub mod Jobs
 pub mod Choosing
 pub mod Costs

@@ -1,17 +1,16 @@
 //! Plans, listed one by one.
 
-ghost use Rattle.std.specs.Prelude.{◌≡◌, ◌≤◌, ◌<◌, ◌^◌, ◌⊎◌, ◌↔◌, IfSome, IfOk, IfErr, IsTrue, OnOk, OnErr};
+ghost use Rattle.std.specs.Prelude.{◌≡◌, ◌⊎◌, ◌↔◌, IfOk, IfErr, IsTrue, OnOk, OnErr};
 ghost use Rattle.symk_task.specs.Plans.{IsUnit, cost_of};
 ghost use Rattle.plan_out.specs.Texts.{block as block_text, end_line as end_text};
 ghost use Rattle.run_status.specs.Ends.{Ends, HasCauses, Puts};
-ghost use Rattle.plan_run.specs.Earlier.{IsEarlier};
 ghost use Rattle.plan_run.specs.Engines.{OwesRest};
+ghost use Rattle.plan_run.specs.Jobs.{IsLawfulJob, aim_of};
 ghost use Rattle.run_status.specs.Sent.{TookPiece, TookFront};
 ghost use Rattle.plan_run.specs.Listable.{IsListable};
-ghost use Rattle.plan_run.specs.Lists.{OrPart, aim_after, all_end, end_status, gap_text};
+ghost use Rattle.plan_run.specs.Lists.{OrPart, all_end, end_status, gap_text};
 
-use crate::earlier::Earlier;
-use crate::options::Wanted;
+use crate::job::Job;
 use plan_out::{End, block_with_cost, end_line};
 use run_status::{Status, end, end_with, status_of};
 use selectors::{LazyPlans, Limited, Stop};
@@ -20,8 +19,7 @@ use symk_io::{Sink, put};
 use symk_task::{Memory, Plan, Task};
 use symk_text::{Text, push_bytes, push_number};
 
-/// Lists as many plans as are wanted of an engine that owes the rest of an earlier list, up to a greatest cost where
-/// there is one: each block is put before the next plan is asked for, and then the line that says why the list ends.
+/// Lists the plans of the job, of an engine that owes the rest of its earlier list: each block is put before the next plan is asked for, and then the line that says why the list ends.
 /// After the last plan that is wanted nothing is asked for but the one that is looked for where that is wanted too;
 /// it is not put.
 ///
@@ -29,23 +27,23 @@ use symk_text::{Text, push_bytes, push_number};
 /// cheapest.
 pub fn list_plans<I: LazyPlans + Drop, K: Sink>(
     alloc: Global,
-    task: &Task,
-    wanted: Wanted,
-    limit: Option<u64>,
-    earlier: &Earlier,
+    job: Job<'_>,
     engine: I,
     sink: &mut K,
 ) -> Status
     requires owes { OwesRest I.system I.mode I.most I.pends I.lawful
-        task.now (I.mode engine) limit earlier.now.plans engine }
-    requires least { 1 ≤ wanted.count }
-    requires count { wanted.count ≤ 1000000000 }
-    requires limit { IfSome limit (λ most. most < 2 ^ 64) }
-    requires earlier { IsEarlier task.now (I.mode engine) limit earlier.now }
-    ensures lists { Puts (OrPart (aim_after task.now (I.mode engine) wanted limit earlier.now.plans))
-        (K.view sink.old) (K.view sink.new) result }
+        job.task.now job.mode job.limit job.earlier.now.plans engine }
+    requires lawful { IsLawfulJob job }
+    ensures lists { Puts (OrPart (aim_of job.entry)) (K.view sink.old) (K.view sink.new) result }
     ensures causes { HasCauses result 0 0 (K.view sink.old).faults (K.view sink.new).faults }
 {
+    let Job {
+        task,
+        wanted,
+        limit,
+        earlier,
+        ..
+    } = job;
     // A task fits.
     let _ = task.parts();
     let unit = task.unit();

@@ -10,6 +10,7 @@ ghost use Rattle.plan_run.specs.Reaches.{OrReached, HasLeast, IsNear, share};
 use crate::beginning::{prefix_plans, top_plans};
 use crate::earlier::Earlier;
 use crate::engines::list_found;
+use crate::job::Job;
 use crate::options::{Reach, Search, Wanted};
 use crate::planning::end_list;
 use crate::width::costs_are_wide;
@@ -80,7 +81,15 @@ fn list_first<K: Sink>(
     ensures causes { HasCauses result 0 0 (K.view sink.old).faults (K.view sink.new).faults }
 {
     let earlier = Earlier::none(alloc);
-    list_found(alloc, task, mode, search, wanted, limit, &earlier, sink)
+    let job = Job {
+        task,
+        mode,
+        search,
+        wanted,
+        limit,
+        earlier: &earlier,
+    };
+    list_found(alloc, job, sink)
 }
 
 /// So many percent of a cost, the whole part, or the greatest cost, if that is less.

@@ -263,11 +263,14 @@ module _ (rose : Type 0) where
   continues_answered told ask task blocks old new result f p g =
       record { F = Some f.0; P = Some p.0; texts = (f.1, p.1); out = g.0; taken = g.1; answer = going_answers ask f.0 p.0 task blocks f.2 p.2 result g.0 g.2 }
 
-  verdict_whole : (file plans : Bytes) (mode : Mode) (F P : Bytes) (task : TaskParts) (blocks : List ReadBlock) → IsTaskText F task → IsPlansText P blocks → (result : Status) (pieces : List Bytes) → AsOne (Verdict task mode blocks) result pieces → Whole rose (Some (checks file plans mode)) (Some F) (Some P) result pieces
-  verdict_whole file plans mode F P task blocks t p status.Good pieces v = (v.0, v.1, (task, t, (blocks, p, v.2)))
-  verdict_whole file plans mode F P task blocks t p status.BadList pieces v = (v.0, v.1, (task, t, (blocks, p, v.2)))
-  verdict_whole file plans mode F P task blocks t p result pieces v = absurd (verdict_is task mode blocks result v.0 v.2)
+  verdict_whole : (file plans : Bytes) (mode : Mode) {F P : Bytes} (task : TaskParts) (blocks : List ReadBlock) → IsTaskText F task → IsPlansText P blocks
+      → (result : Status) (pieces : List Bytes) → AsOne (Verdict task mode blocks) result pieces → Whole rose (Some (checks file plans mode)) (Some F) (Some P) result pieces
+  verdict_whole file plans mode task blocks t p status.Good pieces v = (v.0, v.1, (task, t, (blocks, p, v.2)))
+  verdict_whole file plans mode task blocks t p status.BadList pieces v = (v.0, v.1, (task, t, (blocks, p, v.2)))
+  verdict_whole file plans mode task blocks t p result pieces v = absurd (verdict_is task mode blocks result v.0 v.2)
 
-  pub checks_answered : (told : Option Told) (file plans : Bytes) (mode : Mode) (task : TaskParts) (blocks : List ReadBlock) (old new : SinkView) (result : Status) → HasText told file (λ F. IsTaskText F task) → HasText told plans (λ P. IsPlansText P blocks) → Puts (OrFront (Verdict task mode blocks)) old new result → Answered rose (Some (checks file plans mode)) told old new result
-  checks_answered told file plans mode task blocks old new result f p v =
-      front_answered (Some (checks file plans mode)) told (Some f.0) (Some p.0) (Verdict task mode blocks) old new result (verdict_whole file plans mode f.0 p.0 task blocks f.2 p.2) (f.1, p.1) v
+  pub checks_answered : (told : Option Told) (file plans : Bytes) (mode : Mode) (task : TaskParts) (blocks : List ReadBlock) {old new : SinkView} {result : Status}
+      → HasText told file (λ F. IsTaskText F task) → HasText told plans (λ P. IsPlansText P blocks) → Puts (OrFront (Verdict task mode blocks)) old new result → Answered rose (Some (checks file plans mode)) told old new result
+  checks_answered told file plans mode task blocks {old = old} {new = new} {result = result} f p v =
+      front_answered (Some (checks file plans mode)) told (Some f.0) (Some p.0) (Verdict task mode blocks) old new result
+      (verdict_whole file plans mode task blocks f.2 p.2) (f.1, p.1) v

@@ -102,9 +102,10 @@ module _ (rose : Type 0) where
   verdict_whole file cert F C task t short status.Offending pieces v = (v.0, v.1, inr (task, t, (short, v.2)))
   verdict_whole file cert F C task t short result pieces v = absurd v.2
 
-  pub refutes_answered : (told : Option Told) (file cert : Bytes) (task : TaskParts) (C : Bytes) (old new : SinkView) (result : Status) → HasText told file (λ F. IsTaskText F task) → IsToldText told cert C → length C ≤ most_bytes
+  pub refutes_answered : (told : Option Told) (file cert : Bytes) (task : TaskParts) (C : Bytes) {old new : SinkView} {result : Status} → HasText told file (λ F. IsTaskText F task) → IsToldText told cert C
+      → length C ≤ most_bytes
       → Puts (OrFront (Refutes task C)) old new result → Answered rose (Some (refutes file cert)) told old new result
-  refutes_answered told file cert task C old new result f known short p =
+  refutes_answered told file cert task C {old = old} {new = new} {result = result} f known short p =
       front_answered rose (Some (refutes file cert)) told (Some f.0) (Some C) (Refutes task C) old new result (verdict_whole file cert f.0 C task f.2 short) (f.1, known) p
 
   pub proved_settles : (asked : Option Wish) (told : Option Told) (old new : SinkView) (result : Status) → Answered rose asked told old new result → result ≡ status.Proved → IsSettled asked told

@@ -113,9 +113,9 @@ gathered_more some plans dearest b small g = record {
 }
 
 -- one block more of the list
-pub gathered_next : (blocks : List ReadBlock) (at : ℕ) (b : ReadBlock) (plans more : List (List ℕ)) (dearest : ℕ) (ops : List ℕ) → at < length blocks → get_or blocks at b ≡ b → b.cost < 2 ^ 64 → ops ≡ b.ops
-    → more ≡ plans ++ ops ∷ [] → IsGathered (take at blocks) plans dearest → IsGathered (take (at + 1) blocks) more b.cost
-gathered_next blocks at b plans more dearest ops lt is small copy grown g =
+pub gathered_next : (blocks : List ReadBlock) (at : ℕ) (b : ReadBlock) {plans more : List (List ℕ)} {dearest : ℕ} {ops : List ℕ} → at < length blocks
+    → get_or blocks at b ≡ b → b.cost < 2 ^ 64 → ops ≡ b.ops → more ≡ plans ++ ops ∷ [] → IsGathered (take at blocks) plans dearest → IsGathered (take (at + 1) blocks) more b.cost
+gathered_next blocks at b {plans = plans} {more = more} {dearest = dearest} lt is small copy grown g =
     let whole : take (at + 1) blocks ≡ take at blocks ++ b ∷ [] = take_more blocks at b lt ∙ ap (λ (c : ReadBlock). take at blocks ++ c ∷ []) is in
     let all : more ≡ plans ++ b.ops ∷ [] = grown ∙ ap (λ (o : List ℕ). plans ++ o ∷ []) copy in
     let there = gathered_more (take at blocks) plans dearest b small g in

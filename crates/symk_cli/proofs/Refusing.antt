@@ -70,14 +70,16 @@ module _ (rose : Type 0) where
   plans_refused_too told name old new result h = let p = h.2 in (h.0, h.1, (p.0, p.1, or_fronts (TextRefused rose named.Plans h.0) (PlansRefused rose h.0) (text_is_plans h.0) result p.0 p.2))
 
   -- a line that offends
-  pub file_offends : {E : Type 0} (told : Option Told) (name F : Bytes) (line : ℕ) (wanted : Shape) (made : Result Bytes E) (old mid new : SinkView) (result : Status) → mid ≡ old → IsToldText told name F → length F ≤ most_bytes → RefusedAt (lines F) (read.Offence line wanted) → IfOk made (λ text. text ≡ offence_text line wanted)
+  pub file_offends : {E : Type 0} (told : Option Told) (name F : Bytes) (line : ℕ) (wanted : Shape) {old mid new : SinkView} (made : Result Bytes E) (result : Status)
+      → mid ≡ old → IsToldText told name F → length F ≤ most_bytes → RefusedAt (lines F) (read.Offence line wanted) → IfOk made (λ text. text ≡ offence_text line wanted)
       → MatchResult made (λ text. Ends status.Offending text mid new result) (λ _. (result ≡ status.Memory) × (new ≡ mid)) → HasRead told name (λ read. Puts (OrFront (FileRefused rose read)) old new result)
-  file_offends told name F line wanted made old mid new result same text short refused is ends =
+  file_offends told name F line wanted {mid = mid} {new = new} made result same text short refused is ends =
       let p = text_puts (FileRefused rose (Some F)) status.Offending made (offence_text line wanted) mid new result is (record { short = short; line = line; wanted = wanted; offends = refused; text = refl }) ends in
       (Some F, text, subst (λ (v : SinkView). Puts (OrFront (FileRefused rose (Some F))) v new result) same p)
 
-  pub plans_offend : {E : Type 0} (told : Option Told) (name P : Bytes) (line : ℕ) (made : Result Bytes E) (old mid new : SinkView) (result : Status) → mid ≡ old → IsToldText told name P → length P ≤ most_bytes → PlansRefusedAt (lines P) (plans.Offence line) → IfOk made (λ text. text ≡ plans_offence_text line)
+  pub plans_offend : {E : Type 0} (told : Option Told) (name P : Bytes) (line : ℕ) {old mid new : SinkView} (made : Result Bytes E) (result : Status)
+      → mid ≡ old → IsToldText told name P → length P ≤ most_bytes → PlansRefusedAt (lines P) (plans.Offence line) → IfOk made (λ text. text ≡ plans_offence_text line)
       → MatchResult made (λ text. Ends status.Offending text mid new result) (λ _. (result ≡ status.Memory) × (new ≡ mid)) → HasRead told name (λ read. Puts (OrFront (PlansRefused rose read)) old new result)
-  plans_offend told name P line made old mid new result same text short refused is ends =
+  plans_offend told name P line {mid = mid} {new = new} made result same text short refused is ends =
       let p = text_puts (PlansRefused rose (Some P)) status.Offending made (plans_offence_text line) mid new result is (record { short = short; line = line; offends = refused; text = refl }) ends in
       (Some P, text, subst (λ (v : SinkView). Puts (OrFront (PlansRefused rose (Some P))) v new result) same p)

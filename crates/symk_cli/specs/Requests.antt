@@ -1,24 +1,33 @@
 -- What a request is for.
 use Rattle.std.specs.Prelude.{◌≤◌, ⊤}
 use Rattle.plan_run.specs.Reaches.{IsNear}
-use Rattle.symk_cli.specs.Wishes.{Wish, lists, continues, checks, shows, proves, refutes}
+use Rattle.symk_cli.specs.Wishes.{Ask, Further, Wish, lists, continues, checks, shows, proves, refutes}
 use Rattle.symk_cli.specs.declared.request.Request.{Request}
-use Rattle.symk_cli.specs.declared.request.Request.TheVariants.{Plan, Further, Check, Demo, Prove, Refute}
+use Rattle.symk_cli.specs.declared.request.Request.TheVariants as request
+use Rattle.symk_cli.specs.declared.request.ListRequest.{ListRequest}
+use Rattle.symk_cli.specs.declared.request.FurtherRequest.{FurtherRequest}
+
+-- what a list is asked to be, and one that goes on
+abbrev pub list_asked : ListRequest → Ask
+list_asked r = record { file = r.file.now; wanted = r.wanted; mode = r.mode; search = r.search; reach = r.reach }
+
+abbrev pub further_asked : FurtherRequest → Further
+further_asked r = record { file = r.file.now; plans = r.plans.now; wanted = r.wanted; mode = r.mode; search = r.search }
 
 -- what it asks for
 abbrev pub wished : Request → Wish
-wished (Plan file wanted mode search reach) = lists (record { file = file.now; wanted = wanted; mode = mode; search = search; reach = reach })
-wished (Further file plans wanted mode search) = continues (record { file = file.now; plans = plans.now; wanted = wanted; mode = mode; search = search })
-wished (Check file plans mode) = checks file.now plans.now mode
-wished (Demo switches) = shows switches
-wished (Prove file) = proves file.now
-wished (Refute file cert) = refutes file.now cert.now
+wished (request.Plan list) = lists (list_asked list)
+wished (request.Further list) = continues (further_asked list)
+wished (request.Check file plans mode) = checks file.now plans.now mode
+wished (request.Demo switches) = shows switches
+wished (request.Prove file) = proves file.now
+wished (request.Refute file cert) = refutes file.now cert.now
 
 -- 1 to 1,000,000,000 plans are asked for, or 1 to 64 switches
 abbrev pub IsWithin : Request → Type 0
-IsWithin (Plan file wanted mode search reach) = (1 ≤ wanted.count) × (wanted.count ≤ 1000000000) × IsNear reach
-IsWithin (Further file plans wanted mode search) = (1 ≤ wanted.count) × (wanted.count ≤ 1000000000)
-IsWithin (Check file plans mode) = ⊤
-IsWithin (Demo switches) = (1 ≤ switches) × (switches ≤ 64)
-IsWithin (Prove file) = ⊤
-IsWithin (Refute file cert) = ⊤
+IsWithin (request.Plan list) = (1 ≤ list.wanted.count) × (list.wanted.count ≤ 1000000000) × IsNear list.reach
+IsWithin (request.Further list) = (1 ≤ list.wanted.count) × (list.wanted.count ≤ 1000000000)
+IsWithin (request.Check file plans mode) = ⊤
+IsWithin (request.Demo switches) = (1 ≤ switches) × (switches ≤ 64)
+IsWithin (request.Prove file) = ⊤
+IsWithin (request.Refute file cert) = ⊤

@@ -7,7 +7,7 @@ ghost use Rattle.symk_cli.specs.Goes.{OrGoesOn, last_stated};
 
 use crate::checking::bad_text;
 use plan_out::{Blocks, Checked, check_list};
-use plan_run::{Earlier, Search, Wanted, list_found};
+use plan_run::{Earlier, Job, Search, Wanted, list_found};
 use run_status::{Status, end_with};
 use std::alloc::Global;
 use symk_io::Sink;
@@ -34,7 +34,17 @@ pub fn go_on<K: Sink>(
     let _ = task.parts();
     match check_list(alloc, task, mode, blocks) {
         Ok(Checked::Good { .. }) => match earlier_of(alloc, blocks) {
-            Ok(earlier) => list_found(alloc, task, mode, search, wanted, None, &earlier, sink),
+            Ok(earlier) => {
+                let job = Job {
+                    task,
+                    mode,
+                    search,
+                    wanted,
+                    limit: None,
+                    earlier: &earlier,
+                };
+                list_found(alloc, job, sink)
+            }
             Err(_) => Status::Memory,
         },
         Ok(Checked::Bad { plan, why }) => {

@@ -4,7 +4,7 @@ ghost use Rattle.std.specs.Prelude.{◌≡◌, ◌≤◌, IfSome, option_map};
 ghost use Rattle.symk_words.specs.Texts.{view_of};
 ghost use Rattle.plan_run.specs.Reaches.{IsNear};
 ghost use Rattle.symk_cli.specs.Wishes.{number_within, mode_named, mode_of, direction_named, direction_of, reach_of, serves, lists_after, spelled};
-ghost use Rattle.symk_cli.specs.Requests.{wished, IsWithin};
+ghost use Rattle.symk_cli.specs.Requests.{list_asked, wished, IsWithin};
 
 use plan_run::{Direction, Reach, Search, Wanted};
 use symk_task::Mode;
@@ -14,23 +14,31 @@ use symk_words::Asked;
 /// The greatest number of plans that a list is asked for.
 const MOST_PLANS: u64 = 1_000_000_000;
 
+/// What a list is asked to be: so many plans of the task of a file in a mode, searched for so, up to a cost.
+#[derive(Clone, Copy, Debug, PartialEq, Eq)]
+pub struct ListRequest<'a> {
+    pub file: &'a str,
+    pub wanted: Wanted,
+    pub mode: Mode,
+    pub search: Search,
+    pub reach: Reach,
+}
+
+/// What a list is asked to be that goes on from that in a file of plans.
+#[derive(Clone, Copy, Debug, PartialEq, Eq)]
+pub struct FurtherRequest<'a> {
+    pub file: &'a str,
+    pub plans: &'a str,
+    pub wanted: Wanted,
+    pub mode: Mode,
+    pub search: Search,
+}
+
 /// A lawful request.
 #[derive(Clone, Copy, Debug, PartialEq, Eq)]
 pub enum Request<'a> {
-    Plan {
-        file: &'a str,
-        wanted: Wanted,
-        mode: Mode,
-        search: Search,
-        reach: Reach,
-    },
-    Further {
-        file: &'a str,
-        plans: &'a str,
-        wanted: Wanted,
-        mode: Mode,
-        search: Search,
-    },
+    Plan(ListRequest<'a>),
+    Further(FurtherRequest<'a>),
     Check {
         file: &'a str,
         plans: &'a str,
@@ -70,15 +78,14 @@ pub fn request_of<'a>(asked: &Asked<'a>) -> Option<Request<'a>>
             let direction = direction_of(search)?;
             let reach = reach_of(bound, quality)?;
             if is_served(mode, direction) {
-                let wanted = Wanted { count, more };
-                list_request(
+                let list = ListRequest {
                     file,
-                    after,
-                    wanted,
+                    wanted: Wanted { count, more },
                     mode,
-                    Search { direction, mutex },
+                    search: Search { direction, mutex },
                     reach,
-                )
+                };
+                list_request(list, after)
             } else {
                 None
             }
@@ -97,36 +104,23 @@ pub fn request_of<'a>(asked: &Asked<'a>) -> Option<Request<'a>>
 }
 
 /// A list, or one that goes on from that in a file that is named; it has no greatest cost then.
-fn list_request<'a>(
-    file: &'a str,
-    after: Option<&'a str>,
-    wanted: Wanted,
-    mode: Mode,
-    search: Search,
-    reach: Reach,
-) -> Option<Request<'a>>
-    requires least { 1 ≤ wanted.count }
-    requires most { wanted.count ≤ 1000000000 }
-    requires near { IsNear reach }
-    ensures wish { option_map wished result ≡ lists_after (option_map (λ s. s.now) after.entry)
-        (record { file = file.now; wanted = wanted; mode = mode; search = search; reach = reach }) }
+fn list_request<'a>(list: ListRequest<'a>, after: Option<&'a str>) -> Option<Request<'a>>
+    requires least { 1 ≤ list.wanted.count }
+    requires most { list.wanted.count ≤ 1000000000 }
+    requires near { IsNear list.reach }
+    ensures wish { option_map wished result
+        ≡ lists_after (option_map (λ s. s.now) after.entry) (list_asked list.entry) }
     ensures within { IfSome result IsWithin }
 {
-    match (after, reach) {
-        (None, _) => Some(Request::Plan {
-            file,
-            wanted,
-            mode,
-            search,
-            reach,
-        }),
-        (Some(plans), Reach::All) => Some(Request::Further {
-            file,
+    match (after, list.reach) {
+        (None, _) => Some(Request::Plan(list)),
+        (Some(plans), Reach::All) => Some(Request::Further(FurtherRequest {
+            file: list.file,
             plans,
-            wanted,
-            mode,
-            search,
-        }),
+            wanted: list.wanted,
+            mode: list.mode,
+            search: list.search,
+        })),
         (Some(_), _) => None,
     }
 }

@@ -6,7 +6,7 @@ ghost use Rattle.symk_io.specs.NoFault.{files_view, sink_view};
 ghost use Rattle.run_status.specs.Ends.{HasCauses};
 ghost use Rattle.plan_run.specs.Reaches.{IsNear};
 ghost use Rattle.symk_cli.specs.Wishes.{wish_of, files_of, lists, continues, checks, proves, refutes};
-ghost use Rattle.symk_cli.specs.Requests.{wished, IsWithin};
+ghost use Rattle.symk_cli.specs.Requests.{further_asked, list_asked, wished, IsWithin};
 ghost use Rattle.symk_cli.specs.LawfulWords.{AreLawful};
 ghost use Rattle.symk_cli.specs.Answer.{Answered, usage_text};
 ghost use Rattle.symk_cli.specs.Opens.{Opens};
@@ -18,8 +18,8 @@ use crate::checking::judge;
 use crate::continuing::go_on;
 use crate::demo::show;
 use crate::reading::{Named, plans_of, task_of, text_of};
-use crate::request::{Request, request_of};
-use plan_run::{Reach, Search, Wanted, list_reached};
+use crate::request::{FurtherRequest, ListRequest, Request, request_of};
+use plan_run::list_reached;
 use run_status::{Status, end};
 use std::alloc::Global;
 use symk_io::{Files, NoFaultFiles, NoFaultSink, Sink};
@@ -143,20 +143,8 @@ fn serve<F: Files, K: Sink>(
         (F.view files.new).told (K.view sink.old).taken (K.view sink.new).taken result }
 {
     match request {
-        Request::Plan {
-            file,
-            wanted,
-            mode,
-            search,
-            reach,
-        } => plan(alloc, files, sink, file, mode, search, wanted, reach),
-        Request::Further {
-            file,
-            plans,
-            wanted,
-            mode,
-            search,
-        } => further(alloc, files, sink, file, plans, mode, search, wanted),
+        Request::Plan(list) => plan(alloc, files, sink, list),
+        Request::Further(list) => further(alloc, files, sink, list),
         Request::Check { file, plans, mode } => check(alloc, files, sink, file, plans, mode),
         Request::Demo { switches } => show(alloc, switches, sink),
         Request::Prove { file } => prove(alloc, files, sink, file),
@@ -169,26 +157,29 @@ fn plan<F: Files, K: Sink>(
     alloc: Global,
     files: &mut F,
     sink: &mut K,
-    file: &str,
-    mode: Mode,
-    search: Search,
-    wanted: Wanted,
-    reach: Reach,
+    list: ListRequest<'_>,
 ) -> Status
-    requires least { 1 ≤ wanted.count }
-    requires count { wanted.count ≤ 1000000000 }
-    requires near { IsNear reach }
+    requires least { 1 ≤ list.wanted.count }
+    requires count { list.wanted.count ≤ 1000000000 }
+    requires near { IsNear list.reach }
     ensures answer { Answered (Rose (F.view files.old).faults (F.view files.new).faults)
-        (Some
-        (lists (record { file = file.now; wanted = wanted; mode = mode; search = search; reach = reach })))
-        (F.view files.old).told (K.view sink.old) (K.view sink.new) result }
+        (Some (lists (list_asked list.entry))) (F.view files.old).told
+        (K.view sink.old) (K.view sink.new) result }
     ensures causes { HasCauses result (F.view files.old).faults (F.view files.new).faults
         (K.view sink.old).faults (K.view sink.new).faults }
-    ensures opened { Opens ((Named.File, file.now) ∷ []) (F.view files.old).told (F.view files.new).told
-        (K.view sink.old).taken (K.view sink.new).taken result }
+    ensures opened { Opens ((Named.File, list.entry.file.now) ∷ []) (F.view files.old).told
+        (F.view files.new).told (K.view sink.old).taken (K.view sink.new).taken result }
 {
-    match task_of(alloc, files, sink, file) {
-        Ok(task) => list_reached(alloc, &task, mode, search, wanted, reach, sink),
+    match task_of(alloc, files, sink, list.file) {
+        Ok(task) => list_reached(
+            alloc,
+            &task,
+            list.mode,
+            list.search,
+            list.wanted,
+            list.reach,
+            sink,
+        ),
         Err(status) => status,
     }
 }
@@ -198,34 +189,33 @@ fn further<F: Files, K: Sink>(
     alloc: Global,
     files: &mut F,
     sink: &mut K,
-    file: &str,
-    plans: &str,
-    mode: Mode,
-    search: Search,
-    wanted: Wanted,
+    list: FurtherRequest<'_>,
 ) -> Status
-    requires least { 1 ≤ wanted.count }
-    requires count { wanted.count ≤ 1000000000 }
+    requires least { 1 ≤ list.wanted.count }
+    requires count { list.wanted.count ≤ 1000000000 }
     ensures answer { Answered (Rose (F.view files.old).faults (F.view files.new).faults)
-        (Some
-        (continues (record {
-          file = file.now;
-          plans = plans.now;
-          wanted = wanted;
-          mode = mode;
-          search = search;
-        }))) (F.view files.old).told (K.view sink.old) (K.view sink.new) result }
+        (Some (continues (further_asked list.entry))) (F.view files.old).told
+        (K.view sink.old) (K.view sink.new) result }
     ensures causes { HasCauses result (F.view files.old).faults (F.view files.new).faults
         (K.view sink.old).faults (K.view sink.new).faults }
-    ensures opened { Opens ((Named.File, file.now) ∷ (Named.Plans, plans.now) ∷ []) (F.view files.old).told
-        (F.view files.new).told (K.view sink.old).taken (K.view sink.new).taken result }
+    ensures opened { Opens ((Named.File, list.entry.file.now) ∷ (Named.Plans, list.entry.plans.now) ∷ [])
+        (F.view files.old).told (F.view files.new).told (K.view sink.old).taken
+        (K.view sink.new).taken result }
 {
-    let task = match task_of(alloc, files, sink, file) {
+    let task = match task_of(alloc, files, sink, list.file) {
         Ok(task) => task,
         Err(status) => return status,
     };
-    match plans_of(alloc, files, sink, plans) {
-        Ok(blocks) => go_on(alloc, &task, mode, search, wanted, &blocks, sink),
+    match plans_of(alloc, files, sink, list.plans) {
+        Ok(blocks) => go_on(
+            alloc,
+            &task,
+            list.mode,
+            list.search,
+            list.wanted,
+            &blocks,
+            sink,
+        ),
         Err(status) => status,
     }
 }

@@ -68,6 +68,6 @@ plans-preserved g c =
     let more = costed_more c.args.task.now (e.pends c.plans.plans.inner) after costs.cheapest costs.dearest costs.total c.plans._number c.in-Some-Ok.plan c.parts.ensures.fits c.plans.invariant.costed gave in
     record {
       stands = stands_more e.system e.mode e.most e.pends e.lawful e.last c.args.task.now TopK None 20 c.plans._number c.plans.plans c.next.new.self c.in-Some-Ok.field-0 c.in-Some-Ok.plan c.in-Some-Ok.field-0-is c.plans.invariant.stands within c.in-Some-Ok.ensures.steps;
-      costed = costed_as c.args.task.now after _ _ _ _ _ _ _ (sym (c.with-costs.ensures.cheapest ∙ ap (λ n. min costs.cheapest n) c.plan_cost.ensures))
+      costed = costed_as (sym (c.with-costs.ensures.cheapest ∙ ap (λ n. min costs.cheapest n) c.plan_cost.ensures))
           (sym (c.with-costs.ensures.dearest ∙ ap (λ n. max costs.dearest n) c.plan_cost.ensures)) (sym (c.with-costs.ensures.total ∙ ap (λ n. costs.total + n) c.plan_cost.ensures)) more;
     }

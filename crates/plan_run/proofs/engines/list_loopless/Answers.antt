@@ -1,7 +1,10 @@
-use Rattle.symk_task.specs.declared.parts.Mode.TheVariants.{Loopless}
-use Rattle.plan_run.specs.Lists.{aim_after}
+use Rattle.plan_run.specs.Jobs.{aim_of}
 use Rattle.plan_run.proofs.Listed.{memory_lists}
+use Rattle.plan_run.proofs.Owing.{owes_as}
 use Rattle.plan_run.proofs.engines.list_loopless.Goals as goal
 
 pub returns-in-Err-clause-lists : goal.returns-in-Err-clause-lists
-returns-in-Err-clause-lists g c = memory_lists (aim_after c.args.task.now Loopless c.args.wanted c.args.limit c.args.earlier.now.plans) (g.K.Sink.view c.args.sink.now)
+returns-in-Err-clause-lists g c = memory_lists (aim_of c.args.job) (g.K.Sink.view c.args.sink.now)
+
+pub list_rest-requires-clause-owes : goal.list_rest-requires-clause-owes
+list_rest-requires-clause-owes g c = owes_as c.requires.mode c.in-Ok.ensures

@@ -1,6 +1,6 @@
 use Rattle.std.proofs.Common.{◌≡◌}
 use Rattle.plan_run.specs.Lists.{asked}
-use Rattle.plan_run.specs.Lists.{aim_after}
+use Rattle.plan_run.specs.Jobs.{aim_of}
 use Rattle.plan_run.proofs.Going.{Owed}
 use Rattle.plan_run.proofs.Listed.{Listed}
 use Rattle.plan_run.proofs.Serving.{Stands}
@@ -11,9 +11,11 @@ abbrev pub invariant-plans : goal.invariant-plans
 invariant-plans g l =
     let view = g.K.Sink.view in
     let engine = g.I.LazyPlans in
-    let mode = engine.mode l.fn.engine in
+    let job = l.fn.job in
+    let task = job.task.now in
+    let earlier = job.earlier.now in
     record {
-      stands : Stands engine.system engine.mode engine.most engine.pends engine.lawful engine.last l.task mode l.fn.limit (asked l.fn.wanted) l.number l.plans;
-      listed : Listed (aim_after l.task mode l.fn.wanted l.fn.limit l.earlier.plans) (Owed l.task mode l.fn.limit l.earlier (engine.pends l.plans.inner)) (view l.fn.sink) (view l.sink) l.number;
+      stands : Stands engine.system engine.mode engine.most engine.pends engine.lawful engine.last task job.mode job.limit (asked job.wanted) l.number l.plans;
+      listed : Listed (aim_of job) (Owed task job.mode job.limit earlier (engine.pends l.plans.inner)) (view l.fn.sink) (view l.sink) l.number;
       quiet : (view l.sink).faults ≡ (view l.fn.sink).faults;
     }

@@ -6,9 +6,14 @@ use Rattle.plan_run.specs.Lists.{OrPart, aim_after}
 use Rattle.plan_run.proofs.Going.{none_earlier}
 use Rattle.plan_run.proofs.reaching.list_first.Goals as goal
 
-pub list_found-requires-clause-earlier : goal.list_found-requires-clause-earlier
-list_found-requires-clause-earlier g c =
-    subst (λ (e : Earlier). IsEarlier c.args.task.now c.args.mode c.args.limit e) (sym c.none-earlier.ensures) (none_earlier c.args.task.now c.args.mode c.args.limit)
+pub list_found-requires : goal.list_found-requires
+list_found-requires g c =
+    record {
+      least = c.requires.least;
+      count = c.requires.count;
+      limit = c.requires.limit;
+      earlier = subst (λ (e : Earlier). IsEarlier c.args.task.now c.args.mode c.args.limit e) (sym c.none-earlier.ensures) (none_earlier c.args.task.now c.args.mode c.args.limit);
+    }
 
 pub returns-clause-lists : goal.returns-clause-lists
 returns-clause-lists g c =

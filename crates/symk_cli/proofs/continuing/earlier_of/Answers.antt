@@ -11,6 +11,6 @@ each-preserved c =
     let within = rw c.as_slice-block-items.ensures at c.each-test.true in
     let is = rw c.as_slice-block-items.ensures at c.block-item.is in
     let small : block.cost < 2 ^ 64 = omega arith in
-    let m = gathered_next blocks at block c.each.plans.items c.push.new.self.items c.each.dearest c.in_ok-copy.field-0 within (sym is) small c.in_ok-copy.ensures c.in_ok-push.ensures.items
+    let m = gathered_next blocks at block within (sym is) small c.in_ok-copy.ensures c.in_ok-push.ensures.items
     (record { gathered = i.gathered; last = i.last; cheap = i.cheap; held = i.held }) in
     record { gathered = m.gathered; last = m.last; cheap = m.cheap; held = m.held }

@@ -7,10 +7,16 @@ use Rattle.run_status.proofs.Puts.{text_puts}
 use Rattle.symk_cli.proofs.Continued.{earlier_is, list_goes, bad_goes, memory_goes}
 use Rattle.symk_cli.proofs.continuing.go_on.Goals as goal
 
-pub list_found-requires-clause-earlier : goal.list_found-requires-clause-earlier
-list_found-requires-clause-earlier g c =
+pub list_found-requires : goal.list_found-requires
+list_found-requires g c =
     let made = c.in-Ok.ensures in
-    earlier_is c.args.task.now c.args.mode c.args.blocks.now.list c.in-Ok.earlier _ c.parts.ensures.fits (rw c.in-Ok-Good.field-0-is at c.in-Ok-Good.ensures) made.plans made.dearest made.few made.cheap made.held
+    record {
+      least = c.requires.least;
+      count = c.requires.count;
+      limit = tt;
+      earlier = earlier_is c.args.task.now c.args.mode c.args.blocks.now.list c.in-Ok.earlier _ c.parts.ensures.fits
+          (rw c.in-Ok-Good.field-0-is at c.in-Ok-Good.ensures) made.plans made.dearest made.few made.cheap made.held;
+    }
 
 pub returns-in-Ok-clause-goes : goal.returns-in-Ok-clause-goes
 returns-in-Ok-clause-goes g c =

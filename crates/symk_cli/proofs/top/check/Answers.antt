@@ -21,7 +21,7 @@ returns-clause-answer g c =
     let mid = g.K.Sink.view c.task_of.new.sink in
     let new = g.K.Sink.view c.plans_of.new.sink in
     plans_refused _ told c.args.file.now c.args.plans.now c.args.mode c.in-Ok.task old new _ c.in-Ok.ensures.task
-    (refused_before PlansRefused told (g.F.Files.view c.task_of.new.files).told c.args.file.now c.args.plans.now _ _ _ old mid new c.in-Err-plans_of.status c.in-Ok.ensures.opened c.in-Ok.ensures.quiet.0 c.in-Ok.ensures.untouched c.in-Err-plans_of.ensures.refused)
+    (refused_before PlansRefused told (g.F.Files.view c.task_of.new.files).told c.args.file.now c.args.plans.now _ new c.in-Err-plans_of.status c.in-Ok.ensures.opened c.in-Ok.ensures.quiet.0 c.in-Ok.ensures.untouched c.in-Err-plans_of.ensures.refused)
 
 pub returns-clause-opened : goal.returns-clause-opened
 returns-clause-opened g c =
@@ -32,7 +32,7 @@ pub returns-in-Ok-plans_of-clause-answer : goal.returns-in-Ok-plans_of-clause-an
 returns-in-Ok-plans_of-clause-answer g c =
     let told = (g.F.Files.view c.args.files.now).told in
     let blocks = c.in-Ok-plans_of.blocks.list in
-    checks_answered _ told c.args.file.now c.args.plans.now c.args.mode c.in-Ok.task blocks _ _ _ c.in-Ok.ensures.task
+    checks_answered _ told c.args.file.now c.args.plans.now c.args.mode c.in-Ok.task blocks c.in-Ok.ensures.task
     (text_of_before (λ P. IsPlansText P blocks) c.args.file.now c.args.plans.now told (g.F.Files.view c.task_of.new.files).told c.in-Ok.ensures.opened c.in-Ok-plans_of.ensures.blocks)
     (puts_after (OrFront (Verdict c.in-Ok.task c.args.mode blocks)) (g.K.Sink.view c.args.sink.now) (g.K.Sink.view c.plans_of.new.sink) (g.K.Sink.view c.judge.new.sink) _ (c.in-Ok-plans_of.ensures.untouched ∙ c.in-Ok.ensures.untouched) c.judge.ensures.verdict)
 

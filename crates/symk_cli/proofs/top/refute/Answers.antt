@@ -21,7 +21,7 @@ returns-clause-answer g c =
     let mid = g.K.Sink.view c.task_of.new.sink in
     let new = g.K.Sink.view c.text_of.new.sink in
     cert_refused _ told c.args.file.now c.args.cert.now c.in-Ok.task old new _ c.in-Ok.ensures.task
-    (refused_before (λ rose. TextRefused rose Cert) told (g.F.Files.view c.task_of.new.files).told c.args.file.now c.args.cert.now _ _ _ old mid new c.in-Err-text_of.status c.in-Ok.ensures.opened c.in-Ok.ensures.quiet.0 c.in-Ok.ensures.untouched c.in-Err-text_of.ensures.refused)
+    (refused_before (λ rose. TextRefused rose Cert) told (g.F.Files.view c.task_of.new.files).told c.args.file.now c.args.cert.now _ new c.in-Err-text_of.status c.in-Ok.ensures.opened c.in-Ok.ensures.quiet.0 c.in-Ok.ensures.untouched c.in-Err-text_of.ensures.refused)
 
 pub returns-clause-opened : goal.returns-clause-opened
 returns-clause-opened g c =
@@ -32,7 +32,7 @@ pub returns-in-Ok-text_of-clause-answer : goal.returns-in-Ok-text_of-clause-answ
 returns-in-Ok-text_of-clause-answer g c =
     let told = (g.F.Files.view c.args.files.now).told in
     let bytes = c.in-Ok-text_of.bytes.items in
-    refutes_answered _ told c.args.file.now c.args.cert.now c.in-Ok.task bytes _ _ _ c.in-Ok.ensures.task
+    refutes_answered _ told c.args.file.now c.args.cert.now c.in-Ok.task bytes c.in-Ok.ensures.task
     (text_before c.args.file.now c.args.cert.now told (g.F.Files.view c.task_of.new.files).told bytes c.in-Ok.ensures.opened c.in-Ok-text_of.ensures.text) c.in-Ok-text_of.ensures.within
     (puts_after (OrFront (Refutes c.in-Ok.task bytes)) (g.K.Sink.view c.args.sink.now) (g.K.Sink.view c.text_of.new.sink) (g.K.Sink.view c.refute.new.sink) _ (c.in-Ok-text_of.ensures.untouched ∙ c.in-Ok.ensures.untouched)
     (rw c.deref.ensures.value at c.refute.ensures.answer))

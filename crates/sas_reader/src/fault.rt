@@ -85,6 +85,6 @@ pub enum ReadFault {
     #[error("line {line} offends")]
     Offence { line: u64, wanted: Shape },
     /// Out of memory.
-    #[error("want of memory")]
+    #[error("out of memory")]
     Memory,
 }

@@ -21,19 +21,24 @@ use Rattle.axiom_layers.specs.Raising.{values_of, Says}
 use Rattle.axiom_layers.proofs.RootValues.{base_value, derived_value, kept_values}
 
 -- a variable read from the task is a base variable or has a layer
-pub read_base : (task : TaskParts) (vs : List Variable) (var : ℕ) (v : Variable) → vs ≡ task.variables → var < length task.variables → v ≡ get_or vs var v → is_none v.layer ≡ true → IsBase task var
+pub read_base : (task : TaskParts) (vs : List Variable) (var : ℕ) (v : Variable) → vs ≡ task.variables
+    → var < length task.variables → v ≡ get_or vs var v → is_none v.layer ≡ true → IsBase task var
 read_base task vs var v same lt is none =
     let at : v ≡ get_or task.variables var v = is ∙ ap (λ (z : List Variable). get_or z var v) same in
-    subst (λ (o : Option Variable). IsSomeAnd o (λ v. v.layer ≡ None)) (sym (slice_get_read task.variables (length task.variables) var v refl lt at)) (of v.layer none)
+    subst (λ (o : Option Variable). IsSomeAnd o (λ v. v.layer ≡ None))
+    (sym (slice_get_read task.variables (length task.variables) var v refl lt at)) (of v.layer none)
   where
     of : (l : Option ℕ) → is_none l ≡ true → l ≡ None
     of None h = refl
     of (Some x) h = absurd (true≢false (sym h))
 
-pub read_derived : (task : TaskParts) (vs : List Variable) (var : ℕ) (v : Variable) → vs ≡ task.variables → var < length task.variables → v ≡ get_or vs var v → is_none v.layer ≡ false → (layer : ℕ) × HasLayer task var layer
+pub read_derived : (task : TaskParts) (vs : List Variable) (var : ℕ) (v : Variable) → vs ≡ task.variables
+    → var < length task.variables → v ≡ get_or vs var v → is_none v.layer ≡ false → (layer : ℕ)
+    × HasLayer task var layer
 read_derived task vs var v same lt is none =
     let at : v ≡ get_or task.variables var v = is ∙ ap (λ (z : List Variable). get_or z var v) same in
-    subst (λ (o : Option Variable). (layer : ℕ) × IsSomeAnd o (λ v. v.layer ≡ Some layer)) (sym (slice_get_read task.variables (length task.variables) var v refl lt at)) (of v.layer none)
+    subst (λ (o : Option Variable). (layer : ℕ) × IsSomeAnd o (λ v. v.layer ≡ Some layer))
+    (sym (slice_get_read task.variables (length task.variables) var v refl lt at)) (of v.layer none)
   where
     of : (l : Option ℕ) → is_none l ≡ false → (layer : ℕ) × (l ≡ Some layer)
     of None h = absurd (true≢false h)
@@ -41,10 +46,12 @@ read_derived task vs var v same lt is none =
 
 -- a fact of a base variable
 pub base_says : (task : TaskParts) (o : Layout) (xs : List Node) (roots : List ℕ) (fact : Fact) (id : ℕ) → IsOrderOf task o → IsBase task fact.var
-    → ((s : List ℕ) (b : Bits) → IsCode o 0 s b → means xs id b ≡ (value_in o s fact.var == fact.val)) → Says task o xs roots (λ values. HasValue values fact) id
+    → ((s : List ℕ) (b : Bits) → IsCode o 0 s b → means xs id b ≡ (value_in o s fact.var == fact.val))
+    → Says task o xs roots (λ values. HasValue values fact) id
 base_says task o xs roots fact id order base m s b state code =
     let at = base_value task xs roots s b fact.var base in
-    let v : value_in o s fact.var ≡ get_or s (place task fact.var) 0 = ap (λ (x : Option ℕ). option_map_or (λ slot. get_or s slot 0) x 0) (base_slot task o fact.var order base) in
+    let v : value_in o s fact.var ≡ get_or s (place task fact.var) 0 =
+    ap (λ (x : Option ℕ). option_map_or (λ slot. get_or s slot 0) x 0) (base_slot task o fact.var order base) in
     let e = m s b code in
     ((λ t. at ∙ sym v ∙ eqb-true (value_in o s fact.var) fact.val (sym e ∙ t)), (λ h. e ∙ eq-eqb (value_in o s fact.var) fact.val (v ∙ sym at ∙ h)))
 
@@ -57,33 +64,45 @@ cond_default true other default val ne e = ((λ h. absurd (true≢false (sym h))
 cond_default false other default val ne e = ((λ _. sym e), (λ _. refl))
 
 pub other_differs : (task : TaskParts) (var layer : ℕ) → Fits task → HasLayer task var layer → other_value task var ≡ get_or task.initial var 0 → ⊥
-other_differs task var layer fits l e = (let t = two_values task var layer fits l in let k : 1 - get_or task.initial var 0 ≡ get_or task.initial var 0 = e in omega (arith, k, t.initial))
+other_differs task var layer fits l e = (let t = two_values task var layer fits l in
+    let k : 1 - get_or task.initial var 0 ≡ get_or task.initial var 0 = e in omega (arith, k, t.initial))
 
 -- the other value of a derived variable
-pub other_says : (task : TaskParts) (o : Layout) (xs : List Node) (roots : List ℕ) (fact : Fact) (layer : ℕ) → Fits task → HasLayer task fact.var layer → InRange task.variables fact → (fact.val ≡ get_or task.initial fact.var 0 → ⊥)
+pub other_says : (task : TaskParts) (o : Layout) (xs : List Node) (roots : List ℕ) (fact : Fact) (layer : ℕ)
+    → Fits task → HasLayer task fact.var layer → InRange task.variables fact
+    → (fact.val ≡ get_or task.initial fact.var 0 → ⊥)
     → Says task o xs roots (λ values. HasValue values fact) (get_or roots fact.var 0)
 other_says task o xs roots fact layer fits l within ne s b state code =
     let two = fact_two task fact layer fits within l in
     let t = two_values task fact.var layer fits l in
     let e : fact.val ≡ other_value task fact.var = (let k : fact.val ≡ 1 - get_or task.initial fact.var 0 = omega (arith, two, ne, t.initial) in k) in
-    let k = cond_other (means xs (get_or roots fact.var 0) b) (other_value task fact.var) (get_or task.initial fact.var 0) fact.val (other_differs task fact.var layer fits l) e in
+    let k = cond_other (means xs (get_or roots fact.var 0) b) (other_value task fact.var)
+    (get_or task.initial fact.var 0) fact.val (other_differs task fact.var layer fits l) e in
     let v = derived_value task xs roots s b fact.var layer l in
     ((λ h. v ∙ k.0 h), (λ h. k.1 (sym v ∙ h)))
 
 -- the default value
-pub default_says : (task : TaskParts) (o : Layout) (xs ys : List Node) (roots : List ℕ) (fact : Fact) (layer id : ℕ) → Fits task → HasLayer task fact.var layer → fact.val ≡ get_or task.initial fact.var 0
-    → Keeps xs ys → AreSets task o xs roots → ((b : Bits) → means ys id b ≡ not (means xs (get_or roots fact.var 0) b)) → Says task o ys roots (λ values. HasValue values fact) id
+pub default_says : (task : TaskParts) (o : Layout) (xs ys : List Node) (roots : List ℕ) (fact : Fact) (layer id : ℕ)
+    → Fits task → HasLayer task fact.var layer → fact.val ≡ get_or task.initial fact.var 0
+    → Keeps xs ys → AreSets task o xs roots → ((b : Bits) → means ys id b ≡ not
+    (means xs (get_or roots fact.var 0) b)) → Says task o ys roots (λ values. HasValue values fact) id
 default_says task o xs ys roots fact layer id fits l e keeps are m s b state code =
-    let k = cond_default (means xs (get_or roots fact.var 0) b) (other_value task fact.var) (get_or task.initial fact.var 0) fact.val (other_differs task fact.var layer fits l) e in
+    let k = cond_default (means xs (get_or roots fact.var 0) b) (other_value task fact.var)
+    (get_or task.initial fact.var 0) fact.val (other_differs task fact.var layer fits l) e in
     let v = ap (λ (vs : List ℕ). get_or vs fact.var 0) (kept_values task o xs ys roots s b keeps are) ∙ derived_value task xs roots s b fact.var layer l in
     ((λ h. v ∙ k.0 (sym (m b) ∙ h)), (λ h. m b ∙ k.1 (sym v ∙ h)))
 
 -- no facts, and one more
-pub none_says : (task : TaskParts) (o : Layout) (xs : List Node) (roots : List ℕ) (facts : List Fact) (id : ℕ) → ((b : Bits) → means xs id b ≡ true) → Says task o xs roots (λ values. (k : ℕ) (d : Fact) → k < 0 → HasValue values (get_or facts k d)) id
+pub none_says : (task : TaskParts) (o : Layout) (xs : List Node) (roots : List ℕ) (facts : List Fact) (id : ℕ)
+    → ((b : Bits) → means xs id b ≡ true) → Says task o xs roots
+    (λ values. (k : ℕ) (d : Fact) → k < 0 → HasValue values (get_or facts k d)) id
 none_says task o xs roots facts id m s b state code = ((λ _ k d lt. absurd (omega (arith, lt))), (λ _. m b))
 
-pub conj_says : (task : TaskParts) (o : Layout) (ys zs : List Node) (roots : List ℕ) (P Q R : List ℕ → Type 0) (f g id : ℕ) → Keeps ys zs → AreSets task o ys roots
-    → Says task o ys roots P f → Says task o ys roots Q g → ((b : Bits) → means zs id b ≡ (means ys f b && means ys g b)) → ((values : List ℕ) → (P values × Q values) ↔ R values) → Says task o zs roots R id
+pub conj_says : (task : TaskParts) (o : Layout) (ys zs : List Node) (roots : List ℕ) (P Q R : List ℕ → Type 0)
+    (f g id : ℕ) → Keeps ys zs → AreSets task o ys roots
+    → Says task o ys roots P f → Says task o ys roots Q g → ((b : Bits) → means zs id b
+    ≡ (means ys f b && means ys g b)) → ((values : List ℕ) → (P values × Q values) ↔ R values)
+    → Says task o zs roots R id
 conj_says task o ys zs roots P Q R f g id keeps are p q m r s b state code =
     let v = kept_values task o ys zs roots s b keeps are in
     let x = p s b state code in
@@ -93,7 +112,9 @@ conj_says task o ys zs roots P Q R f g id keeps are p q m r s b state code =
       (λ h. let t = (r w).1 (subst R v h) in m b ∙ and_from (means ys f b) (means ys g b) (x.1 t.0) (y.1 t.1)),
     )
 
-pub facts_more : (values : List ℕ) (facts : List Fact) (i : ℕ) (e : Fact) → i < length facts → e ≡ get_or facts i e → (((k : ℕ) (d : Fact) → k < i → HasValue values (get_or facts k d)) × HasValue values e) ↔ ((k : ℕ) (d : Fact) → k < i + 1 → HasValue values (get_or facts k d))
+pub facts_more : (values : List ℕ) (facts : List Fact) (i : ℕ) (e : Fact) → i < length facts → e ≡ get_or facts i e
+    → (((k : ℕ) (d : Fact) → k < i → HasValue values (get_or facts k d)) × HasValue values e)
+    ↔ ((k : ℕ) (d : Fact) → k < i + 1 → HasValue values (get_or facts k d))
 facts_more values facts i e lt is = (
   (λ h k d below. elim (cases_eq k i) [
     | inl same ↦ (let at : get_or facts k d ≡ e = rw same (get_or_default facts i d e lt) ∙ sym is in subst (λ (f : Fact). HasValue values f) (sym at) h.1)

@@ -22,7 +22,8 @@ pub record IsBegun (rules : List Counting) (layer at : ℕ) : Type 0 where
 pub first_begun : (rules : List Counting) → IsBegun rules 0 0
 first_begun rules = record { within = omega arith; past = λ k d lt. absurd (omega (arith, lt)); left = λ k d low lt. omega arith }
 
-pub next_begun : (task : TaskParts) (rules : List Counting) (layer at end : ℕ) → AreRulesOf task rules → IsBegun rules layer at → IsLayer rules layer at end → IsBegun rules (layer + 1) end
+pub next_begun : (task : TaskParts) (rules : List Counting) (layer at end : ℕ) → AreRulesOf task rules
+    → IsBegun rules layer at → IsLayer rules layer at end → IsBegun rules (layer + 1) end
 next_begun task rules layer at end are i l = record {
   within = l.within;
   past = λ k d near. elim (cases_lt k at) [
@@ -48,7 +49,9 @@ slice_between rules from end rising within = record {
   same = λ k d lt. get_or-take (end - from) (drop from rules) k d lt ∙ get_or-drop from rules k d;
 }
 
-pub layer_rules : (task : TaskParts) (rules part : List Counting) (layer from end : ℕ) → AreRulesOf task rules → IsBegun rules layer from → IsLayer rules layer from end → IsBetween rules part from end → AreOfLayer task layer part
+pub layer_rules : (task : TaskParts) (rules part : List Counting) (layer from end : ℕ) → AreRulesOf task rules
+    → IsBegun rules layer from → IsLayer rules layer from end → IsBetween rules part from end
+    → AreOfLayer task layer part
 layer_rules task rules part layer from end are i l p = record {
   counting = λ k d lt. subst (IsCounting task) (sym (p.same k d (within k lt))) (are.counting (from + k) d (far k lt));
   same = λ k d lt. ap (λ (x : Counting). x.layer) (p.same k d (within k lt)) ∙ l.same (from + k) d (omega arith) (let w = within k lt in omega (arith, w));
@@ -66,8 +69,13 @@ layer_rules task rules part layer from end are i l p = record {
       | inl before ↦ (let h = i.past k x before in let e = ap (λ (y : Counting). y.layer) is in absurd (omega (arith, h, e, at)))
       | inr after ↦ elim (cases_lt k end) [
         | inl inside ↦ (
-            let w : k - from < end - from = omega (arith, after, inside) in
-            (k - from, (let e = p.each in omega (arith, w, e)), p.same (k - from) x w ∙ ap (λ (n : ℕ). get_or rules n x) (let e : from + (k - from) ≡ k = omega (arith, after) in e) ∙ is))
+            let w : k - from < end - from = omega (arith, after, inside) in (
+              k - from,
+              (let e = p.each in omega (arith, w, e)),
+              p.same (k - from) x w
+                  ∙ ap (λ (n : ℕ). get_or rules n x) (let e : from + (k - from) ≡ k = omega (arith, after) in e)
+                  ∙ is,
+            ))
         | inr beyond ↦ (
             let n = next_begun task rules layer from end are i l in
             let h = n.left k x beyond lt in
@@ -77,7 +85,8 @@ layer_rules task rules part layer from end are i l p = record {
     ]
 
 -- the rules of a layer count
-pub part_counts : (task : TaskParts) (rules part : List Counting) (from end : ℕ) → AreRulesOf task rules → end ≤ length rules → IsBetween rules part from end → All (IsCounting task) part
+pub part_counts : (task : TaskParts) (rules part : List Counting) (from end : ℕ) → AreRulesOf task rules
+    → end ≤ length rules → IsBetween rules part from end → All (IsCounting task) part
 part_counts task rules part from end are most p k d lt =
     let w : k < end - from = omega (arith, lt, p.each) in
     subst (IsCounting task) (sym (p.same k d w)) (are.counting (from + k) d (omega (arith, w, most)))
@@ -88,7 +97,9 @@ pub record IsRuleOf (task : TaskParts) (counting : Counting) (rule : Rule) : Typ
   pub fits : FitsRule task rule
   pub counts : rule.new ≡ get_or task.initial rule.var 0 → ⊥
 
-pub rule_read : (task : TaskParts) (rules : List Rule) (counting : Counting) (rule : Rule) → Fits task → IsCounting task counting → rules ≡ task.rules → rule ≡ get_or rules counting.rule rule → IsRuleOf task counting rule
+pub rule_read : (task : TaskParts) (rules : List Rule) (counting : Counting) (rule : Rule) → Fits task
+    → IsCounting task counting → rules ≡ task.rules → rule ≡ get_or rules counting.rule rule
+    → IsRuleOf task counting rule
 rule_read task rules counting rule fits c same is =
     let lt = counting_within task counting c in
     let here : rule ≡ get_or task.rules counting.rule rule = is ∙ ap (λ (z : List Rule). get_or z counting.rule rule) same in

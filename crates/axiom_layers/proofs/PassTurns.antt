@@ -16,7 +16,8 @@ use Rattle.task_run.proofs.Growing.{at_default_falls, grows_on}
 use Rattle.axiom_layers.specs.Raising.{RuleTurn, AreOfLayer, NoneRaises, PassTurn, Passes, Closes}
 
 -- the rule of a number in the list is one of the layer
-own_there : (task : TaskParts) (layer n : ℕ) (rules : List Counting) (counting : Counting) (rule : Rule) → AreOfLayer task layer rules → n < length rules → counting ≡ get_or rules n counting
+own_there : (task : TaskParts) (layer n : ℕ) (rules : List Counting) (counting : Counting) (rule : Rule)
+    → AreOfLayer task layer rules → n < length rules → counting ≡ get_or rules n counting
     → slice_get task.rules counting.rule ≡ Some rule → IsOwn task layer rule
 own_there task layer n rules counting rule are lt is at =
     let own = subst (λ (x : Counting). IsSomeAnd (slice_get task.rules x.rule) (IsOwn task x.layer)) (sym is) (are.counting n counting lt) in
@@ -24,31 +25,46 @@ own_there task layer n rules counting rule are lt is at =
     subst (λ (z : ℕ). IsOwn task z rule) same (subst (λ (o : Option Rule). IsSomeAnd o (IsOwn task counting.layer)) at own)
 
 -- one rule more
-pub turn_more : (task : TaskParts) (layer n : ℕ) (rules : List Counting) (counting : Counting) (rule : Rule) (old now next : List ℕ) → Fits task → length now ≡ length task.variables → AreOfLayer task layer rules
+pub turn_more : (task : TaskParts) (layer n : ℕ) (rules : List Counting) (counting : Counting) (rule : Rule)
+    (old now next : List ℕ) → Fits task → length now ≡ length task.variables → AreOfLayer task layer rules
     → n < length rules → counting ≡ get_or rules n counting → slice_get task.rules counting.rule ≡ Some rule
     → PassTurn task layer rules n old now → RuleTurn task rule now next → PassTurn task layer rules (n + 1) old next
 turn_more task layer n rules counting rule old now next fits each are lt is at (g, t) (inl (ready, e)) =
     let own = own_there task layer n rules counting rule are lt is at in
     let within = within_some (λ v. v.layer ≡ Some layer) task.variables rule.var own.on in
     let falls : at_default task.initial (set now rule.var rule.new) < at_default task.initial now =
-    at_default_falls task.initial now rule.var rule.new (omega (arith, within, each)) (let i = fits.initial in omega (arith, within, i)) ready.unraised own.counts in
+    at_default_falls task.initial now rule.var rule.new (omega (arith, within, each))
+    (let i = fits.initial in omega (arith, within, i)) ready.unraised own.counts in
     let raises : Raises task layer now rule = record { opened = record { own = own; unraised = ready.unraised }; conds = ready.conds } in
-    let in_rules : Contains task.rules rule = (counting.rule, slice_get_within task.rules counting.rule rule at, get_or_from_slice_get task.rules counting.rule rule rule at) in
+    let in_rules : Contains task.rules rule = (
+      counting.rule,
+      slice_get_within task.rules counting.rule rule at,
+      get_or_from_slice_get task.rules counting.rule rule rule at,
+    ) in
     subst (λ (z : List ℕ). PassTurn task layer rules (n + 1) old z) (sym e) (by old now rule g in_rules raises, inl (less t falls))
   where
-    less : (at_default task.initial now < at_default task.initial old) ⊎ ((now ≡ old) × NoneRaises task layer rules n old) → at_default task.initial (set now rule.var rule.new) < at_default task.initial now
+    less : (at_default task.initial now < at_default task.initial old)
+        ⊎ ((now ≡ old) × NoneRaises task layer rules n old)
+        → at_default task.initial (set now rule.var rule.new) < at_default task.initial now
         → at_default task.initial (set now rule.var rule.new) < at_default task.initial old
     less (inl f) falls = omega (arith, f, falls)
     less (inr (same, none)) falls = subst (λ (z : List ℕ). at_default task.initial (set now rule.var rule.new) < at_default task.initial z) same falls
-turn_more task layer n rules counting rule old now next fits each are lt is at (g, t) (inr (not_ready, e)) = subst (λ (z : List ℕ). PassTurn task layer rules (n + 1) old z) (sym e) (g, on t)
+turn_more task layer n rules counting rule old now next fits each are lt is at (g, t) (inr (not_ready, e)) =
+    subst (λ (z : List ℕ). PassTurn task layer rules (n + 1) old z) (sym e) (g, on t)
   where
     none_here : now ≡ old → (d : Counting) → IfSome (slice_get task.rules (get_or rules n d).rule) (λ rule. Raises task layer old rule → ⊥)
     none_here same d =
-        let here : slice_get task.rules (get_or rules n d).rule ≡ Some rule = ap (λ (x : Counting). slice_get task.rules x.rule) (get_or_default rules n d counting lt ∙ sym is) ∙ at in
+        let here : slice_get task.rules (get_or rules n d).rule ≡ Some rule =
+        ap (λ (x : Counting). slice_get task.rules x.rule) (get_or_default rules n d counting lt ∙ sym is)
+        ∙ at in
         subst (λ (o : Option Rule). IfSome o (λ rule. Raises task layer old rule → ⊥)) (sym here)
-        (λ r. not_ready (subst (λ (z : List ℕ). Rattle.axiom_layers.specs.Raising.IsReady task z rule) (sym same) (record { unraised = r.opened.unraised; conds = r.conds })))
+        (λ r. not_ready (subst (λ (z : List ℕ). Rattle.axiom_layers.specs.Raising.IsReady task z rule) (sym same)
+        (record { unraised = r.opened.unraised; conds = r.conds })))
 
-    on : (at_default task.initial now < at_default task.initial old) ⊎ ((now ≡ old) × NoneRaises task layer rules n old) → (at_default task.initial now < at_default task.initial old) ⊎ ((now ≡ old) × NoneRaises task layer rules (n + 1) old)
+    on : (at_default task.initial now < at_default task.initial old)
+        ⊎ ((now ≡ old) × NoneRaises task layer rules n old)
+        → (at_default task.initial now < at_default task.initial old)
+        ⊎ ((now ≡ old) × NoneRaises task layer rules (n + 1) old)
     on (inl f) = inl f
     on (inr (same, none)) = inr (
       same,
@@ -59,7 +75,8 @@ turn_more task layer n rules counting rule old now next fits each are lt is at (
     )
 
 -- where none of the rules raises anything, the layer is closed
-none_stuck : (task : TaskParts) (layer : ℕ) (rules : List Counting) (values : List ℕ) → AreOfLayer task layer rules → NoneRaises task layer rules (length rules) values → IsStuck task layer values
+none_stuck : (task : TaskParts) (layer : ℕ) (rules : List Counting) (values : List ℕ) → AreOfLayer task layer rules
+    → NoneRaises task layer rules (length rules) values → IsStuck task layer values
 none_stuck task layer rules values are none i d lt raises =
     let x : Counting = record { layer = layer; rule = i } in
     let here = slice_get-get_or task.rules i d lt in
@@ -92,25 +109,43 @@ passes_none task layer now fits = (done now, inr (let k = most task.initial now 
         one true k = omega (arith, k)
         one false k = omega (arith, k)
 
-pub passes_more : (task : TaskParts) (layer n : ℕ) (rules : List Counting) (old now next : List ℕ) → AreOfLayer task layer rules → Passes task layer n old now → PassTurn task layer rules (length rules) now next → Passes task layer (n + 1) old next
-passes_more task layer n rules old now next are (g, t) (h, inr (same, none)) = (grows_on task layer old now next g h, inl (subst (λ (z : List ℕ). IsStuck task layer z) (sym same) (none_stuck task layer rules now are none)))
+pub passes_more : (task : TaskParts) (layer n : ℕ) (rules : List Counting) (old now next : List ℕ)
+    → AreOfLayer task layer rules → Passes task layer n old now → PassTurn task layer rules (length rules) now next
+    → Passes task layer (n + 1) old next
+passes_more task layer n rules old now next are (g, t) (h, inr (same, none)) = (
+  grows_on task layer old now next g h,
+  inl (subst (λ (z : List ℕ). IsStuck task layer z) (sym same)
+      (none_stuck task layer rules now are none)),
+)
 passes_more task layer n rules old now next are (g, inl stuck) (h, inl f) =
-    (let e = stuck_same task layer now next h stuck in absurd (no_less (at_default task.initial now) (subst (λ (z : List ℕ). at_default task.initial z < at_default task.initial now) e f)))
+    (let e = stuck_same task layer now next h stuck in absurd
+    (no_less (at_default task.initial now)
+    (subst (λ (z : List ℕ). at_default task.initial z < at_default task.initial now) e f)))
 passes_more task layer n rules old now next are (g, inr few) (h, inl f) = (grows_on task layer old now next g h, inr (omega (arith, few, f)))
 
 -- no set changed
-pub closes_early : (task : TaskParts) (layer n : ℕ) (rules : List Counting) (old now next : List ℕ) → AreOfLayer task layer rules → Passes task layer n old now → PassTurn task layer rules (length rules) now next → next ≡ now → Closes task layer old next
-closes_early task layer n rules old now next are (g, t) (h, inr (same, none)) e = (grows_on task layer old now next g h, subst (λ (z : List ℕ). IsStuck task layer z) (sym same) (none_stuck task layer rules now are none))
-closes_early task layer n rules old now next are (g, t) (h, inl f) e = absurd (no_less (at_default task.initial now) (subst (λ (z : List ℕ). at_default task.initial z < at_default task.initial now) e f))
+pub closes_early : (task : TaskParts) (layer n : ℕ) (rules : List Counting) (old now next : List ℕ)
+    → AreOfLayer task layer rules → Passes task layer n old now → PassTurn task layer rules (length rules) now next
+    → next ≡ now → Closes task layer old next
+closes_early task layer n rules old now next are (g, t) (h, inr (same, none)) e = (
+  grows_on task layer old now next g h,
+  subst (λ (z : List ℕ). IsStuck task layer z) (sym same)
+      (none_stuck task layer rules now are none),
+)
+closes_early task layer n rules old now next are (g, t) (h, inl f) e =
+    absurd (no_less (at_default task.initial now)
+    (subst (λ (z : List ℕ). at_default task.initial z < at_default task.initial now) e f))
 
-some_default : (initial values : List ℕ) (var : ℕ) → var < length values → var < length initial → get_or values var 0 ≡ get_or initial var 0 → 1 ≤ at_default initial values
+some_default : (initial values : List ℕ) (var : ℕ) → var < length values → var < length initial
+    → get_or values var 0 ≡ get_or initial var 0 → 1 ≤ at_default initial values
 some_default [] values var lt within e = absurd (omega arith)
 some_default (x ∷ initial) [] var lt within e = absurd (omega arith)
 some_default (x ∷ initial) (y ∷ values) zero lt within e = (let b : (y == x) ≡ true = eq-eqb y x e in rw b (omega arith))
 some_default (x ∷ initial) (y ∷ values) (suc var) lt within e = omega (arith, some_default initial values var (omega arith) (omega arith) e)
 
 -- as many passes as variables
-pub closes_late : (task : TaskParts) (layer n : ℕ) (old now : List ℕ) → Fits task → length now ≡ length task.variables → length task.variables ≤ n → Passes task layer n old now → Closes task layer old now
+pub closes_late : (task : TaskParts) (layer n : ℕ) (old now : List ℕ) → Fits task → length now ≡ length task.variables
+    → length task.variables ≤ n → Passes task layer n old now → Closes task layer old now
 closes_late task layer n old now fits each all (g, inl stuck) = (g, stuck)
 closes_late task layer n old now fits each all (g, inr few) = (
   g,

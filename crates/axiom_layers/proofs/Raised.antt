@@ -29,7 +29,8 @@ use Rattle.axiom_layers.proofs.FactSets.{other_differs}
 none_there : (roots : List ℕ) (n var : ℕ) → roots ≡ replicate n 0 → var < n → get_or roots var 0 ≡ 0
 none_there roots n var e lt = ap (λ (l : List ℕ). get_or l var 0) e ∙ get_or-replicate n var 0 0 lt
 
-pub empty_sets : (task : TaskParts) (o : Layout) (xs : List Node) (roots : List ℕ) → IsReduced xs → roots ≡ replicate (length task.variables) 0 → AreSets task o xs roots
+pub empty_sets : (task : TaskParts) (o : Layout) (xs : List Node) (roots : List ℕ) → IsReduced xs
+    → roots ≡ replicate (length task.variables) 0 → AreSets task o xs roots
 empty_sets task o xs roots r e = record {
   each = each;
   known = λ var lt. (let z = none var lt in let k = r.constants in omega (arith, z, k));
@@ -42,7 +43,8 @@ empty_sets task o xs roots r e = record {
     none : (var : ℕ) → var < length roots → get_or roots var 0 ≡ 0
     none var lt = none_there roots (length task.variables) var e (omega (arith, lt, each))
 
-pub empty_below : (task : TaskParts) (xs : List Node) (roots s : List ℕ) (b : Bits) → Fits task → IsReduced xs → roots ≡ replicate (length task.variables) 0 → Below task s 0 (values_of task xs roots s b)
+pub empty_below : (task : TaskParts) (xs : List Node) (roots s : List ℕ) (b : Bits) → Fits task → IsReduced xs
+    → roots ≡ replicate (length task.variables) 0 → Below task s 0 (values_of task xs roots s b)
 empty_below task xs roots s b fits r e = record {
   each = values_length task xs roots s b;
   base = λ var h. base_value task xs roots s b var h;
@@ -55,13 +57,17 @@ empty_below task xs roots s b fits r e = record {
     default var at l =
         derived_value task xs roots s b var at l
         ∙ ap (λ t. cond t (other_value task var) (get_or task.initial var 0))
-        (ap (λ (i : ℕ). means xs i b) (none_there roots (length task.variables) var e (within_some (λ v. v.layer ≡ Some at) task.variables var l)) ∙ means_false xs r b)
+        (ap (λ (i : ℕ). means xs i b) (none_there roots (length task.variables) var e
+        (within_some (λ v. v.layer ≡ Some at) task.variables var l)) ∙ means_false xs r b)
 
 -- sets that give each state its values are roots
-pub valued_roots : (task : TaskParts) (o : Layout) (xs : List Node) (roots : List ℕ) → Fits task → AreSets task o xs roots → EachState task o (λ s b. Valued task s (values_of task xs roots s b)) → AreRoots task o xs roots
+pub valued_roots : (task : TaskParts) (o : Layout) (xs : List Node) (roots : List ℕ) → Fits task
+    → AreSets task o xs roots → EachState task o (λ s b. Valued task s (values_of task xs roots s b))
+    → AreRoots task o xs roots
 valued_roots task o xs roots fits sets valued = record { sets = sets; raised = λ var layer l s b state code. law var layer l s b (valued s b state code) }
   where
-    law : (var layer : ℕ) → HasLayer task var layer → (s : List ℕ) (b : Bits) → Valued task s (values_of task xs roots s b) → (means xs (get_or roots var 0) b ≡ true) ↔ Raised task s var
+    law : (var layer : ℕ) → HasLayer task var layer → (s : List ℕ) (b : Bits)
+        → Valued task s (values_of task xs roots s b) → (means xs (get_or roots var 0) b ≡ true) ↔ Raised task s var
     law var layer l s b v = (forth, back)
       where
         t : Two task var layer
@@ -71,7 +77,9 @@ valued_roots task o xs roots fits sets valued = record { sets = sets; raised = �
         fact = record { var = var; val = other_value task var }
 
         within : InRange task.variables fact
-        within = subst (λ (z : Option Variable). IsSomeAnd z (λ v. other_value task var < range v)) (sym t.is) (let r = t.range in let i = t.initial in let k : 1 - get_or task.initial var 0 < range t.v = omega (arith, r, i) in k)
+        within = subst (λ (z : Option Variable). IsSomeAnd z (λ v. other_value task var < range v)) (sym t.is)
+            (let r = t.range in let i = t.initial in
+            let k : 1 - get_or task.initial var 0 < range t.v = omega (arith, r, i) in k)
 
         value : get_or (values_of task xs roots s b) var 0 ≡ cond (means xs (get_or roots var 0) b) (other_value task var) (get_or task.initial var 0)
         value = derived_value task xs roots s b var layer l
@@ -91,10 +99,14 @@ valued_roots task o xs roots fits sets valued = record { sets = sets; raised = �
         back r = by (means xs (get_or roots var 0) b) (sym value ∙ (v.holds fact within).0 (inr (layer, l, ((λ _. r), (λ _. refl)))))
 
 -- roots give each state its values
-pub roots_valued : (task : TaskParts) (o : Layout) (xs : List Node) (roots : List ℕ) → Fits task → AreRoots task o xs roots → EachState task o (λ s b. Valued task s (values_of task xs roots s b))
-roots_valued task o xs roots fits are s b state code = record { each = values_length task xs roots s b; holds = λ fact within. go fact within (which task fact within) }
+pub roots_valued : (task : TaskParts) (o : Layout) (xs : List Node) (roots : List ℕ) → Fits task
+    → AreRoots task o xs roots → EachState task o (λ s b. Valued task s (values_of task xs roots s b))
+roots_valued task o xs roots fits are s b state code = record
+    { each = values_length task xs roots s b; holds = λ fact within. go fact within (which task fact within) }
   where
-    go : (fact : Fact) → InRange task.variables fact → IsBase task fact.var ⊎ ((layer : ℕ) × HasLayer task fact.var layer) → Holds task s fact ↔ HasValue (values_of task xs roots s b) fact
+    go : (fact : Fact) → InRange task.variables fact → IsBase task fact.var
+        ⊎ ((layer : ℕ) × HasLayer task fact.var layer) → Holds task s fact
+        ↔ HasValue (values_of task xs roots s b) fact
     go fact within (inl base) = (to, (λ e. inl (base, sym (base_value task xs roots s b fact.var base) ∙ e)))
       where
         to : Holds task s fact → HasValue (values_of task xs roots s b) fact
@@ -114,7 +126,8 @@ roots_valued task o xs roots fits are s b state code = record { each = values_le
         raised : (means xs (get_or roots fact.var 0) b ≡ true) ↔ Raised task s fact.var
         raised = are.raised fact.var layer on s b state code
 
-        value : get_or (values_of task xs roots s b) fact.var 0 ≡ cond (means xs (get_or roots fact.var 0) b) (other_value task fact.var) (get_or task.initial fact.var 0)
+        value : get_or (values_of task xs roots s b) fact.var 0 ≡ cond (means xs (get_or roots fact.var 0) b)
+            (other_value task fact.var) (get_or task.initial fact.var 0)
         value = derived_value task xs roots s b fact.var layer on
 
         by : (u : Bool) → means xs (get_or roots fact.var 0) b ≡ u → Holds task s fact ↔ HasValue (values_of task xs roots s b) fact
@@ -143,19 +156,23 @@ roots_valued task o xs roots fits are s b state code = record { each = values_le
                 is ∙ sym d)
 
 -- what is said of values is so of facts
-pub fact_holds : (task : TaskParts) (o : Layout) (xs : List Node) (roots : List ℕ) (fact : Fact) (id : ℕ) → Fits task → AreRoots task o xs roots → InRange task.variables fact
+pub fact_holds : (task : TaskParts) (o : Layout) (xs : List Node) (roots : List ℕ) (fact : Fact) (id : ℕ) → Fits task
+    → AreRoots task o xs roots → InRange task.variables fact
     → Says task o xs roots (λ values. HasValue values fact) id → IsTrueWhere task o xs (λ s. Holds task s fact) id
 fact_holds task o xs roots fact id fits are within says s b state code =
     let h = says s b state code in
     let v = (roots_valued task o xs roots fits are s b state code).holds fact within in
     ((λ t. v.1 (h.0 t)), (λ k. h.1 (v.0 k)))
 
-pub facts_hold : (task : TaskParts) (o : Layout) (xs : List Node) (roots : List ℕ) (facts : List Fact) (id : ℕ) → Fits task → AreRoots task o xs roots → All (InRange task.variables) facts
+pub facts_hold : (task : TaskParts) (o : Layout) (xs : List Node) (roots : List ℕ) (facts : List Fact) (id : ℕ)
+    → Fits task → AreRoots task o xs roots → All (InRange task.variables) facts
     → Says task o xs roots (λ values. All (HasValue values) facts) id → IsTrueWhere task o xs (λ s. All (Holds task s) facts) id
 facts_hold task o xs roots facts id fits are within says s b state code =
     let h = says s b state code in
-    let v = roots_valued task o xs roots fits are s b state code in
-    ((λ t k d lt. (v.holds (get_or facts k d) (within k d lt)).1 (h.0 t k d lt)), (λ all. h.1 (λ k d lt. (v.holds (get_or facts k d) (within k d lt)).0 (all k d lt))))
+    let v = roots_valued task o xs roots fits are s b state code in (
+      (λ t k d lt. (v.holds (get_or facts k d) (within k d lt)).1 (h.0 t k d lt)),
+      (λ all. h.1 (λ k d lt. (v.holds (get_or facts k d) (within k d lt)).0 (all k d lt))),
+    )
 
 -- roots stay roots where their table grows
 pub roots_kept : (task : TaskParts) (o : Layout) (xs ys : List Node) (roots : List ℕ) → Keeps xs ys → AreRoots task o xs roots → AreRoots task o ys roots

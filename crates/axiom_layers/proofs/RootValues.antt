@@ -18,13 +18,17 @@ pub values_length : (task : TaskParts) (xs : List Node) (roots s : List ℕ) (b 
 unfolding values_of
 values_length task xs roots s b = length-map-range_with_len (λ var. value_by task xs roots s b var (layer_of task var)) 0 (length task.variables)
 
-pub value_there : (task : TaskParts) (xs : List Node) (roots s : List ℕ) (b : Bits) (var : ℕ) → var < length task.variables → get_or (values_of task xs roots s b) var 0 ≡ value_by task xs roots s b var (layer_of task var)
+pub value_there : (task : TaskParts) (xs : List Node) (roots s : List ℕ) (b : Bits) (var : ℕ)
+    → var < length task.variables → get_or (values_of task xs roots s b) var 0 ≡ value_by task xs roots s b var
+    (layer_of task var)
 unfolding values_of
-value_there task xs roots s b var lt = get_or-map-range_with_len (λ var. value_by task xs roots s b var (layer_of task var)) 0 (length task.variables) var var 0 lt (omega arith)
+value_there task xs roots s b var lt = get_or-map-range_with_len
+    (λ var. value_by task xs roots s b var (layer_of task var)) 0 (length task.variables) var var 0 lt (omega arith)
 
 -- what a list of values must have to be these
 pub values_are : (task : TaskParts) (xs : List Node) (roots s : List ℕ) (b : Bits) (values : List ℕ) → length values ≡ length task.variables
-    → ((var : ℕ) → var < length task.variables → get_or values var 0 ≡ value_by task xs roots s b var (layer_of task var)) → values ≡ values_of task xs roots s b
+    → ((var : ℕ) → var < length task.variables → get_or values var 0 ≡ value_by task xs roots s b var
+    (layer_of task var)) → values ≡ values_of task xs roots s b
 unfolding values_of
 values_are task xs roots s b values e h = fill_by_all (λ var. value_by task xs roots s b var (layer_of task var)) values (length task.variables) 0 e h
 
@@ -35,7 +39,8 @@ at_layer (Some v) l h = h
 pub layer_is : (task : TaskParts) (var layer : ℕ) → HasLayer task var layer → layer_of task var ≡ Some layer
 layer_is task var layer h = at_layer (slice_get task.variables var) (Some layer) h
 
-pub base_value : (task : TaskParts) (xs : List Node) (roots s : List ℕ) (b : Bits) (var : ℕ) → IsBase task var → get_or (values_of task xs roots s b) var 0 ≡ get_or s (place task var) 0
+pub base_value : (task : TaskParts) (xs : List Node) (roots s : List ℕ) (b : Bits) (var : ℕ) → IsBase task var
+    → get_or (values_of task xs roots s b) var 0 ≡ get_or s (place task var) 0
 base_value task xs roots s b var h =
     value_there task xs roots s b var (within_some (λ v. v.layer ≡ None) task.variables var h)
     ∙ ap (λ z. value_by task xs roots s b var z) (at_layer (slice_get task.variables var) None h)
@@ -48,16 +53,22 @@ derived_value task xs roots s b var layer h =
 
 -- roots that mean the same give the same values
 pub same_values : (task : TaskParts) (xs ys : List Node) (roots more s : List ℕ) (b : Bits)
-    → ((var : ℕ) → var < length task.variables → means ys (get_or more var 0) b ≡ means xs (get_or roots var 0) b) → values_of task ys more s b ≡ values_of task xs roots s b
-same_values task xs ys roots more s b h = values_are task xs roots s b (values_of task ys more s b) (values_length task ys more s b) (λ var lt. value_there task ys more s b var lt ∙ each var (layer_of task var) (h var lt))
+    → ((var : ℕ) → var < length task.variables → means ys (get_or more var 0) b ≡ means xs (get_or roots var 0) b)
+    → values_of task ys more s b ≡ values_of task xs roots s b
+same_values task xs ys roots more s b h = values_are task xs roots s b (values_of task ys more s b)
+    (values_length task ys more s b) (λ var lt. value_there task ys more s b var lt ∙ each var (layer_of task var)
+    (h var lt))
   where
-    each : (var : ℕ) (l : Option ℕ) → means ys (get_or more var 0) b ≡ means xs (get_or roots var 0) b → value_by task ys more s b var l ≡ value_by task xs roots s b var l
+    each : (var : ℕ) (l : Option ℕ) → means ys (get_or more var 0) b ≡ means xs (get_or roots var 0) b
+        → value_by task ys more s b var l ≡ value_by task xs roots s b var l
     each var None e = refl
     each var (Some layer) e = ap (λ t. cond t (other_value task var) (get_or task.initial var 0)) e
 
 -- a table that grows keeps sets, their values and what is said of them
-pub kept_values : (task : TaskParts) (o : Layout) (xs ys : List Node) (roots s : List ℕ) (b : Bits) → Keeps xs ys → AreSets task o xs roots → values_of task ys roots s b ≡ values_of task xs roots s b
-kept_values task o xs ys roots s b k a = same_values task xs ys roots roots s b (λ var lt. k.meaning (get_or roots var 0) b (a.known var (omega (arith, lt, a.each))))
+pub kept_values : (task : TaskParts) (o : Layout) (xs ys : List Node) (roots s : List ℕ) (b : Bits) → Keeps xs ys
+    → AreSets task o xs roots → values_of task ys roots s b ≡ values_of task xs roots s b
+kept_values task o xs ys roots s b k a = same_values task xs ys roots roots s b
+    (λ var lt. k.meaning (get_or roots var 0) b (a.known var (omega (arith, lt, a.each))))
 
 pub kept_sets : (task : TaskParts) (o : Layout) (xs ys : List Node) (roots : List ℕ) → Keeps xs ys → AreSets task o xs roots → AreSets task o ys roots
 kept_sets task o xs ys roots k a = record {
@@ -66,7 +77,8 @@ kept_sets task o xs ys roots k a = record {
   of_states = λ var lt. set_kept o xs ys (get_or roots var 0) k (a.known var lt) (a.of_states var lt);
 }
 
-pub kept_says : (task : TaskParts) (o : Layout) (xs ys : List Node) (roots : List ℕ) (P : List ℕ → Type 0) (id : ℕ) → Keeps xs ys → AreSets task o xs roots → id < length xs → Says task o xs roots P id → Says task o ys roots P id
+pub kept_says : (task : TaskParts) (o : Layout) (xs ys : List Node) (roots : List ℕ) (P : List ℕ → Type 0) (id : ℕ)
+    → Keeps xs ys → AreSets task o xs roots → id < length xs → Says task o xs roots P id → Says task o ys roots P id
 kept_says task o xs ys roots P id k a known says s b state code =
     let h = says s b state code in
     let e = k.meaning id b known in
@@ -86,9 +98,11 @@ keeps_itself xs = record { known = omega arith; meaning = λ id b lt. refl }
 pub constant_of_states : (o : Layout) (xs : List Node) (id : ℕ) (t : Bool) → ((b : Bits) → means xs id b ≡ t) → IsSetOfStates o xs id
 constant_of_states o xs id t m b c agree = m b ∙ sym (m c)
 
-pub neg_of_states : (o : Layout) (xs ys : List Node) (f id : ℕ) → IsSetOfStates o xs f → ((b : Bits) → means ys id b ≡ not (means xs f b)) → IsSetOfStates o ys id
+pub neg_of_states : (o : Layout) (xs ys : List Node) (f id : ℕ) → IsSetOfStates o xs f
+    → ((b : Bits) → means ys id b ≡ not (means xs f b)) → IsSetOfStates o ys id
 neg_of_states o xs ys f id is m b c agree = m b ∙ ap not (is b c agree) ∙ sym (m c)
 
-pub both_of_states : (op : Bool → Bool → Bool) (o : Layout) (xs ys : List Node) (f g id : ℕ) → IsSetOfStates o xs f → IsSetOfStates o xs g → ((b : Bits) → means ys id b ≡ op (means xs f b) (means xs g b)) → IsSetOfStates o ys id
+pub both_of_states : (op : Bool → Bool → Bool) (o : Layout) (xs ys : List Node) (f g id : ℕ) → IsSetOfStates o xs f
+    → IsSetOfStates o xs g → ((b : Bits) → means ys id b ≡ op (means xs f b) (means xs g b)) → IsSetOfStates o ys id
 both_of_states op o xs ys f g id is_f is_g m b c agree =
     m b ∙ ap (λ (t : Bool). op t (means xs g b)) (is_f b c agree) ∙ ap (λ (t : Bool). op (means xs f c) t) (is_g b c agree) ∙ sym (m c)

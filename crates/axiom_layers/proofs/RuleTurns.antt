@@ -20,11 +20,14 @@ use Rattle.axiom_layers.specs.Raising.{value_by, values_of, Says, IsReady, RuleT
 use Rattle.axiom_layers.proofs.RootValues.{values_length, value_there, values_are, same_values, kept_values, derived_value, layer_is}
 use Rattle.axiom_layers.proofs.FactSets.{other_differs}
 
-pub rule_within : (task : TaskParts) (o : Layout) (xs : List Node) (roots : List ℕ) (rule : Rule) → FitsRule task rule → AreSets task o xs roots → rule.var < length roots
-rule_within task o xs roots rule fit are = (let w = within_some (λ v. v.layer ≡ Some fit.layer) task.variables rule.var fit.on in let e = are.each in omega (arith, w, e))
+pub rule_within : (task : TaskParts) (o : Layout) (xs : List Node) (roots : List ℕ) (rule : Rule) → FitsRule task rule
+    → AreSets task o xs roots → rule.var < length roots
+rule_within task o xs roots rule fit are = (let w = within_some (λ v. v.layer ≡ Some fit.layer) task.variables
+    rule.var fit.on in let e = are.each in omega (arith, w, e))
 
 module _ (task : TaskParts) (o : Layout) (rule : Rule) (xs ys zs : List Node) (roots : List ℕ) (conds root : ℕ)
-    (fits : Fits task) (fit : FitsRule task rule) (counts : rule.new ≡ get_or task.initial rule.var 0 → ⊥) (are : AreSets task o xs roots) (xy : Keeps xs ys) (yz : Keeps ys zs) (known : conds < length ys)
+    (fits : Fits task) (fit : FitsRule task rule) (counts : rule.new ≡ get_or task.initial rule.var 0 → ⊥)
+    (are : AreSets task o xs roots) (xy : Keeps xs ys) (yz : Keeps ys zs) (known : conds < length ys)
     (says : Says task o ys roots (λ values. All (HasValue values) rule.conds) conds)
     (m : (b : Bits) → means zs root b ≡ (means ys (get_or roots rule.var 0) b || means ys conds b)) where
   two : Two task rule.var fit.layer
@@ -66,10 +69,13 @@ module _ (task : TaskParts) (o : Layout) (rule : Rule) (xs ys zs : List Node) (r
     ])
 
     raised : means zs root b ≡ true → values_of task zs more s b ≡ set old rule.var rule.new
-    raised e = sym (values_are task zs more s b (set old rule.var rule.new) (length-set old rule.var rule.new ∙ values_length task xs roots s b) (λ k lt. elim (cases_eq k rule.var) [
-      | inl same ↦ rw same (get_or-set_same old rule.var rule.new 0 (let n = values_length task xs roots s b in let t = two.within in omega (arith, n, t)) ∙ new_is ∙ sym here)
-      | inr ne ↦ get_or-set_other old rule.var k rule.new 0 ne ∙ value_there task xs roots s b k lt ∙ there k ne lt (layer_of task k)
-    ]))
+    raised e = sym (values_are task zs more s b (set old rule.var rule.new)
+        (length-set old rule.var rule.new ∙ values_length task xs roots s b) (λ k lt. elim (cases_eq k rule.var) [
+          | inl same ↦ rw same (get_or-set_same old rule.var rule.new 0
+              (let n = values_length task xs roots s b in let t = two.within in omega (arith, n, t)) ∙ new_is
+              ∙ sym here)
+          | inr ne ↦ get_or-set_other old rule.var k rule.new 0 ne ∙ value_there task xs roots s b k lt ∙ there k ne lt (layer_of task k)
+        ]))
       where
         here : value_by task zs more s b rule.var (layer_of task rule.var) ≡ other_value task rule.var
         here = ap (λ z. value_by task zs more s b rule.var z) (layer_is task rule.var fit.layer fit.on)
@@ -78,7 +84,9 @@ module _ (task : TaskParts) (o : Layout) (rule : Rule) (xs ys zs : List Node) (r
 
         there : (k : ℕ) → (k ≡ rule.var → ⊥) → k < length task.variables → (l : Option ℕ) → value_by task xs roots s b k l ≡ value_by task zs more s b k l
         there k ne lt None = refl
-        there k ne lt (Some n) = ap (λ t. cond t (other_value task k) (get_or task.initial k 0)) (sym (ap (λ i. means zs i b) (get_or-set_other roots rule.var k root 0 ne) ∙ up b k (omega (arith, lt, are.each))))
+        there k ne lt (Some n) = ap (λ t. cond t (other_value task k) (get_or task.initial k 0))
+            (sym (ap (λ i. means zs i b) (get_or-set_other roots rule.var k root 0 ne)
+            ∙ up b k (omega (arith, lt, are.each))))
 
     or_false : (u v : Bool) → v ≡ false → (u || v) ≡ u
     or_false true v e = refl
@@ -89,15 +97,20 @@ module _ (task : TaskParts) (o : Layout) (rule : Rule) (xs ys zs : List Node) (r
 
     pub turned : RuleTurn task rule old (values_of task zs more s b)
     turned = (elim (means ys conds b) as (λ v. means ys conds b ≡ v → RuleTurn task rule old (values_of task zs more s b)) [
-      | false ↦ λ v. inr ((λ r. true≢false (sym (conds_are.1 r.conds) ∙ v)), stays (root_is ∙ or_false (means xs (get_or roots rule.var 0) b) (means ys conds b) v))
-      | true ↦ λ v. (elim (means xs (get_or roots rule.var 0) b) as (λ u. means xs (get_or roots rule.var 0) b ≡ u → RuleTurn task rule old (values_of task zs more s b)) [
-        | true ↦ λ u. inr (not_ready u, stays (root_is ∙ ap (λ (t : Bool). t || means ys conds b) u ∙ sym u))
-        | false ↦ λ u. inl (
-          record {
-            unraised = at_old ∙ ap (λ t. cond t (other_value task rule.var) (get_or task.initial rule.var 0)) u;
-            conds = conds_are.0 v;
-          },
-          raised (root_is ∙ ap (λ (t : Bool). t || means ys conds b) u ∙ v),
-        )
-      ]) refl
+      | false ↦ λ v. inr (
+        (λ r. true≢false (sym (conds_are.1 r.conds) ∙ v)),
+        stays
+            (root_is ∙ or_false (means xs (get_or roots rule.var 0) b) (means ys conds b) v),
+      )
+      | true ↦ λ v. (elim (means xs (get_or roots rule.var 0) b) as
+          (λ u. means xs (get_or roots rule.var 0) b ≡ u → RuleTurn task rule old (values_of task zs more s b)) [
+            | true ↦ λ u. inr (not_ready u, stays (root_is ∙ ap (λ (t : Bool). t || means ys conds b) u ∙ sym u))
+            | false ↦ λ u. inl (
+              record {
+                unraised = at_old ∙ ap (λ t. cond t (other_value task rule.var) (get_or task.initial rule.var 0)) u;
+                conds = conds_are.0 v;
+              },
+              raised (root_is ∙ ap (λ (t : Bool). t || means ys conds b) u ∙ v),
+            )
+          ]) refl
     ]) refl

@@ -12,7 +12,8 @@ PassFrom test from n = (k : ℕ) → from ≤ k → k < n → test k ≡ true
 pub pass_none : (test : ℕ → Bool) (n : ℕ) (all : Bool) → all ≡ true → (all ≡ true) ↔ PassFrom test n n
 pass_none test n all is = ((λ h k from lt. absurd (omega (arith, from, lt))), (λ h. is))
 
-pub pass_more : (test : ℕ → Bool) (i n : ℕ) (one old new : Bool) → i < n → new ≡ (one && old) → one ≡ test i → (old ≡ true) ↔ PassFrom test (i + 1) n → (new ≡ true) ↔ PassFrom test i n
+pub pass_more : (test : ℕ → Bool) (i n : ℕ) (one old new : Bool) → i < n → new ≡ (one && old) → one ≡ test i
+    → (old ≡ true) ↔ PassFrom test (i + 1) n → (new ≡ true) ↔ PassFrom test i n
 pass_more test i n one old new lt is first later = (
   (λ h k from below. (let both = and_parts one old (sym is ∙ h) in elim (cases_eq k i) [
     | inl e ↦ ap test e ∙ sym first ∙ both.0
@@ -24,7 +25,8 @@ pass_more test i n one old new lt is first later = (
 pub kept_twice : (xs ys zs ws : List Node) → Keeps xs ys → Keeps ys zs → Keeps zs ws → Keeps xs ws
 kept_twice xs ys zs ws k l m = record {
   known = (let a = k.known in let c = l.known in let d = m.known in omega (arith, a, c, d));
-  meaning = λ id b lt. m.meaning id b (let a = k.known in let c = l.known in omega (arith, a, c, lt)) ∙ l.meaning id b (let a = k.known in omega (arith, a, lt)) ∙ k.meaning id b lt;
+  meaning = λ id b lt. m.meaning id b (let a = k.known in let c = l.known in omega (arith, a, c, lt))
+      ∙ l.meaning id b (let a = k.known in omega (arith, a, lt)) ∙ k.meaning id b lt;
 }
 
 -- What a conjunction of tests is, from a number on.
@@ -43,11 +45,14 @@ conj_none test xs n m r same = record {
 }
 
 pub conj_more : (test : Bits → ℕ → Bool) (start xs ys zs : List Node) (all one next from i n : ℕ) → IsConj test start xs all from n → from ≡ i + 1 → i < n
-    → Keeps xs ys → one < length ys → ((b : Bits) → means ys one b ≡ test b i) → Keeps ys zs → IsReduced zs → next < length zs → ((b : Bits) → means zs next b ≡ (means ys one b && means ys all b)) → IsConj test start zs next i n
+    → Keeps xs ys → one < length ys → ((b : Bits) → means ys one b ≡ test b i) → Keeps ys zs → IsReduced zs
+    → next < length zs → ((b : Bits) → means zs next b ≡ (means ys one b && means ys all b))
+    → IsConj test start zs next i n
 conj_more test start xs ys zs all one next from i n was is lt k known_one tested l r known_next both = record {
   kept = kept_twice start xs ys zs was.kept k l;
   reduced = r;
   known = known_next;
-  meaning = λ b. pass_more (test b) i n (means ys one b) (means xs all b) (means zs next b) lt (both b ∙ ap (λ (t : Bool). means ys one b && t) (k.meaning all b was.known)) (tested b)
+  meaning = λ b. pass_more (test b) i n (means ys one b) (means xs all b) (means zs next b) lt
+      (both b ∙ ap (λ (t : Bool). means ys one b && t) (k.meaning all b was.known)) (tested b)
       (subst (λ (x : ℕ). (means xs all b ≡ true) ↔ PassFrom (test b) x n) is (was.meaning b));
 }

@@ -22,25 +22,34 @@ plain_at o b place lt =
 pub plain_code : (o : Layout) (s : List ℕ) (b : Bits) → IsLayout o → IsCode o 0 s b → IsCode o 0 s (plain o b)
 plain_code o s b l code = record {
   each = code.each;
-  values = λ slot lt. number_same (plain o b) b 0 0 (block_at o slot).width (block_at o slot).first (λ k below. plain_at o b ((block_at o slot).first + k) (l.owned slot ((block_at o slot).first + k) (record { from = omega arith; before = omega (arith, below) })).0) ∙ code.values slot lt;
+  values = λ slot lt. number_same (plain o b) b 0 0 (block_at o slot).width (block_at o slot).first
+      (λ k below. plain_at o b ((block_at o slot).first + k)
+      (l.owned slot ((block_at o slot).first + k) (record { from = omega arith; before = omega (arith, below) })).0)
+      ∙ code.values slot lt;
 }
 
 -- the bit of a level that has a place, and of one that has none
-pub plain_even : (o : Layout) (b : Bits) (level : ℕ) (bit : Bool) → level % 2 ≡ 0 → level / 2 < bits o → b (level_at 0 (level / 2)) ≡ bit → plain o b level ≡ bit
+pub plain_even : (o : Layout) (b : Bits) (level : ℕ) (bit : Bool) → level % 2 ≡ 0 → level / 2 < bits o
+    → b (level_at 0 (level / 2)) ≡ bit → plain o b level ≡ bit
 plain_even o b level bit even lt is =
     let e : level_at 0 (level / 2) ≡ level = omega (arith, even) in
     subst (λ (x : ℕ). plain o b x ≡ bit) e (plain_at o b (level / 2) lt ∙ is)
 
 -- one step down
-step_down : (nodes : List Node) (b : Bits) (id : ℕ) (bit : Bool) → IsReduced nodes → id < length nodes → b (level_of nodes id) ≡ bit → means nodes id b ≡ means nodes (cond bit (at nodes id).hi (at nodes id).lo) b
+step_down : (nodes : List Node) (b : Bits) (id : ℕ) (bit : Bool) → IsReduced nodes → id < length nodes
+    → b (level_of nodes id) ≡ bit → means nodes id b ≡ means nodes (cond bit (at nodes id).hi (at nodes id).lo) b
 step_down nodes b id bit r lt is = means_chosen nodes r b id lt ∙ ap (λ (t : Bool). means nodes (cond t (at nodes id).hi (at nodes id).lo) b) is
 
-pub went_hi : (nodes there : List Node) (b : Bits) (id level next : ℕ) → there ≡ nodes → IsReduced nodes → id < length nodes → level ≡ level_of there id → b level ≡ true → next ≡ (at there id).hi → means nodes id b ≡ means nodes next b
+pub went_hi : (nodes there : List Node) (b : Bits) (id level next : ℕ) → there ≡ nodes → IsReduced nodes
+    → id < length nodes → level ≡ level_of there id → b level ≡ true → next ≡ (at there id).hi
+    → means nodes id b ≡ means nodes next b
 went_hi nodes there b id level next same r lt is bit to =
     step_down nodes b id true r lt (ap b (sym (is ∙ ap (λ (xs : List Node). level_of xs id) same)) ∙ bit)
     ∙ ap (λ (x : ℕ). means nodes x b) (sym (to ∙ ap (λ (xs : List Node). (at xs id).hi) same))
 
-pub went_lo : (nodes there : List Node) (b : Bits) (id level next : ℕ) → there ≡ nodes → IsReduced nodes → id < length nodes → level ≡ level_of there id → b level ≡ false → next ≡ (at there id).lo → means nodes id b ≡ means nodes next b
+pub went_lo : (nodes there : List Node) (b : Bits) (id level next : ℕ) → there ≡ nodes → IsReduced nodes
+    → id < length nodes → level ≡ level_of there id → b level ≡ false → next ≡ (at there id).lo
+    → means nodes id b ≡ means nodes next b
 went_lo nodes there b id level next same r lt is bit to =
     step_down nodes b id false r lt (ap b (sym (is ∙ ap (λ (xs : List Node). level_of xs id) same)) ∙ bit)
     ∙ ap (λ (x : ℕ). means nodes x b) (sym (to ∙ ap (λ (xs : List Node). (at xs id).lo) same))
@@ -56,7 +65,8 @@ ended nodes b id r le = go id le
 
 -- what the walk ends with
 pub walked : (o : Layout) (nodes : List Node) (set id : ℕ) (s : List ℕ) → IsReduced nodes → id ≤ 1
-    → ((b : Bits) → IsCode o 0 s b → means nodes set (plain o b) ≡ means nodes id (plain o b)) → (b : Bits) → IsCode o 0 s b → means nodes set (plain o b) ≡ eqb id 1
+    → ((b : Bits) → IsCode o 0 s b → means nodes set (plain o b) ≡ means nodes id (plain o b)) → (b : Bits)
+    → IsCode o 0 s b → means nodes set (plain o b) ≡ eqb id 1
 walked o nodes set id s r le same b code = same b code ∙ ended nodes (plain o b) id r le
 
 -- of a set of states the plain bits tell what it has

@@ -14,12 +14,16 @@ abbrev Agree : Layout → Bits → Bits → Type 0
 Agree o b c = (place : ℕ) → place < bits o → b (level_at 0 place) ≡ c (level_at 0 place)
 
 same_value : (o : Layout) (b c : Bits) (slot : ℕ) → IsLayout o → Agree o b c → value_at o 0 b slot ≡ value_at o 0 c slot
-same_value o b c slot l agree = number_same b c 0 0 (block_at o slot).width (block_at o slot).first (λ k below. agree ((block_at o slot).first + k) (l.owned slot ((block_at o slot).first + k) (record { from = omega arith; before = omega (arith, below) })).0)
+same_value o b c slot l agree = number_same b c 0 0 (block_at o slot).width (block_at o slot).first
+    (λ k below. agree ((block_at o slot).first + k) (l.owned slot ((block_at o slot).first + k)
+    (record { from = omega arith; before = omega (arith, below) })).0)
 
 same_number : (o : Layout) (b c : Bits) (var : ℕ) → IsLayout o → Agree o b c → value_of o 0 b var ≡ value_of o 0 c var
 same_number o b c var l agree = go (slot_of o var)
   where
-    go : (x : Option ℕ) → number b 0 (option_map_or (block_at o) x no_block).first (option_map_or (block_at o) x no_block).width ≡ number c 0 (option_map_or (block_at o) x no_block).first (option_map_or (block_at o) x no_block).width
+    go : (x : Option ℕ) → number b 0 (option_map_or (block_at o) x no_block).first
+        (option_map_or (block_at o) x no_block).width ≡ number c 0 (option_map_or (block_at o) x no_block).first
+        (option_map_or (block_at o) x no_block).width
     go None = number_same b c 0 0 0 0 (λ k lt. absurd (omega (arith, lt)))
     go (Some slot) = same_value o b c slot l agree
 
@@ -35,25 +39,30 @@ turned : (o : Layout) (b c : Bits) → Agree o b c → Agree o c b
 turned o b c agree place lt = sym (agree place lt)
 
 -- the set of a fact, of one state, and of all
-pub fact_of_states : (o : Layout) (nodes : List Node) (id var value : ℕ) → IsLayout o → ((b : Bits) → means nodes id b ≡ (value_of o 0 b var == value)) → IsSetOfStates o nodes id
+pub fact_of_states : (o : Layout) (nodes : List Node) (id var value : ℕ) → IsLayout o
+    → ((b : Bits) → means nodes id b ≡ (value_of o 0 b var == value)) → IsSetOfStates o nodes id
 fact_of_states o nodes id var value l is b c agree = is b ∙ ap (λ (x : ℕ). x == value) (same_number o b c var l agree) ∙ sym (is c)
 
-pub state_of_states : (o : Layout) (nodes : List Node) (id : ℕ) (s : List ℕ) → IsLayout o → ((b : Bits) → (means nodes id b ≡ true) ↔ IsCode o 0 s b) → IsSetOfStates o nodes id
+pub state_of_states : (o : Layout) (nodes : List Node) (id : ℕ) (s : List ℕ) → IsLayout o
+    → ((b : Bits) → (means nodes id b ≡ true) ↔ IsCode o 0 s b) → IsSetOfStates o nodes id
 state_of_states o nodes id s l is b c agree = same_truth (means nodes id b) (means nodes id c)
     (λ h. (is c).1 (same_code o s b c l agree ((is b).0 h)))
     (λ h. (is b).1 (same_code o s c b l (turned o b c agree) ((is c).0 h)))
 
-pub valid_of_states : (o : Layout) (nodes : List Node) (id : ℕ) → IsLayout o → ((b : Bits) → (means nodes id b ≡ true) ↔ IsOfState o b) → IsSetOfStates o nodes id
+pub valid_of_states : (o : Layout) (nodes : List Node) (id : ℕ) → IsLayout o
+    → ((b : Bits) → (means nodes id b ≡ true) ↔ IsOfState o b) → IsSetOfStates o nodes id
 valid_of_states o nodes id l is b c agree = same_truth (means nodes id b) (means nodes id c)
     (λ h. (let s = (is b).0 h in (is c).1 (s.0, s.1, same_code o s.0 b c l agree s.2)))
     (λ h. (let s = (is c).0 h in (is b).1 (s.0, s.1, same_code o s.0 c b l (turned o b c agree) s.2)))
 
 -- the set of a fact by states
-pub fact_by_states : (o : Layout) (nodes : List Node) (id var value : ℕ) → IsLayout o → IsSome (slot_of o var) → ((b : Bits) → means nodes id b ≡ (value_of o 0 b var == value))
+pub fact_by_states : (o : Layout) (nodes : List Node) (id var value : ℕ) → IsLayout o → IsSome (slot_of o var)
+    → ((b : Bits) → means nodes id b ≡ (value_of o 0 b var == value))
     → (s : List ℕ) (b : Bits) → IsCode o 0 s b → means nodes id b ≡ (value_in o s var == value)
 fact_by_states o nodes id var value l some is s b code = is b ∙ ap (λ (x : ℕ). x == value) (code_spells o 0 s b var l code some)
 
-pub next_fact_by_states : (o : Layout) (nodes : List Node) (id var value : ℕ) → IsLayout o → IsSome (slot_of o var) → ((b : Bits) → means nodes id b ≡ (value_of o 1 b var == value))
+pub next_fact_by_states : (o : Layout) (nodes : List Node) (id var value : ℕ) → IsLayout o → IsSome (slot_of o var)
+    → ((b : Bits) → means nodes id b ≡ (value_of o 1 b var == value))
     → (s : List ℕ) (b : Bits) → IsCode o 1 s b → means nodes id b ≡ (value_in o s var == value)
 next_fact_by_states o nodes id var value l some is s b code = is b ∙ ap (λ (x : ℕ). x == value) (code_spells o 1 s b var l code some)
 

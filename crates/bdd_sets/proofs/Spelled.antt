@@ -26,10 +26,13 @@ spells_there o s blocks values b slot e f =
 
 pub within_there : (o : Layout) (blocks : List Block) (b : Bits) (slot : ℕ) → blocks ≡ o.blocks
     → leb (number b 0 (get_or blocks slot no_block).first (get_or blocks slot no_block).width) ((get_or blocks slot no_block).values - 1) ≡ is_within o b slot
-within_there o blocks b slot e = ap (λ (xs : List Block). leb (number b 0 (get_or xs slot no_block).first (get_or xs slot no_block).width) ((get_or xs slot no_block).values - 1)) e
+within_there o blocks b slot e = ap (λ (xs : List Block). leb
+    (number b 0 (get_or xs slot no_block).first (get_or xs slot no_block).width)
+    ((get_or xs slot no_block).values - 1)) e
 
 -- all spell theirs exactly where the bits are the state's
-pub all_spell : (o : Layout) (s : List ℕ) (b : Bits) (from : ℕ) → from ≤ 0 → length s ≡ length o.blocks → PassFrom (spells o s b) from (length o.blocks) ↔ IsCode o 0 s b
+pub all_spell : (o : Layout) (s : List ℕ) (b : Bits) (from : ℕ) → from ≤ 0 → length s ≡ length o.blocks
+    → PassFrom (spells o s b) from (length o.blocks) ↔ IsCode o 0 s b
 all_spell o s b from none each = (
   (λ pass. record { each = each; values = λ slot lt. eqb-true (value_at o 0 b slot) (get_or s slot 0) (pass slot (omega (arith, none)) lt) }),
   (λ code slot low lt. eq-eqb (value_at o 0 b slot) (get_or s slot 0) (code.values slot lt)),
@@ -42,7 +45,8 @@ all_within o b from l none = (
       let some = (l.sized slot lt).some in
       let le = leb-true (value_at o 0 b slot) ((block_at o slot).values - 1) (pass slot (omega (arith, none)) lt) in
       omega (arith, some, le)))),
-  (λ state slot low lt. (let below = code_in_range o 0 state.0 b state.1 state.2 slot lt in le-leb (value_at o 0 b slot) ((block_at o slot).values - 1) (omega (arith, below)))),
+  (λ state slot low lt. (let below = code_in_range o 0 state.0 b state.1 state.2 slot lt in le-leb
+      (value_at o 0 b slot) ((block_at o slot).values - 1) (omega (arith, below)))),
 )
 
 -- what holds of a meaning holds of what it is

@@ -21,7 +21,9 @@ same_number false true m n value is lt = (let le = leb-true m value is in ne_eqb
 same_number false false m n value is lt = ap (λ (x : ℕ). eqb x value) (let e : 0 * m + n ≡ n = omega arith in e)
 
 -- where the bits spell at most the bound
-least_number : (t u : Bool) (m n most : ℕ) → leb m most ≡ u → n < m → leb (digit t * m + n) most ≡ cond u (not t || leb n (cond u (most - m) most)) (not t && leb n (cond u (most - m) most))
+least_number : (t u : Bool) (m n most : ℕ) → leb m most ≡ u → n < m
+    → leb (digit t * m + n) most ≡ cond u (not t || leb n (cond u (most - m) most))
+    (not t && leb n (cond u (most - m) most))
 least_number true true m n most is lt = (let le = leb-true m most is in elim (cases_lt (most - m) n) [
   | inl over ↦ lt-leb (1 * m + n) most (omega (arith, over, le)) ∙ sym (lt-leb n (most - m) over)
   | inr under ↦ le-leb (1 * m + n) most (omega (arith, under, le)) ∙ sym (le-leb n (most - m) under)
@@ -51,7 +53,8 @@ value_split b next p w below value bit rest e split =
     ∙ ap (λ (x : ℕ). eqb x value) (sym (number_one_more b next p w below e))
 
 pub most_split : (b : Bits) (next p w below most : ℕ) (bit : Bool) (rest : ℕ) → w ≡ below + 1 → IsSplit below most bit rest
-    → cond bit (not (b (level_at next p)) || leb (number b next (p + 1) below) rest) (not (b (level_at next p)) && leb (number b next (p + 1) below) rest) ≡ leb (number b next p w) most
+    → cond bit (not (b (level_at next p)) || leb (number b next (p + 1) below) rest)
+    (not (b (level_at next p)) && leb (number b next (p + 1) below) rest) ≡ leb (number b next p w) most
 most_split b next p w below most bit rest e split =
     let t = b (level_at next p) in
     let n = number b next (p + 1) below in

@@ -23,7 +23,8 @@ one_or_none : (p : State → Bool) (xs : List State) → ((s : State) × Listed 
 one_or_none p [] = inr (λ s h. absurd h)
 one_or_none p (x ∷ xs) = at (p x) refl (one_or_none p xs)
   where
-    at : (b : Bool) → p x ≡ b → ((s : State) × Listed xs s × (p s ≡ true)) ⊎ ((s : State) → Listed xs s → p s ≡ false) → ((s : State) × Listed (x ∷ xs) s × (p s ≡ true)) ⊎ ((s : State) → Listed (x ∷ xs) s → p s ≡ false)
+    at : (b : Bool) → p x ≡ b → ((s : State) × Listed xs s × (p s ≡ true)) ⊎ ((s : State) → Listed xs s → p s ≡ false)
+        → ((s : State) × Listed (x ∷ xs) s × (p s ≡ true)) ⊎ ((s : State) → Listed (x ∷ xs) s → p s ≡ false)
     at true e rest = inl (x, inl refl, e)
     at false e (inl r) = inl (r.0, inr r.1, r.2)
     at false e (inr none) = inr (λ s h. elim h [ inl here ↦ ap p (sym here) ∙ e | inr there ↦ none s there ])
@@ -59,7 +60,9 @@ module _ (e : Symbolic) (start : List ℕ) (i : IsSpace e start) (a f : ℕ) (is
   pub same_says : (b g : ℕ) → set_at e.sets b ≡ Some g → (f ≡ g) ↔ HasSame (seen e) a b
   same_says b g there = (
     (λ same s. seen_is s ∙ ap (λ (x : ℕ). has_state e.order e.nodes x s) same ∙ sym (has_there e b g s there)),
-    (λ same. same_sets e.order e.nodes f g i.order.layout i.reduced known (id_there e.order e.nodes e.sets b g i.sets there) (λ s. sym (seen_is s) ∙ same s ∙ has_there e b g s there)),
+    (λ same. same_sets e.order e.nodes f g i.order.layout i.reduced known
+        (id_there e.order e.nodes e.sets b g i.sets there)
+        (λ s. sym (seen_is s) ∙ same s ∙ has_there e b g s there)),
   )
 
   -- a state is one of the set where the Id is true by all bits of it

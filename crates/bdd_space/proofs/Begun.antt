@@ -38,7 +38,9 @@ module _ (task : TaskParts) (o : Layout) (fits : Fits task) (order : IsOrderOf t
   start_is s i = one_initial task s (system_of task).initial i (start_law task fits)
 
   pub initial_state : (s : List ℕ) → IsInitial task s → IsStateOf o s
-  initial_state s i = subst (IsStateOf o) (sym (start_is s i)) (state_of task o (system_of task).initial order ((states_law task (system_of task).initial).1 (start_listed task fits)))
+  initial_state s i = subst (IsStateOf o) (sym (start_is s i))
+      (state_of task o (system_of task).initial order ((states_law task (system_of task).initial).1
+      (start_listed task fits)))
 
   start_names : (s : List ℕ) (F : Bits → Bool) → IsInitial task s → ((b : Bits) → (F b ≡ true) ↔ IsCode o 0 s b) → Names o (λ t. t ≡ (system_of task).initial) F
   start_names s F i is b = (
@@ -46,7 +48,8 @@ module _ (task : TaskParts) (o : Layout) (fits : Fits task) (order : IsOrderOf t
     (λ (t, state, code, same). (is b).1 (subst (λ (u : List ℕ). IsCode o 0 u b) (same ∙ sym (start_is s i)) code)),
   )
 
-  goal_names : (all facts F : Bits → Bool) → Names o (Listed (system_of task).states) all → ((s : List ℕ) (b : Bits) → IsCode o 0 s b → IsStateOf o s → (facts b ≡ true) ↔ All (Holds task s) task.goal)
+  goal_names : (all facts F : Bits → Bool) → Names o (Listed (system_of task).states) all
+      → ((s : List ℕ) (b : Bits) → IsCode o 0 s b → IsStateOf o s → (facts b ≡ true) ↔ All (Holds task s) task.goal)
       → ((b : Bits) → F b ≡ (all b && facts b)) → Names o (λ s. IsTrue ((system_of task).goal s)) F
   goal_names all facts F every says both b = (
     (λ h. (
@@ -71,7 +74,9 @@ module _ (task : TaskParts) (o : Layout) (fits : Fits task) (order : IsOrderOf t
       let every_c = alike_those o b c (Listed (system_of task).states) own.all own.all (kept_alike b c own.all bc in_b) every in
       record {
         all = alike_those o c d (Listed (system_of task).states) own.all own.all (kept_alike c d own.all cd every_c.known) every_c;
-        start = alike_those o c d (λ t. t ≡ (system_of task).initial) own.start own.start (kept_alike c d own.start cd in_c) (record { known = in_c; names = start_names s (means c own.start) i start });
+        start = alike_those o c d (λ t. t ≡ (system_of task).initial) own.start own.start
+            (kept_alike c d own.start cd in_c)
+            (record { known = in_c; names = start_names s (means c own.start) i start });
         goals = record {
           known = in_d;
           names = goal_names (means c own.all) (means c facts) (means d own.goals) every_c.names

@@ -62,65 +62,102 @@ module _ (e old : Symbolic) (start : List ℕ) (i : IsSpace e start) (same : e �
     asked_by = (let k = known_by in record { relations = i.relations; states = k.set })
 
     module _ {E : Type 0} (new : List Node) (r : Result ℕ E) (known : IfOk r (λ id. id < length new)) where
-      pub goals_by : IfOk r (λ id. (b : Bits) → means new id b ≡ (means e.nodes f b && means e.nodes e.own.goals b)) → IfOk r (Makes (over e new) (GoalIn (seen old) a))
-      goals_by meaning = ok_both r (λ id. id < length new) (λ id. (b : Bits) → means new id b ≡ (means e.nodes f b && means e.nodes e.own.goals b)) (Makes (over e new) (GoalIn (seen old) a)) known meaning
+      pub goals_by : IfOk r (λ id. (b : Bits) → means new id b ≡ (means e.nodes f b && means e.nodes e.own.goals b))
+          → IfOk r (Makes (over e new) (GoalIn (seen old) a))
+      goals_by meaning = ok_both r (λ id. id < length new) (λ id. (b : Bits) → means new id b
+          ≡ (means e.nodes f b && means e.nodes e.own.goals b))
+          (Makes (over e new) (GoalIn (seen old) a)) known meaning
           (λ id k m. subst (λ (x : Symbolic). Makes (over e new) (GoalIn (seen x) a) id) same (goals_made e start i a f here new id k m))
 
       module _ (b g : ℕ) (is_too : set_at old.sets b ≡ Some g) where
         there : set_at e.sets b ≡ Some g
         there = ap (λ (x : Symbolic). set_at x.sets b) same ∙ is_too
 
-        pub united_by : IfOk r (λ id. (v : Bits) → means new id v ≡ (means e.nodes f v || means e.nodes g v)) → IfOk r (Makes (over e new) (Unites (seen old) a b))
-        united_by meaning = ok_both r (λ id. id < length new) (λ id. (v : Bits) → means new id v ≡ (means e.nodes f v || means e.nodes g v)) (Makes (over e new) (Unites (seen old) a b)) known meaning
+        pub united_by : IfOk r (λ id. (v : Bits) → means new id v ≡ (means e.nodes f v || means e.nodes g v))
+            → IfOk r (Makes (over e new) (Unites (seen old) a b))
+        united_by meaning = ok_both r (λ id. id < length new)
+            (λ id. (v : Bits) → means new id v ≡ (means e.nodes f v || means e.nodes g v))
+            (Makes (over e new) (Unites (seen old) a b)) known meaning
             (λ id k m. subst (λ (x : Symbolic). Makes (over e new) (Unites (seen x) a b) id) same (united_made e start i a f here b g there new id k m))
 
-        pub common_by : IfOk r (λ id. (v : Bits) → means new id v ≡ (means e.nodes f v && means e.nodes g v)) → IfOk r (Makes (over e new) (Meets (seen old) a b))
-        common_by meaning = ok_both r (λ id. id < length new) (λ id. (v : Bits) → means new id v ≡ (means e.nodes f v && means e.nodes g v)) (Makes (over e new) (Meets (seen old) a b)) known meaning
+        pub common_by : IfOk r (λ id. (v : Bits) → means new id v ≡ (means e.nodes f v && means e.nodes g v))
+            → IfOk r (Makes (over e new) (Meets (seen old) a b))
+        common_by meaning = ok_both r (λ id. id < length new)
+            (λ id. (v : Bits) → means new id v ≡ (means e.nodes f v && means e.nodes g v))
+            (Makes (over e new) (Meets (seen old) a b)) known meaning
             (λ id k m. subst (λ (x : Symbolic). Makes (over e new) (Meets (seen x) a b) id) same (common_made e start i a f here b g there new id k m))
 
-        pub left_by : IfOk r (λ id. (v : Bits) → means new id v ≡ (means e.nodes f v && not (means e.nodes g v))) → IfOk r (Makes (over e new) (Lacks (seen old) a b))
-        left_by meaning = ok_both r (λ id. id < length new) (λ id. (v : Bits) → means new id v ≡ (means e.nodes f v && not (means e.nodes g v))) (Makes (over e new) (Lacks (seen old) a b)) known meaning
+        pub left_by : IfOk r (λ id. (v : Bits) → means new id v ≡ (means e.nodes f v && not (means e.nodes g v)))
+            → IfOk r (Makes (over e new) (Lacks (seen old) a b))
+        left_by meaning = ok_both r (λ id. id < length new) (λ id. (v : Bits) → means new id v
+            ≡ (means e.nodes f v && not (means e.nodes g v)))
+            (Makes (over e new) (Lacks (seen old) a b)) known meaning
             (λ id k m. subst (λ (x : Symbolic). Makes (over e new) (Lacks (seen x) a b) id) same (left_made e start i a f here b g there new id k m))
 
       -- images
 
-      pub image_by : (op : ℕ) → IfOk r (λ id. (task : TaskParts) (o : Layout) → AreAsked task o e.nodes e.relations f → Names o (ImageBy o (λ s t. Step task s op t) (means e.nodes f)) (means new id)) → IfOk r (Makes (over e new) (Image (seen old) op a))
-      image_by op names = ok_both r (λ id. id < length new) (λ id. (task : TaskParts) (o : Layout) → AreAsked task o e.nodes e.relations f → Names o (ImageBy o (λ s t. Step task s op t) (means e.nodes f)) (means new id)) (Makes (over e new) (Image (seen old) op a)) known names
-          (λ id k m. subst (λ (x : Symbolic). Makes (over e new) (Image (seen x) op a) id) same (image_made e start i a f here op new id (record { known = k; names = m e.task e.order asked_by })))
+      pub image_by : (op : ℕ) → IfOk r (λ id. (task : TaskParts) (o : Layout) → AreAsked task o e.nodes e.relations f
+          → Names o (ImageBy o (λ s t. Step task s op t) (means e.nodes f)) (means new id))
+          → IfOk r (Makes (over e new) (Image (seen old) op a))
+      image_by op names = ok_both r (λ id. id < length new) (λ id. (task : TaskParts) (o : Layout) → AreAsked task o
+          e.nodes e.relations f → Names o (ImageBy o (λ s t. Step task s op t) (means e.nodes f)) (means new id))
+          (Makes (over e new) (Image (seen old) op a)) known names
+          (λ id k m. subst (λ (x : Symbolic). Makes (over e new) (Image (seen x) op a) id) same
+          (image_made e start i a f here op new id (record { known = k; names = m e.task e.order asked_by })))
 
-      pub cost_image_by : (cost : ℕ) → IfOk r (λ id. (task : TaskParts) (o : Layout) → AreAsked task o e.nodes e.relations f → Names o (ImageBy o (StepOfCost task cost) (means e.nodes f)) (means new id)) → IfOk r (Makes (over e new) (CostImage (seen old) cost a))
-      cost_image_by cost names = ok_both r (λ id. id < length new) (λ id. (task : TaskParts) (o : Layout) → AreAsked task o e.nodes e.relations f → Names o (ImageBy o (StepOfCost task cost) (means e.nodes f)) (means new id)) (Makes (over e new) (CostImage (seen old) cost a)) known names
-          (λ id k m. subst (λ (x : Symbolic). Makes (over e new) (CostImage (seen x) cost a) id) same (cost_image_made e start i a f here cost new id (record { known = k; names = m e.task e.order asked_by })))
+      pub cost_image_by : (cost : ℕ) → IfOk r (λ id. (task : TaskParts) (o : Layout) → AreAsked task o e.nodes
+          e.relations f → Names o (ImageBy o (StepOfCost task cost) (means e.nodes f)) (means new id))
+          → IfOk r (Makes (over e new) (CostImage (seen old) cost a))
+      cost_image_by cost names = ok_both r (λ id. id < length new)
+          (λ id. (task : TaskParts) (o : Layout) → AreAsked task o e.nodes e.relations f
+          → Names o (ImageBy o (StepOfCost task cost) (means e.nodes f)) (means new id))
+          (Makes (over e new) (CostImage (seen old) cost a)) known names
+          (λ id k m. subst (λ (x : Symbolic). Makes (over e new) (CostImage (seen x) cost a) id) same
+          (cost_image_made e start i a f here cost new id
+          (record { known = k; names = m e.task e.order asked_by })))
 
     -- the states where a fact holds: `facts` over the table in the middle
 
     module _ {E : Type 0} (fact : Fact) (base : IsBase old.task fact.var) (mid new : List Node) (facts : ℕ) (k : Keeps e.nodes mid)
-        (r : Result ℕ E) (known : IfOk r (λ id. id < length new)) (meaning : IfOk r (λ id. (v : Bits) → means new id v ≡ (means mid f v && means mid facts v))) where
-      pub fact_by : ((s : List ℕ) (b : Bits) → IsCode e.order 0 s b → means mid facts b ≡ (value_in e.order s fact.var == fact.val)) → IfOk r (Makes (over e new) (FactIn (seen old) fact a))
-      fact_by says = ok_both r (λ id. id < length new) (λ id. (v : Bits) → means new id v ≡ (means mid f v && means mid facts v)) (Makes (over e new) (FactIn (seen old) fact a)) known meaning
+        (r : Result ℕ E) (known : IfOk r (λ id. id < length new))
+        (meaning : IfOk r (λ id. (v : Bits) → means new id v ≡ (means mid f v && means mid facts v))) where
+      pub fact_by : ((s : List ℕ) (b : Bits) → IsCode e.order 0 s b
+          → means mid facts b ≡ (value_in e.order s fact.var == fact.val))
+          → IfOk r (Makes (over e new) (FactIn (seen old) fact a))
+      fact_by says = ok_both r (λ id. id < length new) (λ id. (v : Bits) → means new id v
+          ≡ (means mid f v && means mid facts v)) (Makes (over e new) (FactIn (seen old) fact a)) known meaning
           (λ id in_new m. subst (λ (x : Symbolic). Makes (over e new) (FactIn (seen x) fact a) id) same
           (fact_made e start i fact (base_by fact base) a f here mid new facts id k in_new m says))
 
     -- preimages: `found` over the table in the middle, cut to the other set
 
-    module _ {E : Type 0} (within g : ℕ) (is_too : set_at old.sets within ≡ Some g) (mid new : List Node) (found : ℕ) (k : Keeps e.nodes mid) (at : found < length mid)
-        (r : Result ℕ E) (known : IfOk r (λ id. id < length new)) (meaning : IfOk r (λ id. (v : Bits) → means new id v ≡ (means mid found v && means mid g v))) where
+    module _ {E : Type 0} (within g : ℕ) (is_too : set_at old.sets within ≡ Some g) (mid new : List Node) (found : ℕ)
+        (k : Keeps e.nodes mid) (at : found < length mid)
+        (r : Result ℕ E) (known : IfOk r (λ id. id < length new))
+        (meaning : IfOk r (λ id. (v : Bits) → means new id v ≡ (means mid found v && means mid g v))) where
       inside : set_at e.sets within ≡ Some g
       inside = ap (λ (x : Symbolic). set_at x.sets within) same ∙ is_too
 
-      pub preimage_by : (op : ℕ) → Names e.order (PreimageBy e.order (λ s t. Step e.task s op t) (means e.nodes f)) (means mid found) → IfOk r (Makes (over e new) (Preimage (seen old) op a within))
-      preimage_by op names = ok_both r (λ id. id < length new) (λ id. (v : Bits) → means new id v ≡ (means mid found v && means mid g v)) (Makes (over e new) (Preimage (seen old) op a within)) known meaning
+      pub preimage_by : (op : ℕ) → Names e.order (PreimageBy e.order (λ s t. Step e.task s op t) (means e.nodes f))
+          (means mid found) → IfOk r (Makes (over e new) (Preimage (seen old) op a within))
+      preimage_by op names = ok_both r (λ id. id < length new)
+          (λ id. (v : Bits) → means new id v ≡ (means mid found v && means mid g v))
+          (Makes (over e new) (Preimage (seen old) op a within)) known meaning
           (λ id in_new m. subst (λ (x : Symbolic). Makes (over e new) (Preimage (seen x) op a within) id) same
           (preimage_made e start i a f here within g inside mid new found id k in_new m op (record { known = at; names = names })))
 
-      pub cost_preimage_by : (cost : ℕ) → Names e.order (PreimageBy e.order (StepOfCost e.task cost) (means e.nodes f)) (means mid found) → IfOk r (Makes (over e new) (CostPreimage (seen old) cost a within))
-      cost_preimage_by cost names = ok_both r (λ id. id < length new) (λ id. (v : Bits) → means new id v ≡ (means mid found v && means mid g v)) (Makes (over e new) (CostPreimage (seen old) cost a within)) known meaning
+      pub cost_preimage_by : (cost : ℕ) → Names e.order (PreimageBy e.order (StepOfCost e.task cost)
+          (means e.nodes f)) (means mid found) → IfOk r (Makes (over e new) (CostPreimage (seen old) cost a within))
+      cost_preimage_by cost names = ok_both r (λ id. id < length new)
+          (λ id. (v : Bits) → means new id v ≡ (means mid found v && means mid g v))
+          (Makes (over e new) (CostPreimage (seen old) cost a within)) known meaning
           (λ id in_new m. subst (λ (x : Symbolic). Makes (over e new) (CostPreimage (seen x) cost a within) id) same
           (cost_preimage_made e start i a f here within g inside mid new found id k in_new m cost (record { known = at; names = names })))
 
 -- a set is added, or it is out of memory
 
-module _ {E : Type 0} (e old : Symbolic) (start : List ℕ) (i : IsSpace e start) (same : e ≡ old) (id : ℕ) (new : List Slot) (r : Result ℕ E) (ok : IfOk r (Puts e.sets id new)) (err : OnErr r (new ≡ e.sets)) where
+module _ {E : Type 0} (e old : Symbolic) (start : List ℕ) (i : IsSpace e start) (same : e ≡ old) (id : ℕ)
+    (new : List Slot) (r : Result ℕ E) (ok : IfOk r (Puts e.sets id new)) (err : OnErr r (new ≡ e.sets)) where
   known_inside : IsKnownSet old.order old.nodes id → IsKnownSet e.order e.nodes id
   known_inside k = subst (λ (x : Symbolic). IsKnownSet x.order x.nodes id) (sym same) k
 

@@ -34,7 +34,8 @@ fills (block ∷ blocks) (x ∷ s) h =
       in_range = λ slot. at slot (ltb-true x block.values both.0) rest;
     }
   where
-    at : (slot : ℕ) → x < block.values → Fills blocks s → slot < length (block ∷ blocks) → get_or (x ∷ s) slot 0 < (get_or (block ∷ blocks) slot no_block).values
+    at : (slot : ℕ) → x < block.values → Fills blocks s → slot < length (block ∷ blocks)
+        → get_or (x ∷ s) slot 0 < (get_or (block ∷ blocks) slot no_block).values
     at zero first rest lt = first
     at (suc slot) first rest lt = rest.in_range slot (omega arith)
 
@@ -64,7 +65,8 @@ unfolding code_of
 code_law o s l state =
     let code = coded o s l state in
     same_code o s code.0 (code_of o s) l
-    (λ p lt. ap (λ (q : ℕ). digit o s q == 1) (let e : level_at 0 p / 2 ≡ p = omega arith in e) ∙ is_one (code.0 (level_at 0 p)) (digit o s p) (code_digit o 0 s code.0 p l code.1 lt))
+    (λ p lt. ap (λ (q : ℕ). digit o s q == 1) (let e : level_at 0 p / 2 ≡ p = omega arith in e)
+    ∙ is_one (code.0 (level_at 0 p)) (digit o s p) (code_digit o 0 s code.0 p l code.1 lt))
     code.1
 
 -- which states an Id has
@@ -81,17 +83,23 @@ has_from o nodes id s state m = and_from (is_state o.blocks s) (means nodes id (
 pub has_member : (o : Layout) (nodes : List Node) (id : ℕ) (s : List ℕ) → IsLayout o → has_state o nodes id s ≡ true → HasMember o (means nodes id) s
 has_member o nodes id s l h = let both = has_parts o nodes id s h in (code_of o s, code_law o s l both.0, both.1)
 
-pub member_has : (o : Layout) (nodes : List Node) (id : ℕ) (s : List ℕ) → IsLayout o → IsSet o (means nodes id) → IsStateOf o s → HasMember o (means nodes id) s → has_state o nodes id s ≡ true
+pub member_has : (o : Layout) (nodes : List Node) (id : ℕ) (s : List ℕ) → IsLayout o → IsSet o (means nodes id)
+    → IsStateOf o s → HasMember o (means nodes id) s → has_state o nodes id s ≡ true
 member_has o nodes id s l set state member = has_from o nodes id s state ((set (code_of o s)).1 (s, state, code_law o s l state, member))
 
 -- an Id that has those states is a set, and has them
 pub set_of_those : (o : Layout) (nodes : List Node) (P : List ℕ → Type 0) (id : ℕ) → HasThose o nodes P id → IsKnownSet o nodes id
 set_of_those o nodes P id h = record { known = h.known; set = set_of_names o P (means nodes id) h.names }
 
-pub those_has : (o : Layout) (nodes : List Node) (P : List ℕ → Type 0) (id : ℕ) (s : List ℕ) → IsLayout o → HasThose o nodes P id → has_state o nodes id s ≡ true → IsStateOf o s × P s
-those_has o nodes P id s l h has = let member = has_member o nodes id s l has in ((has_parts o nodes id s has).0, member_named o P (means nodes id) s h.names member)
+pub those_has : (o : Layout) (nodes : List Node) (P : List ℕ → Type 0) (id : ℕ) (s : List ℕ) → IsLayout o
+    → HasThose o nodes P id → has_state o nodes id s ≡ true → IsStateOf o s × P s
+those_has o nodes P id s l h has = let member = has_member o nodes id s l has in (
+  (has_parts o nodes id s has).0,
+  member_named o P (means nodes id) s h.names member,
+)
 
-pub has_those : (o : Layout) (nodes : List Node) (P : List ℕ → Type 0) (id : ℕ) (s : List ℕ) → IsLayout o → HasThose o nodes P id → IsStateOf o s → P s → has_state o nodes id s ≡ true
+pub has_those : (o : Layout) (nodes : List Node) (P : List ℕ → Type 0) (id : ℕ) (s : List ℕ) → IsLayout o
+    → HasThose o nodes P id → IsStateOf o s → P s → has_state o nodes id s ≡ true
 has_those o nodes P id s l h state p = has_from o nodes id s state ((h.names (code_of o s)).1 (s, state, code_law o s l state, p))
 
 -- an Id that means the same has the same states
@@ -103,7 +111,8 @@ alike_has o old new id place s m = ap (λ (x : Bool). is_state o.blocks s && x) 
 pub alike_set : (o : Layout) (old new : List Node) (id place : ℕ) → MeansAs old id new place → IsKnownSet o old id → IsKnownSet o new place
 alike_set o old new id place m k = record { known = m.known; set = set_alike o (means old id) (means new place) m.meaning k.set }
 
-pub alike_those : (o : Layout) (old new : List Node) (P : List ℕ → Type 0) (id place : ℕ) → MeansAs old id new place → HasThose o old P id → HasThose o new P place
+pub alike_those : (o : Layout) (old new : List Node) (P : List ℕ → Type 0) (id place : ℕ) → MeansAs old id new place
+    → HasThose o old P id → HasThose o new P place
 alike_those o old new P id place m h = record {
   known = m.known;
   names = λ b. ((λ t. (h.names b).0 (sym (m.meaning b) ∙ t)), (λ x. m.meaning b ∙ (h.names b).1 x));
@@ -139,15 +148,19 @@ both_not false x y = refl
 module _ (o : Layout) (old new : List Node) (f g id : ℕ) (s : List ℕ) where
   pub conj_has : ((b : Bits) → means new id b ≡ (means old f b && means old g b)) → has_state o new id s ≡ (has_state o old f s && has_state o old g s)
   unfolding has_state
-  conj_has is = ap (λ (x : Bool). is_state o.blocks s && x) (is (code_of o s)) ∙ both_and (is_state o.blocks s) (means old f (code_of o s)) (means old g (code_of o s))
+  conj_has is = ap (λ (x : Bool). is_state o.blocks s && x) (is (code_of o s))
+      ∙ both_and (is_state o.blocks s) (means old f (code_of o s)) (means old g (code_of o s))
 
   pub disj_has : ((b : Bits) → means new id b ≡ (means old f b || means old g b)) → has_state o new id s ≡ (has_state o old f s || has_state o old g s)
   unfolding has_state
-  disj_has is = ap (λ (x : Bool). is_state o.blocks s && x) (is (code_of o s)) ∙ both_or (is_state o.blocks s) (means old f (code_of o s)) (means old g (code_of o s))
+  disj_has is = ap (λ (x : Bool). is_state o.blocks s && x) (is (code_of o s))
+      ∙ both_or (is_state o.blocks s) (means old f (code_of o s)) (means old g (code_of o s))
 
-  pub minus_has : ((b : Bits) → means new id b ≡ (means old f b && not (means old g b))) → has_state o new id s ≡ (has_state o old f s && not (has_state o old g s))
+  pub minus_has : ((b : Bits) → means new id b ≡ (means old f b && not (means old g b)))
+      → has_state o new id s ≡ (has_state o old f s && not (has_state o old g s))
   unfolding has_state
-  minus_has is = ap (λ (x : Bool). is_state o.blocks s && x) (is (code_of o s)) ∙ both_not (is_state o.blocks s) (means old f (code_of o s)) (means old g (code_of o s))
+  minus_has is = ap (λ (x : Bool). is_state o.blocks s && x) (is (code_of o s))
+      ∙ both_not (is_state o.blocks s) (means old f (code_of o s)) (means old g (code_of o s))
 
 -- the Id that is false
 
@@ -176,16 +189,21 @@ both_true true y f g = sym (f refl)
 both_true false true f g = g refl
 both_true false false f g = refl
 
-pub same_sets : (o : Layout) (nodes : List Node) (f g : ℕ) → IsLayout o → IsReduced nodes → IsKnownSet o nodes f → IsKnownSet o nodes g → ((s : List ℕ) → has_state o nodes f s ≡ has_state o nodes g s) → f ≡ g
-same_sets o nodes f g l r sf sg same = canonical nodes r f g sf.known sg.known (λ b. both_true (means nodes f b) (means nodes g b) (to f g sf sg same b) (to g f sg sf (λ s. sym (same s)) b))
+pub same_sets : (o : Layout) (nodes : List Node) (f g : ℕ) → IsLayout o → IsReduced nodes → IsKnownSet o nodes f
+    → IsKnownSet o nodes g → ((s : List ℕ) → has_state o nodes f s ≡ has_state o nodes g s) → f ≡ g
+same_sets o nodes f g l r sf sg same = canonical nodes r f g sf.known sg.known
+    (λ b. both_true (means nodes f b) (means nodes g b) (to f g sf sg same b) (to g f sg sf (λ s. sym (same s)) b))
   where
-    to : (f g : ℕ) → IsKnownSet o nodes f → IsKnownSet o nodes g → ((s : List ℕ) → has_state o nodes f s ≡ has_state o nodes g s) → (b : Bits) → means nodes f b ≡ true → means nodes g b ≡ true
+    to : (f g : ℕ) → IsKnownSet o nodes f → IsKnownSet o nodes g
+        → ((s : List ℕ) → has_state o nodes f s ≡ has_state o nodes g s) → (b : Bits) → means nodes f b ≡ true
+        → means nodes g b ≡ true
     to f g sf sg same b h =
         let x = (sf.set b).0 h in
         let has = member_has o nodes f x.0 l sf.set x.1 x.3 in
         (sg.set b).1 (x.0, x.1, x.2, has_member o nodes g x.0 l (sym (same x.0) ∙ has))
 
-pub empty_is : (o : Layout) (nodes : List Node) (f : ℕ) → IsLayout o → IsReduced nodes → IsKnownSet o nodes f → (f ≡ 0) ↔ ((s : List ℕ) → has_state o nodes f s ≡ false)
+pub empty_is : (o : Layout) (nodes : List Node) (f : ℕ) → IsLayout o → IsReduced nodes → IsKnownSet o nodes f
+    → (f ≡ 0) ↔ ((s : List ℕ) → has_state o nodes f s ≡ false)
 empty_is o nodes f l r sf = (
   (λ e s. ap (λ (id : ℕ). has_state o nodes id s) e ∙ false_has o nodes s),
   (λ none. same_sets o nodes f 0 l r sf (false_set o nodes r) (λ s. none s ∙ sym (false_has o nodes s))),

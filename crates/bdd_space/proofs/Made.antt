@@ -66,15 +66,27 @@ module _ (e : Symbolic) (start : List ℕ) (i : IsSpace e start) where
     seen_is : (s : State) → has_state e.order e.nodes f s ≡ (seen e).has a s
     seen_is s = sym (has_there e a f s is)
 
-    pub goals_made : (new : List Node) (id : ℕ) → id < length new → ((b : Bits) → means new id b ≡ (means e.nodes f b && means e.nodes e.own.goals b)) → Makes (over e new) (GoalIn (seen e) a) id
+    pub goals_made : (new : List Node) (id : ℕ) → id < length new
+        → ((b : Bits) → means new id b ≡ (means e.nodes f b && means e.nodes e.own.goals b))
+        → Makes (over e new) (GoalIn (seen e) a) id
     goals_made new id at both = record {
-      set = conj_set e.order e.nodes new f e.own.goals id i.order.layout known (set_of_those e.order e.nodes (λ s. IsTrue ((system_of e.task).goal s)) e.own.goals i.own.goals) at both;
+      set = conj_set e.order e.nodes new f e.own.goals id i.order.layout known
+          (set_of_those e.order e.nodes (λ s. IsTrue ((system_of e.task).goal s)) e.own.goals i.own.goals) at both;
       has = λ s. (
-          let says = and_says (has_state e.order e.nodes f s) (has_state e.order e.nodes e.own.goals s) (has_state e.order new id s) (conj_has e.order e.nodes new f e.own.goals id s both) in (
-            (λ h. (let x = says.0 h in (sym (seen_is s) ∙ x.0, (those_has e.order e.nodes (λ s. IsTrue ((system_of e.task).goal s)) e.own.goals s i.order.layout i.own.goals x.1).1))),
+          let says = and_says (has_state e.order e.nodes f s) (has_state e.order e.nodes e.own.goals s)
+          (has_state e.order new id s) (conj_has e.order e.nodes new f e.own.goals id s both) in (
+            (λ h. (let x = says.0 h in (
+              sym (seen_is s) ∙ x.0,
+              (those_has e.order e.nodes (λ s. IsTrue ((system_of e.task).goal s)) e.own.goals s
+                  i.order.layout i.own.goals x.1).1,
+            ))),
             (λ (h, goal). (
                 let here = seen_is s ∙ h in
-                says.1 (here, has_those e.order e.nodes (λ s. IsTrue ((system_of e.task).goal s)) e.own.goals s i.order.layout i.own.goals (has_parts e.order e.nodes f s here).0 goal))),
+                says.1 (
+                  here,
+                  has_those e.order e.nodes (λ s. IsTrue ((system_of e.task).goal s)) e.own.goals s
+                      i.order.layout i.own.goals (has_parts e.order e.nodes f s here).0 goal,
+                ))),
           ));
     }
 
@@ -89,19 +101,22 @@ module _ (e : Symbolic) (start : List ℕ) (i : IsSpace e start) where
       united_made either = record {
         set = disj_set e.order e.nodes new f g id i.order.layout known other at either;
         has = λ s. or_says ((seen e).has a s) ((seen e).has b s) (has_state e.order new id s)
-            (disj_has e.order e.nodes new f g id s either ∙ ap (λ (x : Bool). x || has_state e.order e.nodes g s) (seen_is s) ∙ ap (λ (x : Bool). (seen e).has a s || x) (other_is s));
+            (disj_has e.order e.nodes new f g id s either ∙ ap (λ (x : Bool). x || has_state e.order e.nodes g s)
+            (seen_is s) ∙ ap (λ (x : Bool). (seen e).has a s || x) (other_is s));
       }
 
       pub common_made : ((v : Bits) → means new id v ≡ (means e.nodes f v && means e.nodes g v)) → Makes (over e new) (Meets (seen e) a b) id
       common_made both = record {
         set = conj_set e.order e.nodes new f g id i.order.layout known other at both;
         has = λ s. and_says ((seen e).has a s) ((seen e).has b s) (has_state e.order new id s)
-            (conj_has e.order e.nodes new f g id s both ∙ ap (λ (x : Bool). x && has_state e.order e.nodes g s) (seen_is s) ∙ ap (λ (x : Bool). (seen e).has a s && x) (other_is s));
+            (conj_has e.order e.nodes new f g id s both ∙ ap (λ (x : Bool). x && has_state e.order e.nodes g s)
+            (seen_is s) ∙ ap (λ (x : Bool). (seen e).has a s && x) (other_is s));
       }
 
       pub left_made : ((v : Bits) → means new id v ≡ (means e.nodes f v && not (means e.nodes g v))) → Makes (over e new) (Lacks (seen e) a b) id
       left_made one = record {
         set = minus_set e.order e.nodes new f g id i.order.layout known other at one;
         has = λ s. not_says ((seen e).has a s) ((seen e).has b s) (has_state e.order new id s)
-            (minus_has e.order e.nodes new f g id s one ∙ ap (λ (x : Bool). x && not (has_state e.order e.nodes g s)) (seen_is s) ∙ ap (λ (x : Bool). (seen e).has a s && not x) (other_is s));
+            (minus_has e.order e.nodes new f g id s one ∙ ap (λ (x : Bool). x && not (has_state e.order e.nodes g s))
+            (seen_is s) ∙ ap (λ (x : Bool). (seen e).has a s && not x) (other_is s));
       }

@@ -34,18 +34,26 @@ module _ (e : Symbolic) (start : List ℕ) (i : IsSpace e start) (a f : ℕ) (is
     all = λ op s t leads has. m.all op (s, t, leads, has_state s has);
   }
 
-module _ {T E : Type 0} (e old : Symbolic) (start : List ℕ) (i : IsSpace e start) (same : e ≡ old) (a f : ℕ) (is : set_at old.sets a ≡ Some f) (nodes : List Node) (table : nodes ≡ e.nodes) (items : T → List ℕ) (r : Result T E) where
+module _ {T E : Type 0} (e old : Symbolic) (start : List ℕ) (i : IsSpace e start) (same : e ≡ old) (a f : ℕ)
+    (is : set_at old.sets a ≡ Some f) (nodes : List Node) (table : nodes ≡ e.nodes)
+    (items : T → List ℕ) (r : Result T E) where
   here : set_at e.sets a ≡ Some f
   here = subst (λ (x : Symbolic). set_at x.sets a ≡ Some f) (sym same) is
 
-  pub into_by : IfOk r (λ ops. MissNone (length e.task.operators) (LeadsInto e.task e.order nodes f) (items ops)) → IfOk r (λ ops. LeadInto (seen old) a (items ops))
+  pub into_by : IfOk r (λ ops. MissNone (length e.task.operators) (LeadsInto e.task e.order nodes f) (items ops))
+      → IfOk r (λ ops. LeadInto (seen old) a (items ops))
   into_by h =
       IfOk-weaker r (λ ops. MissNone (length e.task.operators) (LeadsInto e.task e.order nodes f) (items ops)) (λ ops. LeadInto (seen old) a (items ops))
       (λ ops m. subst (λ (x : Symbolic). LeadInto (seen x) a (items ops)) same
-      (leads_into e start i a f here (items ops) (subst (λ (ns : List Node). MissNone (length e.task.operators) (LeadsInto e.task e.order ns f) (items ops)) table m))) h
+      (leads_into e start i a f here (items ops)
+      (subst (λ (ns : List Node). MissNone (length e.task.operators) (LeadsInto e.task e.order ns f)
+      (items ops)) table m))) h
 
-  pub from_by : IfOk r (λ ops. MissNone (length e.task.operators) (LeadsFrom e.task e.order nodes f) (items ops)) → IfOk r (λ ops. LeadFrom (seen old) a (items ops))
+  pub from_by : IfOk r (λ ops. MissNone (length e.task.operators) (LeadsFrom e.task e.order nodes f) (items ops))
+      → IfOk r (λ ops. LeadFrom (seen old) a (items ops))
   from_by h =
       IfOk-weaker r (λ ops. MissNone (length e.task.operators) (LeadsFrom e.task e.order nodes f) (items ops)) (λ ops. LeadFrom (seen old) a (items ops))
       (λ ops m. subst (λ (x : Symbolic). LeadFrom (seen x) a (items ops)) same
-      (leads_from e start i a f here (items ops) (subst (λ (ns : List Node). MissNone (length e.task.operators) (LeadsFrom e.task e.order ns f) (items ops)) table m))) h
+      (leads_from e start i a f here (items ops)
+      (subst (λ (ns : List Node). MissNone (length e.task.operators) (LeadsFrom e.task e.order ns f)
+      (items ops)) table m))) h

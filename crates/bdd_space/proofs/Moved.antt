@@ -65,12 +65,14 @@ module _ (e : Symbolic) where
 
   -- those of the relations stand from the fourth on
   relation_root : (i : ℕ) → i < length (relation_roots e.relations) → get_or (roots_of e) (3 + i) 0 ≡ get_or (relation_roots e.relations) i 0
-  relation_root i lt = three_more e.own.all e.own.start e.own.goals (relation_roots e.relations ++ map root_of e.sets) i ∙ before (relation_roots e.relations) (map root_of e.sets) i lt
+  relation_root i lt = three_more e.own.all e.own.start e.own.goals (relation_roots e.relations ++ map root_of e.sets)
+      i ∙ before (relation_roots e.relations) (map root_of e.sets) i lt
 
   -- and behind them those of the sets
   set_root : (a : ℕ) → get_or (roots_of e) (3 + length (relation_roots e.relations) + a) 0 ≡ root_of (get_or e.sets a (Free 0))
   set_root a =
-      ap (λ (k : ℕ). get_or (roots_of e) k 0) (let h : 3 + length (relation_roots e.relations) + a ≡ 3 + (length (relation_roots e.relations) + a) = omega arith in h)
+      ap (λ (k : ℕ). get_or (roots_of e) k 0) (let h : 3 + length (relation_roots e.relations) + a ≡ 3
+      + (length (relation_roots e.relations) + a) = omega arith in h)
       ∙ three_more e.own.all e.own.start e.own.goals (relation_roots e.relations ++ map root_of e.sets) (length (relation_roots e.relations) + a)
       ∙ after (relation_roots e.relations) (map root_of e.sets) a
       ∙ mapped e.sets a
@@ -80,20 +82,24 @@ slot_known nodes o (Holds id) two k = k.known
 slot_known nodes o (Free next) two k = omega (arith, two)
 
 -- each root is an Id of the table
-pub roots_known : (e : Symbolic) (start : List ℕ) → IsSpace e start → All (λ id. id < length e.nodes) (relation_roots e.relations) → (i : ℕ) → i < length (roots_of e) → get_or (roots_of e) i 0 < length e.nodes
+pub roots_known : (e : Symbolic) (start : List ℕ) → IsSpace e start
+    → All (λ id. id < length e.nodes) (relation_roots e.relations) → (i : ℕ) → i < length (roots_of e)
+    → get_or (roots_of e) i 0 < length e.nodes
 roots_known e start is relations zero lt = is.own.all.known
 roots_known e start is relations (suc zero) lt = is.own.start.known
 roots_known e start is relations (suc (suc zero)) lt = is.own.goals.known
 roots_known e start is relations (suc (suc (suc i))) lt = go (cases_lt i (length (relation_roots e.relations)))
   where
-    go : (i < length (relation_roots e.relations)) ⊎ (length (relation_roots e.relations) ≤ i) → get_or (relation_roots e.relations ++ map root_of e.sets) i 0 < length e.nodes
+    go : (i < length (relation_roots e.relations)) ⊎ (length (relation_roots e.relations) ≤ i)
+        → get_or (relation_roots e.relations ++ map root_of e.sets) i 0 < length e.nodes
     go (inl less) = subst (λ (x : ℕ). x < length e.nodes) (sym (before (relation_roots e.relations) (map root_of e.sets) i less)) (relations i 0 less)
     go (inr more) =
         let a = i - length (relation_roots e.relations) in
         let same : length (relation_roots e.relations) + a ≡ i = omega (arith, more) in
         let two = is.reduced in
         subst (λ (x : ℕ). x < length e.nodes)
-        (sym (ap (λ (k : ℕ). get_or (relation_roots e.relations ++ map root_of e.sets) k 0) (sym same) ∙ after (relation_roots e.relations) (map root_of e.sets) a ∙ mapped e.sets a))
+        (sym (ap (λ (k : ℕ). get_or (relation_roots e.relations ++ map root_of e.sets) k 0) (sym same)
+        ∙ after (relation_roots e.relations) (map root_of e.sets) a ∙ mapped e.sets a))
         (slot_known e.nodes e.order (get_or e.sets a (Free 0)) two.constants (is.sets a))
 
 -- a place of a set, moved
@@ -129,7 +135,8 @@ false_moved old new r = record { known = (let two = r.constants in omega (arith,
 
 -- false is moved to false
 false_place : (old new : List Node) (p : ℕ) → IsReduced new → MeansAs old 0 new p → p ≡ 0
-false_place old new p r m = canonical new r p 0 m.known (let two = r.constants in omega (arith, two)) (λ b. m.meaning b ∙ false_means old b ∙ sym (false_means new b))
+false_place old new p r m = canonical new r p 0 m.known (let two = r.constants in omega (arith, two))
+    (λ b. m.meaning b ∙ false_means old b ∙ sym (false_means new b))
 
 slot_root : (old new : List Node) (x : Slot) (p : ℕ) → IsReduced new → MeansAs old (root_of x) new p → root_of (with_root x p) ≡ p
 slot_root old new (Holds id) p r m = refl
@@ -141,7 +148,17 @@ abbrev pub own_at : List ℕ → Own
 own_at places = record { all = get_or places 0 0; start = get_or places 1 0; goals = get_or places 2 0 }
 
 abbrev pub collected : Symbolic → List Node → List ℕ → OperatorRelations → List Slot → ℕ → Symbolic
-collected e now places relations slots n = record { task = e.task; rules = e.rules; order = e.order; nodes = now; own = own_at places; relations = relations; steps = e.steps; sets = slots; last = n }
+collected e now places relations slots n = record {
+  task = e.task;
+  rules = e.rules;
+  order = e.order;
+  nodes = now;
+  own = own_at places;
+  relations = relations;
+  steps = e.steps;
+  sets = slots;
+  last = n;
+}
 
 abbrev pub set_from : Symbolic → ℕ
 set_from e = 3 + length (relation_roots e.relations)
@@ -261,7 +278,8 @@ module _ (e : Symbolic) (start : List ℕ) (now : List Node) (places : List ℕ)
         rest_at k (omega (arith, lt)) ∙ ap (λ (j : ℕ). get_or places j 0) to
 
     roots_are : roots_of (collected e now places relations slots n) ≡ places
-    roots_are = ext_get_or 0 (roots_of (collected e now places relations slots n)) places same_length (λ k lt. roots_at k (let c = same_length in omega (arith, lt, c)))
+    roots_are = ext_get_or 0 (roots_of (collected e now places relations slots n)) places same_length
+        (λ k lt. roots_at k (let c = same_length in omega (arith, lt, c)))
 
     places_known : (k : ℕ) → k < length places → get_or places k 0 < length now
     places_known k lt = (let m = moved k (omega (arith, lt, as_long)) in m.known)

@@ -8,7 +8,9 @@ use Rattle.bdd_table.specs.Collected.{Reaches, AreReached}
 use Rattle.bdd_table.proofs.Adding.{lo_known, hi_known}
 
 -- what known roots reach is known
-reached_known : (nodes : List Node) (roots : List ℕ) → IsReduced nodes → ((i : ℕ) → i < length roots → get_or roots i 0 < length nodes) → (id : ℕ) → Reaches nodes roots id → id < length nodes
+reached_known : (nodes : List Node) (roots : List ℕ) → IsReduced nodes
+    → ((i : ℕ) → i < length roots → get_or roots i 0 < length nodes) → (id : ℕ)
+    → Reaches nodes roots id → id < length nodes
 reached_known nodes roots r known id (Reaches.root i lt) = known i lt
 reached_known nodes roots r known id (Reaches.lo at_id reached) = lo_known nodes r at_id (reached_known nodes roots r known at_id reached)
 reached_known nodes roots r known id (Reaches.hi at_id reached) = hi_known nodes r at_id (reached_known nodes roots r known at_id reached)

@@ -23,13 +23,16 @@ use Rattle.bdd_space.proofs.Keeping.{over, id_there, has_there}
 -- by any relation of states
 
 module _ (o : Layout) (old new : List Node) (f id : ℕ) (R : List ℕ → List ℕ → Type 0) (s : List ℕ) (l : IsLayout o) (set : IsKnownSet o old f) where
-  image_has : ((t : List ℕ) → IsStateOf o t → R t s → IsStateOf o s) → HasThose o new (ImageBy o R (means old f)) id → (has_state o new id s ≡ true) ↔ ((t : List ℕ) × (has_state o old f t ≡ true) × R t s)
+  image_has : ((t : List ℕ) → IsStateOf o t → R t s → IsStateOf o s) → HasThose o new (ImageBy o R (means old f)) id
+      → (has_state o new id s ≡ true) ↔ ((t : List ℕ) × (has_state o old f t ≡ true) × R t s)
   image_has leads h = (
     (λ has. (let x = (those_has o new (ImageBy o R (means old f)) id s l h has).1 in (x.0, member_has o old f x.0 l set.set x.1 x.2, x.3))),
-    (λ (t, has, r). (let state = (has_parts o old f t has).0 in has_those o new (ImageBy o R (means old f)) id s l h (leads t state r) (t, state, has_member o old f t l has, r))),
+    (λ (t, has, r). (let state = (has_parts o old f t has).0 in has_those o new (ImageBy o R (means old f)) id s l h
+        (leads t state r) (t, state, has_member o old f t l has, r))),
   )
 
-  preimage_has : IsStateOf o s → HasThose o new (PreimageBy o R (means old f)) id → (has_state o new id s ≡ true) ↔ ((t : List ℕ) × (has_state o old f t ≡ true) × R s t)
+  preimage_has : IsStateOf o s → HasThose o new (PreimageBy o R (means old f)) id → (has_state o new id s ≡ true)
+      ↔ ((t : List ℕ) × (has_state o old f t ≡ true) × R s t)
   preimage_has state h = (
     (λ has. (let x = (those_has o new (PreimageBy o R (means old f)) id s l h has).1 in (x.0, member_has o old f x.0 l set.set x.1 x.2, x.3))),
     (λ (t, has, r). has_those o new (PreimageBy o R (means old f)) id s l h state (t, (has_parts o old f t has).0, has_member o old f t l has, r)),
@@ -55,7 +58,9 @@ module _ (e : Symbolic) (start : List ℕ) (i : IsSpace e start) where
     has_seen : (t : State) → IsTrue ((seen e).has a t) → has_state e.order e.nodes f t ≡ true
     has_seen t h = sym (has_there e a f t is) ∙ h
 
-    pub image_made : (op : ℕ) (new : List Node) (id : ℕ) → HasThose e.order new (ImageBy e.order (λ s t. Step e.task s op t) (means e.nodes f)) id → Makes (over e new) (Image (seen e) op a) id
+    pub image_made : (op : ℕ) (new : List Node) (id : ℕ) → HasThose e.order new
+        (ImageBy e.order (λ s t. Step e.task s op t) (means e.nodes f)) id
+        → Makes (over e new) (Image (seen e) op a) id
     image_made op new id h = record {
       set = set_of_those e.order new (ImageBy e.order (λ s t. Step e.task s op t) (means e.nodes f)) id h;
       has = λ s. (
@@ -65,7 +70,9 @@ module _ (e : Symbolic) (start : List ℕ) (i : IsSpace e start) where
           ));
     }
 
-    pub cost_image_made : (cost : ℕ) (new : List Node) (id : ℕ) → HasThose e.order new (ImageBy e.order (StepOfCost e.task cost) (means e.nodes f)) id → Makes (over e new) (CostImage (seen e) cost a) id
+    pub cost_image_made : (cost : ℕ) (new : List Node) (id : ℕ)
+        → HasThose e.order new (ImageBy e.order (StepOfCost e.task cost) (means e.nodes f)) id
+        → Makes (over e new) (CostImage (seen e) cost a) id
     cost_image_made cost new id h = record {
       set = set_of_those e.order new (ImageBy e.order (StepOfCost e.task cost) (means e.nodes f)) id h;
       has = λ s. (
@@ -75,7 +82,9 @@ module _ (e : Symbolic) (start : List ℕ) (i : IsSpace e start) where
           ));
     }
 
-    module _ (within g : ℕ) (inside : set_at e.sets within ≡ Some g) (mid new : List Node) (found id : ℕ) (k : Keeps e.nodes mid) (at : id < length new) (is_both : (b : Bits) → means new id b ≡ (means mid found b && means mid g b)) where
+    module _ (within g : ℕ) (inside : set_at e.sets within ≡ Some g) (mid new : List Node) (found id : ℕ)
+        (k : Keeps e.nodes mid) (at : id < length new) (is_both : (b : Bits) → means new id b
+        ≡ (means mid found b && means mid g b)) where
       within_known : IsKnownSet e.order e.nodes g
       within_known = id_there e.order e.nodes e.sets within g i.sets inside
 
@@ -83,7 +92,9 @@ module _ (e : Symbolic) (start : List ℕ) (i : IsSpace e start) where
       within_has s = alike_has e.order e.nodes mid g g s (kept_alike e.nodes mid g k within_known.known) ∙ sym (has_there e within g s inside)
 
       both_set : (P : List ℕ → Type 0) → HasThose e.order mid P found → IsKnownSet e.order new id
-      both_set P h = conj_set e.order mid new found g id i.order.layout (set_of_those e.order mid P found h) (alike_set e.order e.nodes mid g g (kept_alike e.nodes mid g k within_known.known) within_known) at is_both
+      both_set P h = conj_set e.order mid new found g id i.order.layout (set_of_those e.order mid P found h)
+          (alike_set e.order e.nodes mid g g (kept_alike e.nodes mid g k within_known.known) within_known) at
+          is_both
 
       both_has : (s : State) → has_state e.order new id s ≡ (has_state e.order mid found s && (seen e).has within s)
       both_has s = conj_has e.order mid new found g id s is_both ∙ ap (λ (x : Bool). has_state e.order mid found s && x) (within_has s)
@@ -97,7 +108,8 @@ module _ (e : Symbolic) (start : List ℕ) (i : IsSpace e start) where
       within_state : (s : State) → IsTrue ((seen e).has within s) → IsStateOf e.order s
       within_state s h = (has_parts e.order mid g s (within_has s ∙ h)).0
 
-      pub preimage_made : (op : ℕ) → HasThose e.order mid (PreimageBy e.order (λ s t. Step e.task s op t) (means e.nodes f)) found → Makes (over e new) (Preimage (seen e) op a within) id
+      pub preimage_made : (op : ℕ) → HasThose e.order mid (PreimageBy e.order (λ s t. Step e.task s op t)
+          (means e.nodes f)) found → Makes (over e new) (Preimage (seen e) op a within) id
       preimage_made op h = record {
         set = both_set (PreimageBy e.order (λ s t. Step e.task s op t) (means e.nodes f)) h;
         has = λ s. (
@@ -108,11 +120,17 @@ module _ (e : Symbolic) (start : List ℕ) (i : IsSpace e start) where
               (parts.1, (x.0, seen_has x.0 x.1, (leads op s x.0 state).1 x.2)))),
           (λ (inside, (t, has, l)). (
               let state = within_state s inside in
-              (both s).1 ((preimage_has e.order e.nodes mid f found (λ s t. Step e.task s op t) s i.order.layout known state h).1 (t, has_seen t has, (leads op s t state).0 l), inside))),
+              (both s).1 (
+                (preimage_has e.order e.nodes mid f found (λ s t. Step e.task s op t) s i.order.layout known
+                    state h).1 (t, has_seen t has, (leads op s t state).0 l),
+                inside,
+              ))),
         );
       }
 
-      pub cost_preimage_made : (cost : ℕ) → HasThose e.order mid (PreimageBy e.order (StepOfCost e.task cost) (means e.nodes f)) found → Makes (over e new) (CostPreimage (seen e) cost a within) id
+      pub cost_preimage_made : (cost : ℕ) → HasThose e.order mid
+          (PreimageBy e.order (StepOfCost e.task cost) (means e.nodes f)) found
+          → Makes (over e new) (CostPreimage (seen e) cost a within) id
       cost_preimage_made cost h = record {
         set = both_set (PreimageBy e.order (StepOfCost e.task cost) (means e.nodes f)) h;
         has = λ s. (
@@ -123,6 +141,10 @@ module _ (e : Symbolic) (start : List ℕ) (i : IsSpace e start) where
               (parts.1, (x.2.0, x.2.2, (x.0, seen_has x.0 x.1, (leads x.2.0 s x.0 state).1 x.2.3))))),
           (λ (inside, (op, same, (t, has, l))). (
               let state = within_state s inside in
-              (both s).1 ((preimage_has e.order e.nodes mid f found (StepOfCost e.task cost) s i.order.layout known state h).1 (t, has_seen t has, (op, l.number, same, (leads op s t state).0 l)), inside))),
+              (both s).1 (
+                (preimage_has e.order e.nodes mid f found (StepOfCost e.task cost) s i.order.layout known
+                    state h).1 (t, has_seen t has, (op, l.number, same, (leads op s t state).0 l)),
+                inside,
+              ))),
         );
       }

@@ -47,12 +47,15 @@ module _ (e old : Symbolic) (start : List ℕ) (i : IsSpace e start) (same : e �
       space_by = space_collected e start now at relations slots n i r at_long at_moved sets_at
 
       pub stays_by : Stays (seen old) (seen (collected e now at relations slots n))
-      stays_by = subst (λ (x : Symbolic). Stays (seen x) (seen (collected e now at relations slots n))) same (stays_collected e start now at relations slots n i r at_long at_moved sets_at)
+      stays_by = subst (λ (x : Symbolic). Stays (seen x) (seen (collected e now at relations slots n))) same
+          (stays_collected e start now at relations slots n i r at_long at_moved sets_at)
 
       pub collected_by : relation_roots relations ≡ slice_range at 3 (3 + length (relation_roots e.relations)) → n + 2 ≡ length now
           → ((id : ℕ) → 2 ≤ id → id < length now → Reaches now places id) → ((ids : List ℕ) → AreReached e.nodes xs ids → length now ≡ length ids + 2)
           → Collected (Needs old) (Needs (collected e now at relations slots n)) (seen old) (seen (collected e now at relations slots n))
-      collected_by taken held exact count = subst (λ (x : Symbolic). Collected (Needs x) (Needs (collected e now at relations slots n)) (seen x) (seen (collected e now at relations slots n))) same
+      collected_by taken held exact count = subst (λ (x : Symbolic). Collected (Needs x)
+          (Needs (collected e now at relations slots n)) (seen x) (seen (collected e now at relations slots n)))
+          same
           (is_collected e start now at relations slots n i r at_long at_moved sets_at taken held
           (λ id two lt. subst (λ (ys : List ℕ). Reaches now ys id) (sym slice) (exact id two lt))
           (λ ids reached. count ids (subst (λ (ys : List ℕ). AreReached e.nodes ys ids) (sym inside) reached)))

@@ -36,8 +36,12 @@ module _ (xs : List Node) (n : Node) where
       lo_before = rw (at_old i h) o.lo_before;
       hi_before = rw (at_old i h) o.hi_before;
       differ = rw (at_old i h) o.differ;
-      lo_below = subst (λ (m : Node). m.level < level_of (xs ++ n ∷ []) m.lo) (sym (at_old i h)) (subst (λ (m : Node). (at xs i).level < m.level) (sym (at_old (at xs i).lo (omega (arith, o.lo_before)))) o.lo_below);
-      hi_below = subst (λ (m : Node). m.level < level_of (xs ++ n ∷ []) m.hi) (sym (at_old i h)) (subst (λ (m : Node). (at xs i).level < m.level) (sym (at_old (at xs i).hi (omega (arith, o.hi_before)))) o.hi_below);
+      lo_below = subst (λ (m : Node). m.level < level_of (xs ++ n ∷ []) m.lo) (sym (at_old i h))
+          (subst (λ (m : Node). (at xs i).level < m.level)
+          (sym (at_old (at xs i).lo (omega (arith, o.lo_before)))) o.lo_below);
+      hi_below = subst (λ (m : Node). m.level < level_of (xs ++ n ∷ []) m.hi) (sym (at_old i h))
+          (subst (λ (m : Node). (at xs i).level < m.level)
+          (sym (at_old (at xs i).hi (omega (arith, o.hi_before)))) o.hi_below);
     }
 
     inner_last : IsInner (xs ++ n ∷ []) (length xs)
@@ -45,8 +49,10 @@ module _ (xs : List Node) (n : Node) where
       lo_before = rw at_last lo;
       hi_before = rw at_last hi;
       differ = rw at_last differ;
-      lo_below = subst (λ (m : Node). m.level < level_of (xs ++ n ∷ []) m.lo) (sym at_last) (subst (λ (m : Node). n.level < m.level) (sym (at_old n.lo lo)) lo_below);
-      hi_below = subst (λ (m : Node). m.level < level_of (xs ++ n ∷ []) m.hi) (sym at_last) (subst (λ (m : Node). n.level < m.level) (sym (at_old n.hi hi)) hi_below);
+      lo_below = subst (λ (m : Node). m.level < level_of (xs ++ n ∷ []) m.lo) (sym at_last)
+          (subst (λ (m : Node). n.level < m.level) (sym (at_old n.lo lo)) lo_below);
+      hi_below = subst (λ (m : Node). m.level < level_of (xs ++ n ∷ []) m.hi) (sym at_last)
+          (subst (λ (m : Node). n.level < m.level) (sym (at_old n.hi hi)) hi_below);
     }
 
     pub reduced_push : IsReduced (xs ++ n ∷ [])
@@ -82,14 +88,16 @@ module _ (eq : Node → Node → Bool) (itself : (x : Node) → eq x x ≡ true)
   got (y ∷ ys) zero k e = cc
   got (y ∷ ys) (suc i) k e = got ys i k e
 
-  pub adds_of : (xs ys : List Node) (n : Node) (id : ℕ) → ys ≡ insert_key eq xs n → id < length ys → ((k : Node) × (slice_get ys id ≡ Some k) × (eq n k ≡ true)) → Adds xs n ys id
+  pub adds_of : (xs ys : List Node) (n : Node) (id : ℕ) → ys ≡ insert_key eq xs n → id < length ys
+      → ((k : Node) × (slice_get ys id ≡ Some k) × (eq n k ≡ true)) → Adds xs n ys id
   adds_of xs ys n id e known stored = record {
     known = known;
     is = got ys id stored.0 stored.1 ∙ sym (same n stored.0 stored.2);
-    how = (elim (list_any (eq n) xs) as (λ t. list_any (eq n) xs ≡ t → (ys ≡ xs) ⊎ ((ys ≡ xs ++ n ∷ []) × (id ≡ length xs) × ((i : ℕ) → i < length xs → at xs i ≢ n))) [
-      | true ↦ λ t. inl (e ∙ ap (λ c. if c then xs else xs ++ n ∷ []) t)
-      | false ↦ λ t. inr (pushed t, last (pushed t) (absent_of xs n t), absent_of xs n t)
-    ]) refl;
+    how = (elim (list_any (eq n) xs) as (λ t. list_any (eq n) xs ≡ t → (ys ≡ xs)
+        ⊎ ((ys ≡ xs ++ n ∷ []) × (id ≡ length xs) × ((i : ℕ) → i < length xs → at xs i ≢ n))) [
+          | true ↦ λ t. inl (e ∙ ap (λ c. if c then xs else xs ++ n ∷ []) t)
+          | false ↦ λ t. inr (pushed t, last (pushed t) (absent_of xs n t), absent_of xs n t)
+        ]) refl;
   }
     where
       here : at ys id ≡ n
@@ -105,7 +113,8 @@ module _ (eq : Node → Node → Bool) (itself : (x : Node) → eq x x ≡ true)
       ]
 
 -- the bits choose what a new node means
-pub node_meaning : (ys : List Node) → IsReduced ys → (level lo hi id : ℕ) → id < length ys → at ys id ≡ node_of level lo hi → (b : Bits) → means ys id b ≡ cond (b level) (means ys hi b) (means ys lo b)
+pub node_meaning : (ys : List Node) → IsReduced ys → (level lo hi id : ℕ) → id < length ys
+    → at ys id ≡ node_of level lo hi → (b : Bits) → means ys id b ≡ cond (b level) (means ys hi b) (means ys lo b)
 node_meaning ys r level lo hi id known is b =
     means_chosen ys r b id known ∙ ap (λ (m : Node). means ys (cond (b m.level) m.hi m.lo) b) is ∙ out (b level)
   where

@@ -56,16 +56,21 @@ module _ (xs : List Node) (r : IsReduced xs) where
   ]
 
   -- with v at l an Id means what is left of it means
-  pub means_put : (b : Bits) (l id : ℕ) (v : Bool) → id < length xs → l < 4294967295 → l ≤ level_of xs id → means xs id (put b l v) ≡ means xs (half xs id l v) b
-  means_put b l id v known low h = (elim (level_of xs id == l) as (λ t. (level_of xs id == l) ≡ t → means xs id (put b l v) ≡ means xs (cond t (cond v (at xs id).hi (at xs id).lo) id) b) [
-    | true ↦ λ e. let same : level_of xs id ≡ l = eqb-true (level_of xs id) l e in
-        let i = r.inner id (inner_of_level id (omega arith)) known in
-        let bit : put b l v (level_of xs id) ≡ v = ap (put b l v) same ∙ put_here b l v in
-        means_chosen xs r (put b l v) id known ∙ ap (λ c. means xs (cond c (at xs id).hi (at xs id).lo) (put b l v)) bit ∙ child v same i
-    | false ↦ λ e. means_later xs r (put b l v) b id known (λ k g. put_other b l v k (strict e k g))
-  ]) refl
+  pub means_put : (b : Bits) (l id : ℕ) (v : Bool) → id < length xs → l < 4294967295 → l ≤ level_of xs id
+      → means xs id (put b l v) ≡ means xs (half xs id l v) b
+  means_put b l id v known low h = (elim (level_of xs id == l) as
+      (λ t. (level_of xs id == l) ≡ t → means xs id (put b l v) ≡ means xs
+      (cond t (cond v (at xs id).hi (at xs id).lo) id) b) [
+        | true ↦ λ e. let same : level_of xs id ≡ l = eqb-true (level_of xs id) l e in
+            let i = r.inner id (inner_of_level id (omega arith)) known in
+            let bit : put b l v (level_of xs id) ≡ v = ap (put b l v) same ∙ put_here b l v in
+            means_chosen xs r (put b l v) id known ∙ ap (λ c. means xs (cond c (at xs id).hi (at xs id).lo) (put b l v)) bit ∙ child v same i
+        | false ↦ λ e. means_later xs r (put b l v) b id known (λ k g. put_other b l v k (strict e k g))
+      ]) refl
     where
-      child : (w : Bool) → level_of xs id ≡ l → IsInner xs id → means xs (cond w (at xs id).hi (at xs id).lo) (put b l v) ≡ means xs (cond w (at xs id).hi (at xs id).lo) b
+      child : (w : Bool) → level_of xs id ≡ l → IsInner xs id
+          → means xs (cond w (at xs id).hi (at xs id).lo) (put b l v) ≡ means xs
+          (cond w (at xs id).hi (at xs id).lo) b
       child true same i = means_later xs r (put b l v) b (at xs id).hi (omega (arith, i.hi_before)) (λ k g. put_other b l v k (omega (arith, i.hi_below)))
       child false same i = means_later xs r (put b l v) b (at xs id).lo (omega (arith, i.lo_before)) (λ k g. put_other b l v k (omega (arith, i.lo_below)))
 
@@ -93,7 +98,8 @@ module _ (xs : List Node) (r : IsReduced xs) where
   abbrev Agree : ℕ → ℕ → Type 0
   Agree f g = (b : Bits) → means xs f b ≡ means xs g b
 
-  halves_agree : (f g l : ℕ) (v : Bool) → f < length xs → g < length xs → l < 4294967295 → l ≤ level_of xs f → l ≤ level_of xs g → Agree f g → Agree (half xs f l v) (half xs g l v)
+  halves_agree : (f g l : ℕ) (v : Bool) → f < length xs → g < length xs → l < 4294967295 → l ≤ level_of xs f
+      → l ≤ level_of xs g → Agree f g → Agree (half xs f l v) (half xs g l v)
   halves_agree f g l v kf kg low hf hg same b = sym (means_put b l f v kf low hf) ∙ same (put b l v) ∙ means_put b l g v kg low hg
 
   half_is : (id l : ℕ) (v : Bool) → level_of xs id ≡ l → half xs id l v ≡ cond v (at xs id).hi (at xs id).lo
@@ -110,7 +116,8 @@ module _ (xs : List Node) (r : IsReduced xs) where
   UniqueBelow n = (f g : ℕ) → f + g < n → f < length xs → g < length xs → Agree f g → f ≡ g
 
   module _ (n : ℕ) (below : UniqueBelow n) where
-    both : (f g l : ℕ) (v : Bool) → f + g < suc n → f < length xs → g < length xs → Agree f g → l < 4294967295 → level_of xs f ≡ l → l ≤ level_of xs g → half xs f l v ≡ half xs g l v
+    both : (f g l : ℕ) (v : Bool) → f + g < suc n → f < length xs → g < length xs → Agree f g → l < 4294967295
+        → level_of xs f ≡ l → l ≤ level_of xs g → half xs f l v ≡ half xs g l v
     both f g l v h kf kg same low ef hg =
         let a = half_smaller l f v kf low ef in
         let c = half_known l g v kg low in
@@ -160,7 +167,8 @@ module _ (xs : List Node) (r : IsReduced xs) where
   unique_below zero f g h kf kg same = absurd (omega arith)
   unique_below (suc n) f g h kf kg same = elim (order (level_of xs f) (level_of xs g)) [
     | inl a ↦ let low : level_of xs f < 4294967295 = omega (arith, level_bound g kg) in apart n (unique_below n) f g h kf kg same low a
-    | inr (inr a) ↦ let low : level_of xs g < 4294967295 = omega (arith, level_bound f kf) in sym (apart n (unique_below n) g f (omega arith) kg kf (λ b. sym (same b)) low a)
+    | inr (inr a) ↦ let low : level_of xs g < 4294967295 = omega (arith, level_bound f kf) in sym
+        (apart n (unique_below n) g f (omega arith) kg kf (λ b. sym (same b)) low a)
     | inr (inl e) ↦ elim (order (level_of xs f) 4294967295) [
       | inl low ↦ level n (unique_below n) f g h kf kg same low e
       | inr (inl c) ↦ constants f g kf kg same c (sym e ∙ c)

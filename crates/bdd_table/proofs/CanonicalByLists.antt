@@ -24,7 +24,8 @@ module _ (xs : List Node) (r : IsReduced xs) (n : ℕ) (all : 4294967295 ≤ n) 
     | inr (inl z) ↦ leads_constant xs r (suc k) b id (omega arith) ∙ sym (leads_constant xs r (suc k) c id (omega arith))
     | inr (inr two) ↦ let i = r.inner id two h in
         let top = level_bound xs r (at xs id).lo (omega (arith, i.lo_before)) in
-        let same : chosen xs b id ≡ chosen xs c id = ap (λ v. cond v (at xs id).hi (at xs id).lo) (agree (level_of xs id) (omega (arith, i.lo_below, top, all))) in
+        let same : chosen xs b id ≡ chosen xs c id = ap (λ v. cond v (at xs id).hi (at xs id).lo)
+        (agree (level_of xs id) (omega (arith, i.lo_below, top, all))) in
         leads_agree k b c (chosen xs b id) (chosen_known xs r b id h) agree ∙ ap (leads k xs c) same
   ]
 
@@ -40,11 +41,14 @@ module _ (xs : List Node) (r : IsReduced xs) (n : ℕ) (all : 4294967295 ≤ n) 
   canonical_by f g kf kg same = canonical xs r f g kf kg (λ b. means_listed b f kf ∙ same (tabulate n b) ∙ sym (means_listed b g kg))
 
 -- bits of the levels above the constants decide
-pub means_agree : (xs : List Node) → IsReduced xs → (id : ℕ) → id < length xs → (b c : Bits) → ((l : ℕ) → l < 4294967295 → b l ≡ c l) → means xs id b ≡ means xs id c
+pub means_agree : (xs : List Node) → IsReduced xs → (id : ℕ) → id < length xs → (b c : Bits)
+    → ((l : ℕ) → l < 4294967295 → b l ≡ c l) → means xs id b ≡ means xs id c
 means_agree xs r id h b c agree = means_levels xs r 4294967295 (omega arith) b c id h agree
 
-pub canonical_lists : (xs : List Node) → IsReduced xs → (f g : ℕ) → f < length xs → g < length xs → ((bits : List Bool) → means xs f (bits_of bits) ≡ means xs g (bits_of bits)) → f ≡ g
+pub canonical_lists : (xs : List Node) → IsReduced xs → (f g : ℕ) → f < length xs → g < length xs
+    → ((bits : List Bool) → means xs f (bits_of bits) ≡ means xs g (bits_of bits)) → f ≡ g
 canonical_lists xs r f g kf kg same = canonical_by xs r 4294967295 (omega arith) f g kf kg same
 
-pub same_by_lists : (xs : List Node) → IsReduced xs → (f g : ℕ) → f < length xs → g < length xs → ((f == g) ≡ true) ↔ ((values : List Bool) → means xs f (bits_of values) ≡ means xs g (bits_of values))
+pub same_by_lists : (xs : List Node) → IsReduced xs → (f g : ℕ) → f < length xs → g < length xs → ((f == g) ≡ true)
+    ↔ ((values : List Bool) → means xs f (bits_of values) ≡ means xs g (bits_of values))
 same_by_lists xs r f g kf kg = (λ e values. ap (λ i. means xs i (bits_of values)) (eqb-true f g e), λ h. eq-eqb f g (canonical_lists xs r f g kf kg h))

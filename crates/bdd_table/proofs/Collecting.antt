@@ -28,7 +28,8 @@ closed_marks old roots marks m = record {
       | false ↦ λ t m. m
     ]) refl k
 
-module _ (old new : List Node) (marks : List Bool) (places roots after : List ℕ) (ro : IsReduced old) (m : MarkedFrom old roots marks 2) (a : AreMoved old marks new places (length old))
+module _ (old new : List Node) (marks : List Bool) (places roots after : List ℕ) (ro : IsReduced old)
+    (m : MarkedFrom old roots marks 2) (a : AreMoved old marks new places (length old))
     (roots_known : (i : ℕ) → i < length roots → slice_index roots i < length old) (as_long : length after ≡ length roots)
     (moved : (i : ℕ) → i < length roots → slice_index after i ≡ slice_index places (slice_index roots i)) where
   root_kept : (i : ℕ) → i < length roots → is_kept marks (slice_index roots i) ≡ true
@@ -58,7 +59,12 @@ module _ (old new : List Node) (marks : List Bool) (places roots after : List �
   ]
 
   reached_too : (id : ℕ) → Reaches old roots id → IsReachedToo id
-  reached_too _ (root i h) = record { known = roots_known i h; kept = root_kept i h; place = subst (Reaches new after) (moved i h) (root i (omega (arith, h, as_long))) }
+  reached_too _ (root i h) = record {
+    known = roots_known i h;
+    kept = root_kept i h;
+    place = subst (Reaches new after)
+        (moved i h) (root i (omega (arith, h, as_long)));
+  }
   reached_too _ (lo id r) = let w = reached_too id r in record {
     known = lo_known old ro id w.known;
     kept = kept_lo id w.known w.kept;
@@ -80,7 +86,8 @@ module _ (old new : List Node) (marks : List Bool) (places roots after : List �
       there : (i : ℕ) → i < length ids → IsReachedToo (slice_index ids i)
       there i h = reached_too (slice_index ids i) (r.only i 0 h).1
 
-      inner : (i : ℕ) → i < length ids → IsMoved old new (slice_index ids i) (slice_index places (slice_index ids i)) → 2 ≤ slice_index places (slice_index ids i)
+      inner : (i : ℕ) → i < length ids → IsMoved old new (slice_index ids i) (slice_index places (slice_index ids i))
+          → 2 ≤ slice_index places (slice_index ids i)
       inner i h w =
           let o = ro.inner (slice_index ids i) (r.only i 0 h).0 (there i h).known in
           let top = level_bound old ro (at old (slice_index ids i)).lo (omega (arith, o.lo_before, (there i h).known)) in
@@ -93,7 +100,8 @@ module _ (old new : List Node) (marks : List Bool) (places roots after : List �
       one_to_one i j less more e =
           let x = a.moved (slice_index ids i) (there i less).known (there i less).kept in
           let y = a.moved (slice_index ids j) (there j more).known (there j more).kept in
-          let same = canonical old ro (slice_index ids i) (slice_index ids j) (there i less).known (there j more).known (λ b. sym (x.meaning b) ∙ ap (λ k. means new k b) e ∙ y.meaning b) in
+          let same = canonical old ro (slice_index ids i) (slice_index ids j) (there i less).known
+          (there j more).known (λ b. sym (x.meaning b) ∙ ap (λ k. means new k b) e ∙ y.meaning b) in
           elim (order i j) [
             | inl s ↦ absurd (r.once i j 0 s more same)
             | inr (inl s) ↦ s

@@ -49,7 +49,8 @@ module _ (g : ℕ → ℕ) where
   count_none : (m k : ℕ) → ((i : ℕ) → i < m → g i ≢ k) → count g m k ≡ 0
   unfolding count
   count_none zero k not_there = refl
-  count_none (suc m) k not_there = rw (differs (g m) k (not_there m (omega arith))) (let h = count_none m k (λ i l. not_there i (omega arith)) in omega (arith, h))
+  count_none (suc m) k not_there = rw (differs (g m) k (not_there m (omega arith)))
+      (let h = count_none m k (λ i l. not_there i (omega arith)) in omega (arith, h))
 
   count_one : (m k i : ℕ) → ((i j : ℕ) → i < m → j < m → g i ≡ g j → i ≡ j) → i < m → g i ≡ k → count g m k ≡ 1
   unfolding count
@@ -57,7 +58,9 @@ module _ (g : ℕ → ℕ) where
   count_one (suc m) k i inj h e = elim (order i m) [
     | inl a ↦ let not_there : g m ≢ k = λ q. let s = inj i m (omega arith) (omega arith) (e ∙ sym q) in absurd (omega (arith, s)) in
         rw (differs (g m) k not_there) (let r = count_one m k i (λ x y hx hy. inj x y (omega arith) (omega arith)) a e in omega (arith, r))
-    | inr (inl a) ↦ rw (eq-eqb (g m) k (sym (ap g a) ∙ e)) (let r = count_none m k (λ j l q. let s = inj j i (omega arith) (omega arith) (q ∙ sym e) in absurd (omega (arith, s))) in omega (arith, r))
+    | inr (inl a) ↦ rw (eq-eqb (g m) k (sym (ap g a) ∙ e)) (let r = count_none m k
+        (λ j l q. let s = inj j i (omega arith) (omega arith) (q ∙ sym e) in absurd (omega (arith, s))) in omega
+        (arith, r))
     | inr (inr a) ↦ absurd (omega arith)
   ]
 
@@ -76,5 +79,7 @@ module _ (g : ℕ → ℕ) where
       → ((k : ℕ) → 2 ≤ k → k < n → (i : ℕ) × (i < m) × (g i ≡ k)) → n ≡ m + 2
   as_many m n two within inj onto =
       let all = hits_all m n (λ i h. (within i h).1) in
-      let sum = hits_from_two m n (λ k l. count_none m k (λ i h e. let w = (within i h).0 in absurd (omega (arith, w, e, l)))) (λ k a b. let w = onto k a b in count_one m k w.0 inj w.1 w.2) two in
+      let sum = hits_from_two m n
+      (λ k l. count_none m k (λ i h e. let w = (within i h).0 in absurd (omega (arith, w, e, l))))
+      (λ k a b. let w = onto k a b in count_one m k w.0 inj w.1 w.2) two in
       omega (arith, all, sum)

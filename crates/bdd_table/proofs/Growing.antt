@@ -21,7 +21,8 @@ module _ (old new : List Node) (ro : IsReduced old) (rn : IsReduced new) (k : Ke
       let a = half_known old ro l id v known low in
       let c = half_known new rn l id v there low in
       canonical new rn (half old id l v) (half new id l v) (omega (arith, a, there)) (omega (arith, c, there))
-      (λ b. k.meaning (half old id l v) b (omega (arith, a, known)) ∙ sym (means_put old ro b l id v known low ho) ∙ sym (k.meaning id (put b l v) known) ∙ means_put new rn b l id v there low hn)
+      (λ b. k.meaning (half old id l v) b (omega (arith, a, known)) ∙ sym (means_put old ro b l id v known low ho)
+      ∙ sym (k.meaning id (put b l v) known) ∙ means_put new rn b l id v there low hn)
 
   inner_same : (id : ℕ) → 2 ≤ id → id < length old → at new id ≡ at old id
   inner_same id two known =
@@ -35,15 +36,22 @@ module _ (old new : List Node) (ro : IsReduced old) (rn : IsReduced new) (k : Ke
       let deep : level_of new id < 4294967295 = (let a = j.lo_below in omega (arith, a, over)) in
       elim (order (level_of old id) (level_of new id)) [
         | inl lt ↦ (
-            let e = sym (half_at old id (level_of old id) false refl) ∙ same_half id (level_of old id) false known low (omega arith) (omega (arith, lt)) ∙ half_off new id (level_of old id) false (λ q. omega (arith, q, lt)) in
+            let e = sym (half_at old id (level_of old id) false refl)
+            ∙ same_half id (level_of old id) false known low (omega arith) (omega (arith, lt))
+            ∙ half_off new id (level_of old id) false (λ q. omega (arith, q, lt)) in
             let a = i.lo_before in
             absurd (omega (arith, e, a)))
         | inr (inr lt) ↦ (
-            let e = sym (half_at new id (level_of new id) false refl) ∙ sym (same_half id (level_of new id) false known deep (omega (arith, lt)) (omega arith)) ∙ half_off old id (level_of new id) false (λ q. omega (arith, q, lt)) in
+            let e = sym (half_at new id (level_of new id) false refl)
+            ∙ sym (same_half id (level_of new id) false known deep (omega (arith, lt)) (omega arith))
+            ∙ half_off old id (level_of new id) false (λ q. omega (arith, q, lt)) in
             let a = j.lo_before in
             absurd (omega (arith, e, a)))
         | inr (inl e) ↦ (
-            let child : (v : Bool) → cond v (at new id).hi (at new id).lo ≡ cond v (at old id).hi (at old id).lo = (λ v. sym (half_at new id (level_of old id) v (sym e)) ∙ sym (same_half id (level_of old id) v known low (omega arith) (omega (arith, e))) ∙ half_at old id (level_of old id) v refl) in
+            let child : (v : Bool) → cond v (at new id).hi (at new id).lo ≡ cond v (at old id).hi (at old id).lo =
+            (λ v. sym (half_at new id (level_of old id) v (sym e))
+            ∙ sym (same_half id (level_of old id) v known low (omega arith) (omega (arith, e)))
+            ∙ half_at old id (level_of old id) v refl) in
             let lo = child false in
             let hi = child true in
             let same = sym e in

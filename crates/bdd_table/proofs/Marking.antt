@@ -10,7 +10,8 @@ use Rattle.bdd_table.proofs.Canonical.{order}
 -- a root is marked
 pub root_marked : (xs : List Node) (roots : List ℕ) (marks : List Bool) (i : ℕ) → i < length roots → slice_index roots i < length marks
     → ((k : ℕ) → k < i → is_marked marks (slice_index roots k) ≡ true) → ((id : ℕ) → is_marked marks id ≡ true → Reaches xs roots id)
-    → ((k : ℕ) → k < i + 1 → is_marked (slice_set marks (slice_index roots i) true) (slice_index roots k) ≡ true) × ((id : ℕ) → is_marked (slice_set marks (slice_index roots i) true) id ≡ true → Reaches xs roots id)
+    → ((k : ℕ) → k < i + 1 → is_marked (slice_set marks (slice_index roots i) true) (slice_index roots k) ≡ true)
+    × ((id : ℕ) → is_marked (slice_set marks (slice_index roots i) true) id ≡ true → Reaches xs roots id)
 root_marked xs roots marks i h known before only = (
   below_more _ i (λ k l. stays (slice_index roots k) (before k l)) (get_or-set_same marks (slice_index roots i) true false known),
   λ id m. elim (order id (slice_index roots i)) [
@@ -23,7 +24,8 @@ root_marked xs roots marks i h known before only = (
     stays : (k : ℕ) → is_marked marks k ≡ true → is_marked (slice_set marks (slice_index roots i) true) k ≡ true
     stays k m = elim (order k (slice_index roots i)) [
       | inl a ↦ get_or-set_other marks (slice_index roots i) k true false (λ e. absurd (omega arith)) ∙ m
-      | inr (inl e) ↦ subst (λ j. is_marked (slice_set marks (slice_index roots i) true) j ≡ true) (sym e) (get_or-set_same marks (slice_index roots i) true false known)
+      | inr (inl e) ↦ subst (λ j. is_marked (slice_set marks (slice_index roots i) true) j ≡ true) (sym e)
+          (get_or-set_same marks (slice_index roots i) true false known)
       | inr (inr a) ↦ get_or-set_other marks (slice_index roots i) k true false (λ e. absurd (omega arith)) ∙ m
     ]
 

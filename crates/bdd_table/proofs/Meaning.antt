@@ -62,7 +62,8 @@ module _ (xs : List Node) (r : IsReduced xs) where
     | inl z ↦ let e = chosen_constant b id (omega arith) in rw e refl
     | inr (inl z) ↦ let e = chosen_constant b id (omega arith) in rw e refl
     | inr (inr two) ↦ let l = chosen_before b id two h in
-        steady id (suc id) b id (omega arith) (omega arith) h ∙ leads_next b id ∙ steady id (chosen xs b id) b (chosen xs b id) (omega (arith, l)) (omega arith) (omega (arith, l))
+        steady id (suc id) b id (omega arith) (omega arith) h ∙ leads_next b id
+        ∙ steady id (chosen xs b id) b (chosen xs b id) (omega (arith, l)) (omega arith) (omega (arith, l))
   ]
 
   pub means_false : (b : Bits) → means xs 0 b ≡ false
@@ -79,7 +80,8 @@ module _ (xs : List Node) (r : IsReduced xs) where
     | inl z ↦ let e = chosen_constant b id (omega arith) in rw e (omega arith)
     | inr (inl z) ↦ let e = chosen_constant b id (omega arith) in rw e (omega arith)
     | inr (inr two) ↦ let i = r.inner id two h in
-        elim (b (at xs id).level) as (λ v. level_of xs id ≤ level_of xs (cond v (at xs id).hi (at xs id).lo)) [ true ↦ omega (arith, i.hi_below) | false ↦ omega (arith, i.lo_below) ]
+        elim (b (at xs id).level) as (λ v. level_of xs id ≤ level_of xs (cond v (at xs id).hi (at xs id).lo))
+        [ true ↦ omega (arith, i.hi_below) | false ↦ omega (arith, i.lo_below) ]
   ]
 
   -- bits of earlier levels are of no account

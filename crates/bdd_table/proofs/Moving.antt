@@ -9,7 +9,8 @@ use Rattle.bdd_table.proofs.Canonical.{canonical, constant_level, order}
 use Rattle.bdd_table.proofs.Adding.{grows_adds, node_meaning, length_pushed}
 
 -- where children have their places, a node that is added for an Id has the place of the Id
-pub placed_node : {E : Type 0} (old before new : List Node) (places : List ℕ) (id lo hi level : ℕ) (r : Result ℕ E) → IsReduced old → IsReduced before → IsReduced new → 2 ≤ id → id < length old
+pub placed_node : {E : Type 0} (old before new : List Node) (places : List ℕ) (id lo hi level : ℕ) (r : Result ℕ E)
+    → IsReduced old → IsReduced before → IsReduced new → 2 ≤ id → id < length old
     → level ≡ level_of old id → lo ≡ slice_index places (at old id).lo → hi ≡ slice_index places (at old id).hi
     → IsMoved old before (at old id).lo (slice_index places (at old id).lo) → IsMoved old before (at old id).hi (slice_index places (at old id).hi)
     → IfOk r (λ place. lo ≢ hi → Adds before (node_of level lo hi) new place) → IfOk r (IsPlaced old before new places id)
@@ -57,7 +58,9 @@ moved_grown old before new r g id place m = record {
 }
 
 -- the constants have their own places
-pub start_moved : (old new : List Node) (marks : List Bool) (places : List ℕ) → IsReduced old → IsReduced new → new ≡ node_of 4294967295 0 0 ∷ node_of 4294967295 1 1 ∷ [] → places ≡ 0 ∷ 1 ∷ [] → AreMoved old marks new places 2
+pub start_moved : (old new : List Node) (marks : List Bool) (places : List ℕ) → IsReduced old → IsReduced new
+    → new ≡ node_of 4294967295 0 0 ∷ node_of 4294967295 1 1 ∷ [] → places ≡ 0 ∷ 1 ∷ []
+    → AreMoved old marks new places 2
 start_moved old new marks places ro rn en e = record {
   reduced = rn;
   count = ap (λ (l : List ℕ). length l) e;
@@ -90,13 +93,28 @@ start_moved old new marks places ro rn en e = record {
     second = ap (λ l. slice_index l 1) e
 
     false_moved : IsMoved old new 0 0
-    false_moved = record { known = omega (arith, rn.constants); level = constant_level new rn 0 (omega arith) ∙ sym (constant_level old ro 0 (omega arith)); meaning = λ b. means_false new rn b ∙ sym (means_false old ro b) }
+    false_moved = record {
+      known = omega (arith, rn.constants);
+      level = constant_level new rn 0 (omega arith)
+          ∙ sym (constant_level old ro 0 (omega arith));
+      meaning = λ b. means_false new rn b
+          ∙ sym (means_false old ro b);
+    }
 
     true_moved : IsMoved old new 1 1
-    true_moved = record { known = omega (arith, rn.constants); level = constant_level new rn 1 (omega arith) ∙ sym (constant_level old ro 1 (omega arith)); meaning = λ b. means_true new rn b ∙ sym (means_true old ro b) }
+    true_moved = record {
+      known = omega (arith, rn.constants);
+      level = constant_level new rn 1 (omega arith)
+          ∙ sym (constant_level old ro 1 (omega arith));
+      meaning = λ b. means_true new rn b
+          ∙ sym (means_true old ro b);
+    }
 
-module _ (old before new : List Node) (marks : List Bool) (places after : List ℕ) (n place : ℕ) (ro : IsReduced old) (in_range : n < length old) (was : AreMoved old marks before places n) (g : Grows before new) (rn : IsReduced new)
-    (e : after ≡ places ++ place ∷ []) (two : 2 ≤ n) (here : is_marked marks n ≡ true → IsPlaced old before new places n place) (none : is_marked marks n ≡ false → new ≡ before) where
+module _ (old before new : List Node) (marks : List Bool) (places after : List ℕ) (n place : ℕ) (ro : IsReduced old)
+    (in_range : n < length old) (was : AreMoved old marks before places n)
+    (g : Grows before new) (rn : IsReduced new)
+    (e : after ≡ places ++ place ∷ []) (two : 2 ≤ n) (here : is_marked marks n ≡ true → IsPlaced old before new places
+    n place) (none : is_marked marks n ≡ false → new ≡ before) where
   last : slice_index after n ≡ place
   last = let c : length places + 0 ≡ n = omega (arith, was.count) in
       ap (λ l. slice_index l n) e ∙ ap (slice_index (places ++ place ∷ [])) (sym c) ∙ get_or-append-add places (place ∷ []) 0 0
@@ -151,10 +169,11 @@ module _ (old before new : List Node) (marks : List Bool) (places after : List �
       older a = let w = was.only p inner a in (w.0, w.1, omega (arith, w.2), w.3, stays w.0 w.2 ∙ w.4)
 
       newer : length before ≤ p → (id : ℕ) × (2 ≤ id) × (id < n + 1) × (is_marked marks id ≡ true) × (slice_index after id ≡ p)
-      newer a = (elim (is_marked marks n) as (λ t. is_marked marks n ≡ t → (id : ℕ) × (2 ≤ id) × (id < n + 1) × (is_marked marks id ≡ true) × (slice_index after id ≡ p)) [
-        | true ↦ λ m. (n, two, omega arith, m, last ∙ sym ((here m).only p a h))
-        | false ↦ λ m. absurd (omega (arith, a, h, ap (λ (l : List Node). length l) (none m)))
-      ]) refl
+      newer a = (elim (is_marked marks n) as (λ t. is_marked marks n ≡ t → (id : ℕ) × (2 ≤ id) × (id < n + 1)
+          × (is_marked marks id ≡ true) × (slice_index after id ≡ p)) [
+            | true ↦ λ m. (n, two, omega arith, m, last ∙ sym ((here m).only p a h))
+            | false ↦ λ m. absurd (omega (arith, a, h, ap (λ (l : List Node). length l) (none m)))
+          ]) refl
 
   pub step_moved : AreMoved old marks new after (n + 1)
   step_moved = record {
@@ -162,24 +181,29 @@ module _ (old before new : List Node) (marks : List Bool) (places after : List �
     count = ap (λ (l : List ℕ). length l) e ∙ omega (arith, length-append places (place ∷ []), was.count);
     moved = λ id h kept. elim (order id n) [
       | inl a ↦ subst (λ p. IsMoved old new id p) (sym (stays id a)) (moved_grown old before new was.reduced g id _ (was.moved id a kept))
-      | inr (inl s) ↦ subst (λ k. IsMoved old new k (slice_index after k)) (sym s) (subst (λ p. IsMoved old new n p) (sym last) (here (marked (subst (λ k. is_kept marks k ≡ true) s kept))).moved)
+      | inr (inl s) ↦ subst (λ k. IsMoved old new k (slice_index after k)) (sym s)
+          (subst (λ p. IsMoved old new n p) (sym last) (here
+          (marked (subst (λ k. is_kept marks k ≡ true) s kept))).moved)
       | inr (inr a) ↦ absurd (omega arith)
     ];
     lo_moved = λ id h kept. elim (order id n) [
       | inl a ↦ old_lo id a kept
-      | inr (inl s) ↦ subst (λ k. (at new (slice_index after k)).lo ≡ slice_index after (at old k).lo) (sym s) (new_lo (marked (subst (λ k. is_kept marks k ≡ true) s kept)))
+      | inr (inl s) ↦ subst (λ k. (at new (slice_index after k)).lo ≡ slice_index after (at old k).lo) (sym s)
+          (new_lo (marked (subst (λ k. is_kept marks k ≡ true) s kept)))
       | inr (inr a) ↦ absurd (omega arith)
     ];
     hi_moved = λ id h kept. elim (order id n) [
       | inl a ↦ old_hi id a kept
-      | inr (inl s) ↦ subst (λ k. (at new (slice_index after k)).hi ≡ slice_index after (at old k).hi) (sym s) (new_hi (marked (subst (λ k. is_kept marks k ≡ true) s kept)))
+      | inr (inl s) ↦ subst (λ k. (at new (slice_index after k)).hi ≡ slice_index after (at old k).hi) (sym s)
+          (new_hi (marked (subst (λ k. is_kept marks k ≡ true) s kept)))
       | inr (inr a) ↦ absurd (omega arith)
     ];
     only = new_only;
   }
 
 -- the children of a marked node have their places
-pub lo_placed : (old before : List Node) (marks : List Bool) (places : List ℕ) (n : ℕ) → IsReduced old → IsClosed old marks → 2 ≤ n → n < length old → AreMoved old marks before places n → is_marked marks n ≡ true
+pub lo_placed : (old before : List Node) (marks : List Bool) (places : List ℕ) (n : ℕ) → IsReduced old
+    → IsClosed old marks → 2 ≤ n → n < length old → AreMoved old marks before places n → is_marked marks n ≡ true
     → IsMoved old before (at old n).lo (slice_index places (at old n).lo)
 lo_placed old before marks places n ro closed two known was m = let i = ro.inner n two known in
     was.moved (at old n).lo i.lo_before (closed.lo_kept n two known (kept_marked (nat_lt n 2) m))
@@ -188,7 +212,8 @@ lo_placed old before marks places n ro closed two known was m = let i = ro.inner
     kept_marked true e = refl
     kept_marked false e = e
 
-pub hi_placed : (old before : List Node) (marks : List Bool) (places : List ℕ) (n : ℕ) → IsReduced old → IsClosed old marks → 2 ≤ n → n < length old → AreMoved old marks before places n → is_marked marks n ≡ true
+pub hi_placed : (old before : List Node) (marks : List Bool) (places : List ℕ) (n : ℕ) → IsReduced old
+    → IsClosed old marks → 2 ≤ n → n < length old → AreMoved old marks before places n → is_marked marks n ≡ true
     → IsMoved old before (at old n).hi (slice_index places (at old n).hi)
 hi_placed old before marks places n ro closed two known was m = let i = ro.inner n two known in
     was.moved (at old n).hi i.hi_before (closed.hi_kept n two known (kept_marked (nat_lt n 2) m))

@@ -21,7 +21,9 @@ module _ (xs : List Node) (r : IsReduced xs) where
       let i = r.inner id two known in
       let up = level_bound xs r (at xs id).lo (let e = i.lo_before in omega (arith, e, known)) in
       let low : l < 4294967295 = (let e = i.lo_below in omega (arith, e, up)) in
-      let there : half xs id l v ≡ cond v (at xs id).hi (at xs id).lo = (let t : eqb l l ≡ true = eq-eqb l l refl in ap (λ (t : Bool). cond t (cond v (at xs id).hi (at xs id).lo) id) t) in
+      let there : half xs id l v ≡ cond v (at xs id).hi (at xs id).lo =
+      (let t : eqb l l ≡ true = eq-eqb l l refl in ap (λ (t : Bool). cond t (cond v (at xs id).hi (at xs id).lo)
+      id) t) in
       (put b l v, means_put xs r b l id v known low (omega arith) ∙ ap (λ (n : ℕ). means xs n b) there ∙ h)
 
   -- the way down to the constant true: of the two children at most one is the constant false

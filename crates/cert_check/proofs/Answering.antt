@@ -23,7 +23,9 @@ use Rattle.bdd_table.proofs.Witness.{is_zero, holds_for_some}
 use Rattle.cert_check.proofs.Judged.{member_alike, closed_alike, leaves_alike, meets_alike, misses_alike, leaves, closed, meets, misses, members_set, members_are, has_is, begins_at}
 
 -- an Id that isn't false holds for some bits
-says_some : (nodes : List Node) → IsReduced nodes → (id : ℕ) → id < length nodes → (P Q : Type 0) → ((b : Bits) → means nodes id b ≡ true → P) → (((b : Bits) → means nodes id b ≡ false) → Q) → MatchBool (not (eqb id 0)) P Q
+says_some : (nodes : List Node) → IsReduced nodes → (id : ℕ) → id < length nodes → (P Q : Type 0)
+    → ((b : Bits) → means nodes id b ≡ true → P) → (((b : Bits) → means nodes id b ≡ false) → Q)
+    → MatchBool (not (eqb id 0)) P Q
 says_some nodes r id known P Q there none = elim (is_zero id) [
   | inl z ↦ subst (λ (t : Bool). MatchBool (not t) P Q) (sym (eq-eqb id 0 z)) (none (λ b. ap (λ (n : ℕ). means nodes n b) z ∙ means_false nodes r b))
   | inr some ↦ subst (λ (t : Bool). MatchBool (not t) P Q) (sym (ne_eqb id 0 some)) (let w = holds_for_some nodes r id known some in there w.0 w.1)
@@ -42,7 +44,8 @@ pub match_none : (r : Option ℕ) (P : Type 0) (Q : ℕ → Type 0) → r ≡ No
 match_none r P Q e h = subst (λ (o : Option ℕ). MatchOption o P Q) e h
 
 -- an Id that was known has the same members
-pub kept_members : (o : Layout) (old new : List Node) (id : ℕ) → Keeps old new → id < length old → (s : List ℕ) → HasMember o (means new id) s ↔ HasMember o (means old id) s
+pub kept_members : (o : Layout) (old new : List Node) (id : ℕ) → Keeps old new → id < length old → (s : List ℕ)
+    → HasMember o (means new id) s ↔ HasMember o (means old id) s
 kept_members o old new id k lt s = member_alike o (means new id) (means old id) s (λ b. sym (k.meaning id b lt))
 
 pub kept_set : (o : Layout) (old new : List Node) (id : ℕ) → Keeps old new → id < length old → IsSet o (means old id) → IsSet o (means new id)
@@ -53,34 +56,52 @@ kept_known old new id k lt = (let more = k.known in omega (arith, more, lt))
 
 module _ (task : TaskParts) (o : Layout) (fits : Fits task) (order : IsOrderOf task o) where
   -- One operator.
-  module _ (op : ℕ) (ops0 ops1 : List Node) (members : ℕ) (places : List ℕ) (root : ℕ) (known : members < length ops0) (set : IsSet o (means ops0 members)) (k1 : Keeps ops0 ops1) (relates : Relates o places (λ s t. Leads task s op t) (means ops1 root)) where
+  module _ (op : ℕ) (ops0 ops1 : List Node) (members : ℕ) (places : List ℕ) (root : ℕ) (known : members < length ops0)
+      (set : IsSet o (means ops0 members)) (k1 : Keeps ops0 ops1)
+      (relates : Relates o places (λ s t. Leads task s op t) (means ops1 root)) where
     pub over : AreOver o places (means ops1 root) (means ops1 members)
-    over = record { layout = order.layout; steps = steps_of_relates o places (λ s t. Leads task s op t) (means ops1 root) relates; states = kept_set o ops0 ops1 members k1 known set }
+    over = record {
+      layout = order.layout;
+      steps = steps_of_relates o places (λ s t. Leads task s op t)
+          (means ops1 root) relates;
+      states = kept_set o ops0 ops1 members k1 known set;
+    }
 
-    pub leads_says : (ops2 ops3 : List Node) (reached out : ℕ) → Keeps ops1 ops2 → IsReduced ops3 → Names o (Successor o places (means ops1 root) (means ops1 members)) (means ops2 reached)
+    pub leads_says : (ops2 ops3 : List Node) (reached out : ℕ) → Keeps ops1 ops2 → IsReduced ops3
+        → Names o (Successor o places (means ops1 root) (means ops1 members)) (means ops2 reached)
         → out < length ops3 → ((b : Bits) → means ops3 out b ≡ (means ops2 reached b && not (means ops2 members b)))
         → MatchBool (not (eqb out 0)) (LeavesBy task (HasMember o (means ops0 members)) op) (ClosedBy task (HasMember o (means ops0 members)) op)
     leads_says ops2 ops3 reached out k2 reduced names there minus =
         let F = means ops1 members in
         let set1 : IsSet o F = kept_set o ops0 ops1 members k1 known set in
         let in1 = kept_known ops0 ops1 members k1 known in
-        let less : (b : Bits) → means ops3 out b ≡ (means ops2 reached b && not (means ops1 members b)) = λ b. minus b ∙ ap (λ (t : Bool). means ops2 reached b && not t) (k2.meaning members b in1) in
-        let same : (s : List ℕ) → IsState task s → HasMember o (means ops1 members) s ↔ HasMember o (means ops0 members) s = λ s state. kept_members o ops0 ops1 members k1 known s in
+        let less : (b : Bits) → means ops3 out b ≡ (means ops2 reached b && not (means ops1 members b)) = λ b. minus b
+        ∙ ap (λ (t : Bool). means ops2 reached b && not t) (k2.meaning members b in1) in
+        let same : (s : List ℕ) → IsState task s → HasMember o (means ops1 members) s
+        ↔ HasMember o (means ops0 members) s = λ s state. kept_members o ops0 ops1 members k1 known s in
         says_some ops3 reduced out there (LeavesBy task (HasMember o (means ops0 members)) op) (ClosedBy task (HasMember o (means ops0 members)) op)
-        (λ b h. leaves_alike task fits (HasMember o F) (HasMember o (means ops0 members)) same op (leaves task o fits order op places (means ops1 root) F (means ops2 reached) (means ops3 out) relates set1 names less b h))
-        (λ none. closed_alike task fits (HasMember o F) (HasMember o (means ops0 members)) same op (closed task o fits order op places (means ops1 root) F (means ops2 reached) (means ops3 out) relates set1 names less none))
+        (λ b h. leaves_alike task fits (HasMember o F) (HasMember o (means ops0 members)) same op
+        (leaves task o fits order op places (means ops1 root) F (means ops2 reached) (means ops3 out)
+        relates set1 names less b h))
+        (λ none. closed_alike task fits (HasMember o F) (HasMember o (means ops0 members)) same op
+        (closed task o fits order op places (means ops1 root) F (means ops2 reached) (means ops3 out)
+        relates set1 names less none))
 
   -- The goal.
   pub goal_says : (ops0 ops1 ops2 : List Node) (members goals met : ℕ) → members < length ops0 → IsSet o (means ops0 members) → Keeps ops0 ops1 → IsReduced ops2
-      → IsTrueWhere task o ops1 (λ s. All (Holds task s) task.goal) goals → met < length ops2 → ((b : Bits) → means ops2 met b ≡ (means ops1 members b && means ops1 goals b))
+      → IsTrueWhere task o ops1 (λ s. All (Holds task s) task.goal) goals → met < length ops2
+      → ((b : Bits) → means ops2 met b ≡ (means ops1 members b && means ops1 goals b))
       → MatchBool (not (eqb met 0)) (MeetsGoal task (HasMember o (means ops0 members))) (MissesGoal task (HasMember o (means ops0 members)))
   goal_says ops0 ops1 ops2 members goals met known set k1 reduced says there both =
       let F = means ops1 members in
       let set1 : IsSet o F = kept_set o ops0 ops1 members k1 known set in
-      let same : (s : List ℕ) → IsState task s → HasMember o (means ops1 members) s ↔ HasMember o (means ops0 members) s = λ s state. kept_members o ops0 ops1 members k1 known s in
+      let same : (s : List ℕ) → IsState task s → HasMember o (means ops1 members) s
+      ↔ HasMember o (means ops0 members) s = λ s state. kept_members o ops0 ops1 members k1 known s in
       says_some ops2 reduced met there (MeetsGoal task (HasMember o (means ops0 members))) (MissesGoal task (HasMember o (means ops0 members)))
-      (λ b h. meets_alike task fits (HasMember o F) (HasMember o (means ops0 members)) same (meets task o fits order F (means ops1 goals) (means ops2 met) set1 says both b h))
-      (λ none. misses_alike task fits (HasMember o F) (HasMember o (means ops0 members)) same (misses task o fits order F (means ops1 goals) (means ops2 met) set1 says both none))
+      (λ b h. meets_alike task fits (HasMember o F) (HasMember o (means ops0 members)) same
+      (meets task o fits order F (means ops1 goals) (means ops2 met) set1 says both b h))
+      (λ none. misses_alike task fits (HasMember o F) (HasMember o (means ops0 members)) same
+      (misses task o fits order F (means ops1 goals) (means ops2 met) set1 says both none))
 
   -- The members of a set.
   pub record AreMembers (ops0 : List Node) (set : ℕ) (ops1 : List Node) (members : ℕ) : Type 0 where
@@ -88,10 +109,12 @@ module _ (task : TaskParts) (o : Layout) (fits : Fits task) (order : IsOrderOf t
     pub is_set : IsSet o (means ops1 members)
     pub same : (s : List ℕ) → IsState task s → HasMember o (means ops0 set) s ↔ HasMember o (means ops1 members) s
 
-  pub members_made : (ops0 ops1 ops2 : List Node) (set valid members : ℕ) → set < length ops0 → IsSetOfStates o ops0 set → Keeps ops0 ops1 → ((b : Bits) → (means ops1 valid b ≡ true) ↔ IsOfState o b)
+  pub members_made : (ops0 ops1 ops2 : List Node) (set valid members : ℕ) → set < length ops0
+      → IsSetOfStates o ops0 set → Keeps ops0 ops1 → ((b : Bits) → (means ops1 valid b ≡ true) ↔ IsOfState o b)
       → members < length ops2 → ((b : Bits) → means ops2 members b ≡ (means ops1 valid b && means ops1 set b)) → AreMembers ops0 set ops2 members
   members_made ops0 ops1 ops2 set valid members known alone k1 all there both =
-      let less : (b : Bits) → means ops2 members b ≡ (means ops1 valid b && means ops0 set b) = λ b. both b ∙ ap (λ (t : Bool). means ops1 valid b && t) (k1.meaning set b known) in
+      let less : (b : Bits) → means ops2 members b ≡ (means ops1 valid b && means ops0 set b) = λ b. both b
+      ∙ ap (λ (t : Bool). means ops1 valid b && t) (k1.meaning set b known) in
       record {
         known = there;
         is_set = members_set task o fits order (means ops1 valid) (means ops0 set) (means ops2 members) all alone less;
@@ -99,14 +122,25 @@ module _ (task : TaskParts) (o : Layout) (fits : Fits task) (order : IsOrderOf t
       }
 
   -- the initial state
-  pub begins_has : (nodes : List Node) (set : ℕ) (start : List ℕ) (r : Bool) → IsInitial task start → IsSetOfStates o nodes set → IsTrue r ↔ Has o nodes set start → r ≡ true → Begins task (HasMember o (means nodes set))
-  begins_has nodes set start r i alone says e = begins_at task (HasMember o (means nodes set)) start i ((has_is task o fits order nodes set start i.state alone).0 (says.0 e))
+  pub begins_has : (nodes : List Node) (set : ℕ) (start : List ℕ) (r : Bool) → IsInitial task start
+      → IsSetOfStates o nodes set → IsTrue r ↔ Has o nodes set start → r ≡ true
+      → Begins task (HasMember o (means nodes set))
+  begins_has nodes set start r i alone says e = begins_at task (HasMember o (means nodes set)) start i
+      ((has_is task o fits order nodes set start i.state alone).0 (says.0 e))
 
-  pub begins_not : (nodes : List Node) (set : ℕ) (start : List ℕ) (r : Bool) → IsInitial task start → IsSetOfStates o nodes set → IsTrue r ↔ Has o nodes set start → r ≡ false → (s : List ℕ) × IsInitial task s × (HasMember o (means nodes set) s → ⊥)
-  begins_not nodes set start r i alone says e = (start, i, λ member. true≢false (sym (says.1 ((has_is task o fits order nodes set start i.state alone).1 member)) ∙ e))
+  pub begins_not : (nodes : List Node) (set : ℕ) (start : List ℕ) (r : Bool) → IsInitial task start
+      → IsSetOfStates o nodes set → IsTrue r ↔ Has o nodes set start → r ≡ false → (s : List ℕ) × IsInitial task s
+      × (HasMember o (means nodes set) s → ⊥)
+  begins_not nodes set start r i alone says e = (
+    start,
+    i,
+    λ member. true≢false
+        (sym (says.1 ((has_is task o fits order nodes set start i.state alone).1 member)) ∙ e),
+  )
 
 -- an operator less to look at
-pub closed_more : (task : TaskParts) (I : List ℕ → Type 0) (n : ℕ) → ((a : ℕ) → a < n → ClosedBy task I a) → ClosedBy task I n → (a : ℕ) → a < n + 1 → ClosedBy task I a
+pub closed_more : (task : TaskParts) (I : List ℕ → Type 0) (n : ℕ) → ((a : ℕ) → a < n → ClosedBy task I a)
+    → ClosedBy task I n → (a : ℕ) → a < n + 1 → ClosedBy task I a
 closed_more task I n before here a lt = elim (below_or_at a n lt) [
   | inl less ↦ before a less
   | inr e ↦ subst (ClosedBy task I) (sym e) here
@@ -116,8 +150,10 @@ closed_more task I n before here a lt = elim (below_or_at a n lt) [
     below_or_at op n h = grind arith
 
 -- no number past the last is an operator's
-pub past_operators : (task : TaskParts) (I : List ℕ → Type 0) (n : ℕ) → length task.operators ≤ n → ((a : ℕ) → a < n → ClosedBy task I a) → (a : ℕ) → ClosedBy task I a
+pub past_operators : (task : TaskParts) (I : List ℕ → Type 0) (n : ℕ) → length task.operators ≤ n
+    → ((a : ℕ) → a < n → ClosedBy task I a) → (a : ℕ) → ClosedBy task I a
 past_operators task I n all before a s t state member step = elim (slice_get_cases task.operators a).1 [
   | inl some ↦ (let lt = some.1 in before a (omega (arith, lt, all)) s t state member step)
-  | inr past ↦ absurd (subst (λ (x : Option Operator). IsSomeAnd x (λ operator. All (Holds task s) operator.prevail × All (Allows task s) operator.effects)) past.1 step.0)
+  | inr past ↦ absurd (subst (λ (x : Option Operator). IsSomeAnd x
+      (λ operator. All (Holds task s) operator.prevail × All (Allows task s) operator.effects)) past.1 step.0)
 ]

@@ -19,28 +19,38 @@ use Rattle.cert_check.proofs.Judged.{member_alike, closed_alike, leaves_alike}
 use Rattle.cert_check.proofs.Answering.{kept_set, closed_more}
 
 -- where the roots, and the members behind them, were moved together
-pub carried_by : (old new : List Node) (derived : List ℕ) (members : ℕ) (roots places more : List ℕ) (place : ℕ) → roots ≡ derived ++ members ∷ [] → ((i : ℕ) → i < length roots → IsMoved old new (get_or roots i 0) (get_or places i 0))
-    → length more ≡ length derived → ((var : ℕ) → var < length derived → get_or more var 0 ≡ get_or places var 0) → place ≡ get_or places (length derived) 0 → AreCarried old derived members new more place
+pub carried_by : (old new : List Node) (derived : List ℕ) (members : ℕ) (roots places more : List ℕ) (place : ℕ)
+    → roots ≡ derived ++ members ∷ [] → ((i : ℕ) → i < length roots → IsMoved old new (get_or roots i 0)
+    (get_or places i 0))
+    → length more ≡ length derived → ((var : ℕ) → var < length derived → get_or more var 0 ≡ get_or places var 0)
+    → place ≡ get_or places (length derived) 0 → AreCarried old derived members new more place
 carried_by old new derived members roots places more place is moved count each last =
     let long : length roots ≡ length derived + 1 = ap (λ (xs : List ℕ). length xs) is ∙ length-append derived (members ∷ []) in
     record {
       count = count;
       each = λ var lt. (
           let from : get_or roots var 0 ≡ get_or derived var 0 = ap (λ (xs : List ℕ). get_or xs var 0) is ∙ get_or-append derived (members ∷ []) 0 var lt in
-          subst (λ (id : ℕ). IsMoved old new id (get_or more var 0)) from (subst (IsMoved old new (get_or roots var 0)) (sym (each var lt)) (moved var (omega (arith, lt, long)))));
+          subst (λ (id : ℕ). IsMoved old new id (get_or more var 0)) from
+          (subst (IsMoved old new (get_or roots var 0)) (sym (each var lt))
+          (moved var (omega (arith, lt, long)))));
       set = (
-          let from : get_or roots (length derived) 0 ≡ members = ap (λ (xs : List ℕ). get_or xs (length derived) 0) is ∙ get_or-append_seam derived members [] 0 in
-          subst (λ (id : ℕ). IsMoved old new id place) from (subst (IsMoved old new (get_or roots (length derived) 0)) (sym last) (moved (length derived) (omega (arith, long)))));
+          let from : get_or roots (length derived) 0 ≡ members = ap (λ (xs : List ℕ). get_or xs (length derived) 0) is
+          ∙ get_or-append_seam derived members [] 0 in
+          subst (λ (id : ℕ). IsMoved old new id place) from (subst (IsMoved old new (get_or roots (length derived) 0))
+          (sym last) (moved (length derived) (omega (arith, long)))));
     }
 
 -- all of them are known
-pub all_known : (nodes : List Node) (derived : List ℕ) (members : ℕ) (roots : List ℕ) → roots ≡ derived ++ members ∷ [] → ((var : ℕ) → var < length derived → get_or derived var 0 < length nodes) → members < length nodes
+pub all_known : (nodes : List Node) (derived : List ℕ) (members : ℕ) (roots : List ℕ)
+    → roots ≡ derived ++ members ∷ [] → ((var : ℕ) → var < length derived → get_or derived var 0 < length nodes)
+    → members < length nodes
     → (i : ℕ) → i < length roots → get_or roots i 0 < length nodes
 all_known nodes derived members roots is each known i lt =
     let long : length roots ≡ length derived + 1 = ap (λ (xs : List ℕ). length xs) is ∙ length-append derived (members ∷ []) in
     subst (λ (xs : List ℕ). get_or xs i 0 < length nodes) (sym is) (elim (below_or_at i (length derived) (omega (arith, lt, long))) [
       | inl less ↦ subst (λ (id : ℕ). id < length nodes) (sym (get_or-append derived (members ∷ []) 0 i less)) (each i less)
-      | inr at ↦ subst (λ (k : ℕ). get_or (derived ++ members ∷ []) k 0 < length nodes) (sym at) (subst (λ (id : ℕ). id < length nodes) (sym (get_or-append_seam derived members [] 0)) known)
+      | inr at ↦ subst (λ (k : ℕ). get_or (derived ++ members ∷ []) k 0 < length nodes) (sym at)
+          (subst (λ (id : ℕ). id < length nodes) (sym (get_or-append_seam derived members [] 0)) known)
     ])
   where
     below_or_at : (i n : ℕ) → i < n + 1 → (i < n) ⊎ (i ≡ n)
@@ -54,7 +64,8 @@ pub record AreWatched (task : TaskParts) (o : Layout) (start : List Node) (set :
   pub roots : AreRoots task o now derived
   pub closed : (a : ℕ) → a < op → ClosedBy task (HasMember o (means start set)) a
 
-module _ (task : TaskParts) (o : Layout) (fits : Fits task) (start : List Node) (set : ℕ) (now : List Node) (derived : List ℕ) (members op : ℕ) (watched : AreWatched task o start set now derived members op) where
+module _ (task : TaskParts) (o : Layout) (fits : Fits task) (start : List Node) (set : ℕ) (now : List Node)
+    (derived : List ℕ) (members op : ℕ) (watched : AreWatched task o start set now derived members op) where
   -- the operator leads to members from members alone
   pub watched_more : (next : List Node) → Keeps now next → ClosedBy task (HasMember o (means now members)) op
       → (new : List Node) (more : List ℕ) (place : ℕ) → AreCarried next derived members new more place → AreWatched task o start set new more place (op + 1)
@@ -64,14 +75,17 @@ module _ (task : TaskParts) (o : Layout) (fits : Fits task) (start : List Node) 
     is_set = set_alike o (means next members) (means new place) carried.set.meaning (kept_set o now next members kept watched.known watched.is_set);
     roots = roots_moved task o next new derived more (roots_kept task o now next derived kept watched.roots) carried.count carried.each;
     closed = closed_more task (HasMember o (means start set)) op watched.closed
-        (closed_alike task fits (HasMember o (means now members)) (HasMember o (means start set)) (λ s state. member_alike o (means now members) (means start set) s (λ b. sym (watched.same b))) op closed);
+        (closed_alike task fits (HasMember o (means now members)) (HasMember o (means start set))
+        (λ s state. member_alike o (means now members) (means start set) s (λ b. sym (watched.same b))) op
+        closed);
   }
 
   -- or it leads out of them
   pub leaves_first : LeavesBy task (HasMember o (means now members)) op → FirstLeaves task (HasMember o (means start set)) op
   leaves_first leaves = (
     watched.closed,
-    leaves_alike task fits (HasMember o (means now members)) (HasMember o (means start set)) (λ s state. member_alike o (means now members) (means start set) s (λ b. sym (watched.same b))) op leaves,
+    leaves_alike task fits (HasMember o (means now members)) (HasMember o (means start set))
+        (λ s state. member_alike o (means now members) (means start set) s (λ b. sym (watched.same b))) op leaves,
   )
 
   pub leaves_set : (next : List Node) → Keeps now next → IsSet o (means next members)

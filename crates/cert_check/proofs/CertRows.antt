@@ -24,7 +24,8 @@ abbrev pub RowIs : {X : Type 0} → (List ℕ → Option X) → (X → Row) → 
 RowIs test row F = grammar.RowIs shape_of IsSpelled tt test row F
 
 -- a row of known bytes
-word_is : (bytes : List ℕ) (row : Row) → ((l : List ℕ) → l ≡ bytes → IsSpelled row l) → ((l : List ℕ) → IsSpelled row l → l ≡ bytes) → RowIs (exactly bytes) (λ _. row) Always
+word_is : (bytes : List ℕ) (row : Row) → ((l : List ℕ) → l ≡ bytes → IsSpelled row l)
+    → ((l : List ℕ) → IsSpelled row l → l ≡ bytes) → RowIs (exactly bytes) (λ _. row) Always
 word_is bytes row to back = record {
   shaped = λ x. refl;
   reads = λ l x e. (tt, to l ((bytes_eq-Decides l bytes).0 (cond_some (bytes_eq l bytes) tt x e).0));
@@ -39,13 +40,21 @@ pub end_is : RowIs (exactly (codes "end")) (λ _. «end») Always
 end_is = word_is (codes "end") «end» (λ l e. e) (λ l e. e)
 
 -- a row of bytes and a number that passes a test
-number_is : (word : List ℕ) (pass : ℕ → Option ℕ) (row : ℕ → Row) (N : ℕ → Type 0) → ((n : ℕ) (l : List ℕ) → IsNumbered word n l → IsSpelled (row n) l) → ((n : ℕ) (l : List ℕ) → IsSpelled (row n) l → IsNumbered word n l)
-    → ((n m : ℕ) → pass n ≡ Some m → N n × (n ≡ m)) → ((n : ℕ) → N n → pass n ≡ Some n) → N 0 → RowIs (λ line. option_and_then pass (number_after word line)) row N
+number_is : (word : List ℕ) (pass : ℕ → Option ℕ) (row : ℕ → Row) (N : ℕ → Type 0)
+    → ((n : ℕ) (l : List ℕ) → IsNumbered word n l → IsSpelled (row n) l)
+    → ((n : ℕ) (l : List ℕ) → IsSpelled (row n) l → IsNumbered word n l)
+    → ((n m : ℕ) → pass n ≡ Some m → N n × (n ≡ m)) → ((n : ℕ) → N n → pass n ≡ Some n) → N 0
+    → RowIs (λ line. option_and_then pass (number_after word line)) row N
 number_is word pass row N to back passes again zero_passes = record {
   shaped = λ x. refl;
   reads = λ l x e. found l x (number_after word l) refl e;
   again = λ l x f h. ap (option_and_then pass) (alone_again word x l (back x l h)) ∙ again x f;
-  sample = (word ++ decimal 0, 0, ap (option_and_then pass) (alone_again word 0 (word ++ decimal 0) (decimal 0, decimal_number 0 (omega arith), refl)) ∙ again 0 zero_passes);
+  sample = (
+    word ++ decimal 0,
+    0,
+    ap (option_and_then pass) (alone_again word 0 (word ++ decimal 0)
+        (decimal 0, decimal_number 0 (omega arith), refl)) ∙ again 0 zero_passes,
+  );
 }
   where
     found : (l : List ℕ) (x : ℕ) (o : Option ℕ) → number_after word l ≡ o → option_and_then pass o ≡ Some x → N x × IsSpelled (row x) l
@@ -85,7 +94,12 @@ bits_is width small = record {
   shaped = λ x. refl;
   reads = λ l x e. (tt, numbered_is (codes "bits ") width l (cond_some (is_numbered (codes "bits ") width l) tt x e).0);
   again = λ l x f h. (let t = numbered_again (codes "bits ") width l h in rw t refl);
-  sample = (codes "bits " ++ decimal width, tt, (let t = numbered_again (codes "bits ") width (codes "bits " ++ decimal width) (decimal width, decimal_number width small, refl) in rw t refl));
+  sample = (
+    codes "bits " ++ decimal width,
+    tt,
+    (let t = numbered_again (codes "bits ") width
+        (codes "bits " ++ decimal width) (decimal width, decimal_number width small, refl) in rw t refl),
+  );
 }
 
 -- a node that may always follow where a state has a bit

@@ -39,7 +39,15 @@ module _ (task : TaskParts) (fits : Fits task) (I J : List ℕ → Type 0) (same
   closed_alike a h s t state member step = (same t (step_state task s a t fits state step)).0 (h s t state ((same s state).1 member) step)
 
   pub leaves_alike : (a : ℕ) → LeavesBy task I a → LeavesBy task J a
-  leaves_alike a (s, t, state, member, step, none) = (s, t, state, (same s state).0 member, step, λ h. none ((same t (step_state task s a t fits state step)).1 h))
+  leaves_alike a (s, t, state, member, step, none) = (
+    s,
+    t,
+    state,
+    (same s state).0 member,
+    step,
+    λ h. none
+        ((same t (step_state task s a t fits state step)).1 h),
+  )
 
   pub first_alike : (a : ℕ) → FirstLeaves task I a → FirstLeaves task J a
   first_alike a (before, leaves) = ((λ b lt. closed_alike b (before b lt)), leaves_alike a leaves)
@@ -57,7 +65,8 @@ module _ (task : TaskParts) (fits : Fits task) (I J : List ℕ → Type 0) (same
   judged_alike (No Goal) (begins, closed, meets) = (begins_alike begins, (λ a. closed_alike a (closed a)), meets_alike meets)
 
 -- and the other way round
-pub judged_back : (task : TaskParts) → Fits task → (I J : List ℕ → Type 0) → ((s : List ℕ) → IsState task s → I s ↔ J s) → (v : CertVerdict) → Judges task J v → Judges task I v
+pub judged_back : (task : TaskParts) → Fits task → (I J : List ℕ → Type 0)
+    → ((s : List ℕ) → IsState task s → I s ↔ J s) → (v : CertVerdict) → Judges task J v → Judges task I v
 judged_back task fits I J same = judged_alike task fits J I (λ s state. (let h = same s state in (h.1, h.0)))
 
 not_false : (b : Bool) → not b ≡ true → b ≡ false
@@ -70,7 +79,9 @@ module _ (task : TaskParts) (o : Layout) (fits : Fits task) (order : IsOrderOf t
   some_code s state = (let c = coded o s order.layout (state_of task o s order state) in (c.0, c.1))
 
   -- What one operator leads to.
-  module _ (op : ℕ) (places : List ℕ) (R F G H : Bits → Bool) (relates : Relates o places (λ s t. Leads task s op t) R) (set : IsSet o F) (names : Names o (Successor o places R F) G) (minus : (b : Bits) → H b ≡ (G b && not (F b))) where
+  module _ (op : ℕ) (places : List ℕ) (R F G H : Bits → Bool)
+      (relates : Relates o places (λ s t. Leads task s op t) R) (set : IsSet o F)
+      (names : Names o (Successor o places R F) G) (minus : (b : Bits) → H b ≡ (G b && not (F b))) where
     pub leaves : (b : Bits) → H b ≡ true → LeavesBy task (HasMember o F) op
     leaves b h =
         let parts = and_parts (G b) (not (F b)) (sym (minus b) ∙ h) in
@@ -102,7 +113,8 @@ module _ (task : TaskParts) (o : Layout) (fits : Fits task) (order : IsOrderOf t
         ]
 
   -- Where the goal holds.
-  module _ (F A M : Bits → Bool) (set : IsSet o F) (goals : (s : List ℕ) (b : Bits) → IsState task s → IsCode o 0 s b → (A b ≡ true) ↔ All (Holds task s) task.goal) (both : (b : Bits) → M b ≡ (F b && A b)) where
+  module _ (F A M : Bits → Bool) (set : IsSet o F) (goals : (s : List ℕ) (b : Bits) → IsState task s → IsCode o 0 s b
+      → (A b ≡ true) ↔ All (Holds task s) task.goal) (both : (b : Bits) → M b ≡ (F b && A b)) where
     pub meets : (b : Bits) → M b ≡ true → MeetsGoal task (HasMember o F)
     meets b h =
         let parts = and_parts (F b) (A b) (sym (both b) ∙ h) in
@@ -114,7 +126,9 @@ module _ (task : TaskParts) (o : Layout) (fits : Fits task) (order : IsOrderOf t
     misses none s state (b, code, h) goal = true≢false (sym (both b ∙ and_from (F b) (A b) h ((goals s b state code).1 goal)) ∙ none b)
 
   -- The members of a set, its states alone.
-  module _ (V S M : Bits → Bool) (valid : (b : Bits) → (V b ≡ true) ↔ IsOfState o b) (alone : (b c : Bits) → ((p : ℕ) → p < bits o → b (level_at 0 p) ≡ c (level_at 0 p)) → S b ≡ S c) (both : (b : Bits) → M b ≡ (V b && S b)) where
+  module _ (V S M : Bits → Bool) (valid : (b : Bits) → (V b ≡ true) ↔ IsOfState o b)
+      (alone : (b c : Bits) → ((p : ℕ) → p < bits o → b (level_at 0 p) ≡ c (level_at 0 p)) → S b ≡ S c)
+      (both : (b : Bits) → M b ≡ (V b && S b)) where
     pub members_set : IsSet o M
     members_set b = (
       (λ h. (let parts = and_parts (V b) (S b) (sym (both b) ∙ h) in let x = (valid b).0 parts.0 in (x.0, x.1, x.2, (b, x.2, h)))),

@@ -31,7 +31,9 @@ three_is : (line : List ℕ) (bit lo hi : ℕ) → three_in line ≡ Some (bit, 
 unfolding three_in
 three_is line bit lo hi e = by_bit (first_number line) refl e
   where
-    by_hi : (p : ℕ) (rest : List ℕ) → first_number line ≡ Some (p, rest) → (q : ℕ) (rest2 : List ℕ) → number_then (codes " ") rest ≡ Some (q, rest2) → (o : Option ℕ) → number_after (codes " ") rest2 ≡ o → option_map {U = ℕ × ℕ × ℕ} (λ hi. (p, q, hi)) o ≡ Some (bit, lo, hi) → Three line bit lo hi
+    by_hi : (p : ℕ) (rest : List ℕ) → first_number line ≡ Some (p, rest) → (q : ℕ) (rest2 : List ℕ)
+        → number_then (codes " ") rest ≡ Some (q, rest2) → (o : Option ℕ) → number_after (codes " ") rest2 ≡ o
+        → option_map {U = ℕ × ℕ × ℕ} (λ hi. (p, q, hi)) o ≡ Some (bit, lo, hi) → Three line bit lo hi
     by_hi p rest t q rest2 u None v e = cc
     by_hi p rest t q rest2 u (Some r) v e =
         let same : (let x : ℕ × ℕ × ℕ = (p, q, r) in x) ≡ (bit, lo, hi) = cc in
@@ -51,7 +53,9 @@ three_is line bit lo hi e = by_bit (first_number line) refl e
           whole = f.whole ∙ ap (λ (z : List ℕ). f.digits ++ z) (g.whole ∙ ap (λ (z : List ℕ). codes " " ++ g.digits ++ z) h.2) ∙ regroup f.digits g.digits h.0;
         }
 
-    by_lo : (p : ℕ) (rest : List ℕ) → first_number line ≡ Some (p, rest) → (o : Option (ℕ × List ℕ)) → number_then (codes " ") rest ≡ o → option_and_then (λ x. with_hi p x.0 x.1) o ≡ Some (bit, lo, hi) → Three line bit lo hi
+    by_lo : (p : ℕ) (rest : List ℕ) → first_number line ≡ Some (p, rest) → (o : Option (ℕ × List ℕ))
+        → number_then (codes " ") rest ≡ o → option_and_then (λ x. with_hi p x.0 x.1) o ≡ Some (bit, lo, hi)
+        → Three line bit lo hi
     by_lo p rest t None u e = cc
     by_lo p rest t (Some (q, rest2)) u e = by_hi p rest t q rest2 u (number_after (codes " ") rest2) refl e
 
@@ -76,8 +80,10 @@ three_again line bit lo hi t =
 -- the test that a node may follow says what it should
 follows_is : (width : ℕ) (before : List CertNode) (x : CertNode) → may_follow width before x.bit x.lo x.hi ≡ true → IsNodeAfter width before x
 follows_is width before x e =
-    let p = and_parts (nat_lt x.bit width && nat_lt x.lo (length before + 2) && nat_lt x.hi (length before + 2) && nat_lt x.bit (bit_of width before x.lo)) (nat_lt x.bit (bit_of width before x.hi)) e in
-    let q = and_parts (nat_lt x.bit width && nat_lt x.lo (length before + 2) && nat_lt x.hi (length before + 2)) (nat_lt x.bit (bit_of width before x.lo)) p.0 in
+    let p = and_parts (nat_lt x.bit width && nat_lt x.lo (length before + 2) && nat_lt x.hi (length before + 2)
+    && nat_lt x.bit (bit_of width before x.lo)) (nat_lt x.bit (bit_of width before x.hi)) e in
+    let q = and_parts (nat_lt x.bit width && nat_lt x.lo (length before + 2) && nat_lt x.hi (length before + 2))
+    (nat_lt x.bit (bit_of width before x.lo)) p.0 in
     let r = and_parts (nat_lt x.bit width && nat_lt x.lo (length before + 2)) (nat_lt x.hi (length before + 2)) q.0 in
     let t = and_parts (nat_lt x.bit width) (nat_lt x.lo (length before + 2)) r.0 in
     record { bit = below t.0; lo_before = below t.1; hi_before = below r.1; lo_later = below q.1; hi_later = below p.1 }
@@ -92,11 +98,13 @@ is_follows width before x f =
     below : {m n : ℕ} → m < n → nat_lt m n ≡ true
     below lt = grind (arith, nat_tests)
 
-pub node_read : (width : ℕ) (before : List CertNode) (line : List ℕ) (x : CertNode) → node_in width before line ≡ Some x → IsNodeAfter width before x × IsNodeLine x line
+pub node_read : (width : ℕ) (before : List CertNode) (line : List ℕ) (x : CertNode)
+    → node_in width before line ≡ Some x → IsNodeAfter width before x × IsNodeLine x line
 unfolding node_in
 node_read width before line x e = by_three (three_in line) refl e
   where
-    by_three : (o : Option (ℕ × ℕ × ℕ)) → three_in line ≡ o → option_and_then (if_may_follow width before) o ≡ Some x → IsNodeAfter width before x × IsNodeLine x line
+    by_three : (o : Option (ℕ × ℕ × ℕ)) → three_in line ≡ o → option_and_then (if_may_follow width before) o ≡ Some x
+        → IsNodeAfter width before x × IsNodeLine x line
     by_three None t e = cc
     by_three (Some (bit, lo, hi)) t e =
         let made : CertNode = record { bit = bit; lo = lo; hi = hi } in
@@ -105,7 +113,8 @@ node_read width before line x e = by_three (three_in line) refl e
         subst (λ (z : CertNode). IsNodeAfter width before z × IsNodeLine z line) k.1
         (follows_is width before made k.0, (three.a, three.b, three.c, three.is_a, three.is_b, three.is_c, three.whole))
 
-pub node_again : (width : ℕ) (before : List CertNode) (line : List ℕ) (x : CertNode) → IsNodeAfter width before x → IsNodeLine x line → node_in width before line ≡ Some x
+pub node_again : (width : ℕ) (before : List CertNode) (line : List ℕ) (x : CertNode) → IsNodeAfter width before x
+    → IsNodeLine x line → node_in width before line ≡ Some x
 unfolding node_in
 node_again width before line x f (a, b, c, is_a, is_b, is_c, whole) =
     let t = three_again line x.bit x.lo x.hi (record { a = a; b = b; c = c; is_a = is_a; is_b = is_b; is_c = is_c; whole = whole }) in

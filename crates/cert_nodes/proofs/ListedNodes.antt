@@ -23,11 +23,13 @@ use Rattle.cert_bits.proofs.Listing.{range_more}
 use Rattle.cert_nodes.specs.Listed.{listed_at, listed}
 
 -- nodes that are in order one by one
-are_after : (width : ℕ) (before xs : List CertNode) → ((i : ℕ) (d : CertNode) → i < length xs → IsNodeAfter width (before ++ take i xs) (get_or xs i d)) → AreNodesAfter width before xs
+are_after : (width : ℕ) (before xs : List CertNode) → ((i : ℕ) (d : CertNode) → i < length xs → IsNodeAfter width
+    (before ++ take i xs) (get_or xs i d)) → AreNodesAfter width before xs
 are_after width before [] h = tt
 are_after width before (x ∷ xs) h = (
   subst (λ (z : List CertNode). IsNodeAfter width z x) (append-nil before) (h 0 x (omega arith)),
-  are_after width (before ++ x ∷ []) xs (λ i d lt. subst (λ (z : List CertNode). IsNodeAfter width z (get_or xs i d)) (sym (append_assoc before (x ∷ []) (take i xs))) (h (suc i) d (omega (arith, lt)))),
+  are_after width (before ++ x ∷ []) xs (λ i d lt. subst (λ (z : List CertNode). IsNodeAfter width z (get_or xs i d))
+      (sym (append_assoc before (x ∷ []) (take i xs))) (h (suc i) d (omega (arith, lt)))),
 )
 
 module _ (xs : List Node) (r : IsReduced xs) where
@@ -81,7 +83,9 @@ module _ (xs : List Node) (r : IsReduced xs) where
       ]
 
   bit_constant : (width i m : ℕ) → m < 2 → bit_of width (take i (listed xs)) m ≡ width
-  bit_constant width i m lt = (let test : nat_lt m 2 ≡ true = grind (arith, nat_tests) in ap (λ (t : Bool). cond t width (option_map_or (λ (x : CertNode). x.bit) (slice_get (take i (listed xs)) (m - 2)) 0)) test)
+  bit_constant width i m lt = (let test : nat_lt m 2 ≡ true = grind (arith, nat_tests) in ap
+      (λ (t : Bool). cond t width (option_map_or (λ (x : CertNode). x.bit) (slice_get (take i (listed xs)) (m - 2))
+      0)) test)
 
   later : (width i m l : ℕ) → i ≤ length xs - 2 → m < i + 2 → l < width → l < level_of xs m → l < bit_of width (take i (listed xs)) m
   later width i m l le lt inside below = elim (cases_lt m 2) [
@@ -89,7 +93,8 @@ module _ (xs : List Node) (r : IsReduced xs) where
     | inr high ↦ (let e = bit_before width i m le lt high in omega (arith, e, below))
   ]
 
-  pub in_order : (width root : ℕ) → ((id : ℕ) → 2 ≤ id → id < length xs → level_of xs id < width) → root < length xs → IsInOrder width (record { nodes = listed xs; root = root })
+  pub in_order : (width root : ℕ) → ((id : ℕ) → 2 ≤ id → id < length xs → level_of xs id < width) → root < length xs
+      → IsInOrder width (record { nodes = listed xs; root = root })
   in_order width root levels known =
       let two = r.constants in
       let long = listed_length in
@@ -117,9 +122,11 @@ module _ (xs : List Node) (r : IsReduced xs) where
       }
 
   -- what the numbers say is what the Ids mean
-  pub says_means : (bits : List Bool) (i : ℕ) → i ≤ length xs - 2 → says bits (take i (listed xs)) ≡ map (λ k. means xs k (bits_of bits)) (range_with_len 0 (i + 2))
+  pub says_means : (bits : List Bool) (i : ℕ) → i ≤ length xs - 2
+      → says bits (take i (listed xs)) ≡ map (λ k. means xs k (bits_of bits)) (range_with_len 0 (i + 2))
   unfolding says
-  says_means bits zero le = ap (λ (x : Bool). x ∷ true ∷ []) (sym (means_false xs r (bits_of bits))) ∙ ap (λ (x : Bool). means xs 0 (bits_of bits) ∷ x ∷ []) (sym (means_true xs r (bits_of bits)))
+  says_means bits zero le = ap (λ (x : Bool). x ∷ true ∷ []) (sym (means_false xs r (bits_of bits)))
+      ∙ ap (λ (x : Bool). means xs 0 (bits_of bits) ∷ x ∷ []) (sym (means_true xs r (bits_of bits)))
   says_means bits (suc i) le =
       let f : ℕ → Bool = λ k. means xs k (bits_of bits) in
       let inside : i < length xs - 2 = omega (arith, le) in
@@ -129,12 +136,18 @@ module _ (xs : List Node) (r : IsReduced xs) where
       let x = listed_at xs i in
       let ih = says_means bits i (omega (arith, le)) in
       let cut : take (suc i) (listed xs) ≡ take i (listed xs) ++ x ∷ [] =
-      (let e : suc i ≡ i + 1 = omega arith in ap (λ (k : ℕ). take k (listed xs)) e) ∙ take_more (listed xs) i x (omega (arith, inside, long)) ∙ ap (λ (y : CertNode). take i (listed xs) ++ y ∷ []) (listed_get i x inside) in
+      (let e : suc i ≡ i + 1 = omega arith in ap (λ (k : ℕ). take k (listed xs)) e)
+      ∙ take_more (listed xs) i x (omega (arith, inside, long))
+      ∙ ap (λ (y : CertNode). take i (listed xs) ++ y ∷ []) (listed_get i x inside) in
       let old = fold (with_node bits) (false ∷ true ∷ []) (take i (listed xs)) in
       let lo = inner.lo_before in
       let hi = inner.hi_before in
-      let read : (k : ℕ) → k < i + 2 → get_or old k false ≡ f k = λ k lt. ap (λ (ys : List Bool). get_or ys k false) ih ∙ get_or-map-range_with_len f 0 (i + 2) k k false lt (omega arith) in
-      let one : node_says bits old x ≡ f (i + 2) = choose (get_or bits (level_of xs (i + 2)) false) (at xs (i + 2)).lo (at xs (i + 2)).hi old f (read (at xs (i + 2)).lo lo) (read (at xs (i + 2)).hi hi) ∙ sym (means_chosen xs r (bits_of bits) (i + 2) there) in
+      let read : (k : ℕ) → k < i + 2 → get_or old k false ≡ f k =
+      λ k lt. ap (λ (ys : List Bool). get_or ys k false) ih
+      ∙ get_or-map-range_with_len f 0 (i + 2) k k false lt (omega arith) in
+      let one : node_says bits old x ≡ f (i + 2) = choose (get_or bits (level_of xs (i + 2)) false) (at xs (i + 2)).lo
+      (at xs (i + 2)).hi old f (read (at xs (i + 2)).lo lo) (read (at xs (i + 2)).hi hi)
+      ∙ sym (means_chosen xs r (bits_of bits) (i + 2) there) in
       ap (λ (ys : List CertNode). fold (with_node bits) (false ∷ true ∷ []) ys) cut
       ∙ fold-append (with_node bits) (false ∷ true ∷ []) (take i (listed xs)) (x ∷ [])
       ∙ ap (λ (y : Bool). old ++ y ∷ []) one
@@ -142,7 +155,8 @@ module _ (xs : List Node) (r : IsReduced xs) where
       ∙ sym (map-append f (range_with_len 0 (i + 2)) ((i + 2) ∷ []))
       ∙ sym (ap (λ (k : ℕ). map f (range_with_len 0 k)) (let e : suc i + 2 ≡ (i + 2) + 1 = omega arith in e) ∙ ap (map f) (range_more (i + 2)))
     where
-      choose : (t : Bool) (lo hi : ℕ) (ys : List Bool) (f : ℕ → Bool) → get_or ys lo false ≡ f lo → get_or ys hi false ≡ f hi → get_or ys (cond t hi lo) false ≡ f (cond t hi lo)
+      choose : (t : Bool) (lo hi : ℕ) (ys : List Bool) (f : ℕ → Bool) → get_or ys lo false ≡ f lo
+          → get_or ys hi false ≡ f hi → get_or ys (cond t hi lo) false ≡ f (cond t hi lo)
       choose true lo hi ys f l h = h
       choose false lo hi ys f l h = l
 
@@ -173,7 +187,8 @@ module _ (xs : List Node) (r : IsReduced xs) where
         let inside : id - 2 < length xs - 2 = omega (arith, two, known) in
         let e : (id - 2) + 2 ≡ id = omega (arith, two) in
         let there : slice_get (listed xs) (id - 2) ≡ Some (listed_at xs (id - 2)) = listed_some (id - 2) inside in
-        by_side v (subst (λ (k : ℕ). IsReached made (at xs k).hi) e (got_hi id (listed_at xs (id - 2)) two there got)) (subst (λ (k : ℕ). IsReached made (at xs k).lo) e (got_lo id (listed_at xs (id - 2)) two there got))
+        by_side v (subst (λ (k : ℕ). IsReached made (at xs k).hi) e (got_hi id (listed_at xs (id - 2)) two there got))
+        (subst (λ (k : ℕ). IsReached made (at xs k).lo) e (got_lo id (listed_at xs (id - 2)) two there got))
       where
         by_side : (v : Bool) → IsReached made (at xs id).hi → IsReached made (at xs id).lo → IsReached made (child v id)
         by_side true h l = h
@@ -231,4 +246,5 @@ module _ (xs : List Node) (r : IsReduced xs) where
       where
         by_get : (i : ℕ) (o : Option CertNode) → slice_get (listed xs) i ≡ o → IfSome o (λ (x : CertNode). x.lo ≢ x.hi)
         by_get i None e = tt
-        by_get i (Some x) e = (let g = listed_within i x e in subst (λ (y : CertNode). y.lo ≢ y.hi) (sym g.1) (let k = r.inner (i + 2) (omega arith) (inner_at i g.0) in k.differ))
+        by_get i (Some x) e = (let g = listed_within i x e in subst (λ (y : CertNode). y.lo ≢ y.hi) (sym g.1)
+            (let k = r.inner (i + 2) (omega arith) (inner_at i g.0) in k.differ))

@@ -55,11 +55,16 @@ module _ (places : List ℕ) (indexes : List (Option ℕ)) (count : ℕ) (are : 
     where
       by_bit : (x : Option ℕ) → bit_at_level indexes k ≡ x → option_map_or (put b l v) x false ≡ option_map_or b x false
       by_bit None e = refl
-      by_bit (Some j) e = (let h = bit_below k j e in ap (λ (t : Bool). cond t v (b j)) (ne_eqb j l (λ same. (let s : j ≡ l = same in omega (arith, s, h, far)))))
+      by_bit (Some j) e = (let h = bit_below k j e in ap (λ (t : Bool). cond t v (b j))
+          (ne_eqb j l (λ same. (let s : j ≡ l = same in omega (arith, s, h, far)))))
 
-module _ (task : TaskParts) (o : Layout) (order : IsOrderOf task o) (places : List ℕ) (same : places ≡ places_of task o) (many : length places ≡ state_width task) (indexes : List (Option ℕ)) (are : AreIndexes places indexes (bits o))
+module _ (task : TaskParts) (o : Layout) (order : IsOrderOf task o) (places : List ℕ)
+    (same : places ≡ places_of task o) (many : length places ≡ state_width task) (indexes : List (Option ℕ))
+    (are : AreIndexes places indexes (bits o))
     (old new made : List Node) (set id : ℕ) (roots : List ℕ) (alone : length roots ≡ 1)
-    (meaning : (b : Bits) → means new id b ≡ means old set (spread indexes b)) (moved : IsMoved new made id (get_or roots 0 0)) (reduced : IsReduced made) (exact : (n : ℕ) → 2 ≤ n → n < length made → Reaches made roots n) where
+    (meaning : (b : Bits) → means new id b ≡ means old set (spread indexes b))
+    (moved : IsMoved new made id (get_or roots 0 0)) (reduced : IsReduced made)
+    (exact : (n : ℕ) → 2 ≤ n → n < length made → Reaches made roots n) where
   abbrev root : ℕ
   root = get_or roots 0 0
 
@@ -69,7 +74,8 @@ module _ (task : TaskParts) (o : Layout) (order : IsOrderOf task o) (places : Li
   ignores : (l : ℕ) → state_width task ≤ l → Ignores (means made root) l
   ignores l far b v =
       root_means (put b l v)
-      ∙ ap (means old set) (let e : spread indexes (put b l v) ≡ spread indexes b = λ i k. spread_put places indexes (bits o) are b l v (omega (arith, far, many)) k i in e)
+      ∙ ap (means old set) (let e : spread indexes (put b l v) ≡ spread indexes b =
+      λ i k. spread_put places indexes (bits o) are b l v (omega (arith, far, many)) k i in e)
       ∙ sym (root_means b)
 
   -- the nodes ask for bits that there are
@@ -97,14 +103,17 @@ module _ (task : TaskParts) (o : Layout) (order : IsOrderOf task o) (places : Li
       let j = there.0 in
       let even : (level_at 0 p % 2 == 0) ≡ true = (let e : level_at 0 p % 2 ≡ 0 = omega arith in eq-eqb (level_at 0 p % 2) 0 e) in
       let halved : level_at 0 p / 2 ≡ p = omega arith in
-      let bit : bit_at_level indexes (level_at 0 p) ≡ Some j = ap (λ (t : Bool). cond t (get_or indexes (level_at 0 p / 2) None) None) even ∙ ap (λ (k : ℕ). get_or indexes k None) halved ∙ there.1 in
+      let bit : bit_at_level indexes (level_at 0 p) ≡ Some j =
+      ap (λ (t : Bool). cond t (get_or indexes (level_at 0 p / 2) None) None) even
+      ∙ ap (λ (k : ℕ). get_or indexes k None) halved ∙ there.1 in
       let read : bits_at places b ≡ state_bits task s = ap (λ (ps : List ℕ). bits_at ps b) same ∙ bits_read task o order s b code in
       ap (λ (x : Option ℕ). option_map_or (bits_of (state_bits task s)) x false) bit
       ∙ ap (λ (xs : List Bool). get_or xs j false) (sym read)
       ∙ get_or-map (λ q. b (level_at 0 q)) places j 0 false there.2
       ∙ ap (λ (q : ℕ). b (level_at 0 q)) there.3
 
-  pub made_names : IsSetOfStates o old set → (s : List ℕ) (b : Bits) → IsCode o 0 s b → holds (record { nodes = listed made; root = root }) (state_bits task s) ≡ means old set b
+  pub made_names : IsSetOfStates o old set → (s : List ℕ) (b : Bits) → IsCode o 0 s b
+      → holds (record { nodes = listed made; root = root }) (state_bits task s) ≡ means old set b
   made_names states s b code =
       holds_means made reduced (state_bits task s) root moved.known
       ∙ root_means (bits_of (state_bits task s))
@@ -117,11 +126,14 @@ pub record Shown (task : TaskParts) (o : Layout) (places : List ℕ) (indexes : 
   pub most : length places ≤ 65536
   pub are : AreIndexes places indexes (bits o)
 
-pub shown : (task : TaskParts) (o : Layout) (items shown_places : List ℕ) (indexes shown_indexes : List (Option ℕ)) (count : ℕ) → items ≡ places_of task o → length items ≡ state_width task → length items ≤ 65536 → shown_places ≡ items → shown_indexes ≡ indexes → count ≡ bits o
+pub shown : (task : TaskParts) (o : Layout) (items shown_places : List ℕ) (indexes shown_indexes : List (Option ℕ))
+    (count : ℕ) → items ≡ places_of task o → length items ≡ state_width task → length items ≤ 65536
+    → shown_places ≡ items → shown_indexes ≡ indexes → count ≡ bits o
     → AreIndexes shown_places indexes count → Shown task o items shown_indexes
 shown task o items shown_places indexes shown_indexes count same many most e f n are = record {
   same = same;
   many = many;
   most = most;
-  are = subst (λ (xs : List (Option ℕ)). AreIndexes items xs (bits o)) (sym f) (subst (AreIndexes items indexes) n (subst (λ (ps : List ℕ). AreIndexes ps indexes count) e are));
+  are = subst (λ (xs : List (Option ℕ)). AreIndexes items xs (bits o)) (sym f)
+      (subst (AreIndexes items indexes) n (subst (λ (ps : List ℕ). AreIndexes ps indexes count) e are));
 }

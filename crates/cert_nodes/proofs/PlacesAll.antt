@@ -16,7 +16,8 @@ within [] i slot e = absurd (let z : None ≡ Some slot = e in let n : ⊥ = cc 
 within (x ∷ xs) zero slot e = omega arith
 within (x ∷ xs) (suc i) slot e = (let h = within xs i slot e in omega (arith, h))
 
-pub place_listed : (task : TaskParts) (o : Layout) (places : List ℕ) (p : ℕ) → IsOrderOf task o → places ≡ places_of task o → p < bits o → (i : ℕ) × (i < length places) × (get_or places i 0 ≡ p)
+pub place_listed : (task : TaskParts) (o : Layout) (places : List ℕ) (p : ℕ) → IsOrderOf task o
+    → places ≡ places_of task o → p < bits o → (i : ℕ) × (i < length places) × (get_or places i 0 ≡ p)
 unfolding places_of
 place_listed task o places p order is lt =
     let inside = order.layout.inside p lt in
@@ -40,7 +41,8 @@ place_listed task o places p order is lt =
     let long = length-range_with_len 0 n in
     let v_all : var < length all = omega (arith, v_in, long) in
     let nth : get_or all var 0 ≡ var = get_or-range_with_len 0 n var 0 v_in ∙ (let e : 0 + var ≡ var = omega arith in e) in
-    let wide : length (f (get_or all var 0)) ≡ width_of o var = ap (λ (v : ℕ). length (f v)) nth ∙ length-map-range_with_len (place_of o var) 0 (width_of o var) in
+    let wide : length (f (get_or all var 0)) ≡ width_of o var = ap (λ (v : ℕ). length (f v)) nth
+    ∙ length-map-range_with_len (place_of o var) 0 (width_of o var) in
     let j_in : k < length (f (get_or all var 0)) = omega (arith, k_in, wide) in
     let at = length (flat_map f (take var all)) + k in
     let room = length-flat_map-take f all var 0 v_all in
@@ -52,6 +54,8 @@ place_listed task o places p order is lt =
     subst (λ (ps : List ℕ). (i : ℕ) × (i < length ps) × (get_or ps i 0 ≡ p)) (sym is) (at, omega (arith, room, j_in), value)
 
 -- so each has an index
-pub index_there : (task : TaskParts) (o : Layout) (places : List ℕ) (p : ℕ) → IsOrderOf task o → places ≡ places_of task o → p < bits o → (x : Option ℕ) → IsIndex places p x → (i : ℕ) × (x ≡ Some i) × (i < length places) × (get_or places i 0 ≡ p)
+pub index_there : (task : TaskParts) (o : Layout) (places : List ℕ) (p : ℕ) → IsOrderOf task o
+    → places ≡ places_of task o → p < bits o → (x : Option ℕ) → IsIndex places p x → (i : ℕ) × (x ≡ Some i)
+    × (i < length places) × (get_or places i 0 ≡ p)
 index_there task o places p order is lt (Some i) h = (i, refl, h.0, h.1)
 index_there task o places p order is lt None h = (let w = place_listed task o places p order is lt in absurd (h w.0 w.1 w.2))

@@ -26,10 +26,13 @@ keeps_on xs ys zs k m = record {
   meaning = λ id b lt. m.meaning id b (let a = k.known in omega (arith, a, lt)) ∙ k.meaning id b lt;
 }
 
-pub rebuilt_none : (old : List Node) (marks : List Bool) (indexes : List (Option ℕ)) (now : List Node) (ids : List ℕ) → IsReduced old → IsReduced now → ids ≡ ([] ++ 0 ∷ []) ++ 1 ∷ [] → Rebuilt old marks indexes now now ids 2
+pub rebuilt_none : (old : List Node) (marks : List Bool) (indexes : List (Option ℕ)) (now : List Node) (ids : List ℕ)
+    → IsReduced old → IsReduced now → ids ≡ ([] ++ 0 ∷ []) ++ 1 ∷ [] → Rebuilt old marks indexes now now ids 2
 rebuilt_none old marks indexes now ids ro r is = record {
   count = ap (λ (xs : List ℕ). length xs) is;
-  known = subst (λ (xs : List ℕ). All (λ id. id < length now) xs) (sym is) (let two = r.constants in All-cons (λ id. id < length now) 0 (1 ∷ []) (omega (arith, two)) (All-cons (λ id. id < length now) 1 [] (omega (arith, two)) (All-nil (λ id. id < length now))));
+  known = subst (λ (xs : List ℕ). All (λ id. id < length now) xs) (sym is)
+      (let two = r.constants in All-cons (λ id. id < length now) 0 (1 ∷ []) (omega (arith, two))
+      (All-cons (λ id. id < length now) 1 [] (omega (arith, two)) (All-nil (λ id. id < length now))));
   meaning = λ k b lt kept. ap (λ (xs : List ℕ). means now (get_or xs k 0) b) is ∙ at_constant k b lt;
   keeps = keeps_itself now;
   reduced = r;
@@ -51,14 +54,20 @@ kept_marked marks id two = by_test (nat_lt id 2) refl
     by_test true e kept = (let low = ltb-true id 2 e in absurd (omega (arith, low, two)))
     by_test false e kept = kept
 
-module _ (old : List Node) (marks : List Bool) (indexes : List (Option ℕ)) (start now : List Node) (ids : List ℕ) (n : ℕ) (ro : IsReduced old) (closed : IsClosed old marks) (rebuilt : Rebuilt old marks indexes start now ids n) where
+module _ (old : List Node) (marks : List Bool) (indexes : List (Option ℕ)) (start now : List Node) (ids : List ℕ)
+    (n : ℕ) (ro : IsReduced old) (closed : IsClosed old marks)
+    (rebuilt : Rebuilt old marks indexes start now ids n) where
   chosen_means : (t : Bool) (b : Bits) → 2 ≤ n → n < length old → is_kept marks n ≡ true
-      → cond t (means now (get_or ids (at old n).hi 0) b) (means now (get_or ids (at old n).lo 0) b) ≡ means old (cond t (at old n).hi (at old n).lo) (spread indexes b)
+      → cond t (means now (get_or ids (at old n).hi 0) b) (means now (get_or ids (at old n).lo 0) b) ≡ means old
+      (cond t (at old n).hi (at old n).lo) (spread indexes b)
   chosen_means true b two known kept = (let i = ro.inner n two known in rebuilt.meaning (at old n).hi b i.hi_before (closed.hi_kept n two known kept))
   chosen_means false b two known kept = (let i = ro.inner n two known in rebuilt.meaning (at old n).lo b i.lo_before (closed.lo_kept n two known kept))
 
-  pub rebuilt_more : (new : List Node) (all shown : List ℕ) (id : ℕ) (wanted : Bool) → wanted ≡ is_marked marks n → 2 ≤ n → n < length old → Keeps now new → IsReduced new → id < length new → shown ≡ ids → all ≡ ids ++ id ∷ []
-      → (wanted ≡ true → (b : Bits) → means new id b ≡ cond (spread indexes b (level_of old n)) (means now (get_or shown (at old n).hi 0) b) (means now (get_or shown (at old n).lo 0) b))
+  pub rebuilt_more : (new : List Node) (all shown : List ℕ) (id : ℕ) (wanted : Bool) → wanted ≡ is_marked marks n
+      → 2 ≤ n → n < length old → Keeps now new → IsReduced new → id < length new
+      → shown ≡ ids → all ≡ ids ++ id ∷ []
+      → (wanted ≡ true → (b : Bits) → means new id b ≡ cond (spread indexes b (level_of old n))
+      (means now (get_or shown (at old n).hi 0) b) (means now (get_or shown (at old n).lo 0) b))
       → Rebuilt old marks indexes start new all (n + 1)
   rebuilt_more new all shown id wanted marked two there keeps reduced known same is meaning =
       let count = rebuilt.count in
@@ -69,13 +78,15 @@ module _ (old : List Node) (marks : List Bool) (indexes : List (Option ℕ)) (st
         meaning = λ k b lt kept. elim (below_or_at k n lt) [
           | inl less ↦ (
               let inside : k < length ids = omega (arith, less, count) in
-              ap (λ (j : ℕ). means new j b) (get_or_append_left ids (id ∷ []) 0 k inside) ∙ keeps.meaning (get_or ids k 0) b (rebuilt.known k 0 inside) ∙ rebuilt.meaning k b less kept)
+              ap (λ (j : ℕ). means new j b) (get_or_append_left ids (id ∷ []) 0 k inside)
+              ∙ keeps.meaning (get_or ids k 0) b (rebuilt.known k 0 inside) ∙ rebuilt.meaning k b less kept)
           | inr e ↦ (
               let here : get_or (ids ++ id ∷ []) k 0 ≡ id = get_or_push ids id 0 k (count ∙ sym e) in
               let kept_n : is_kept marks n ≡ true = subst (λ (j : ℕ). is_kept marks j ≡ true) e kept in
               let one : means new id b ≡ means old n (spread indexes b) =
               meaning (marked ∙ kept_marked marks n two kept_n) b
-              ∙ ap (λ (xs : List ℕ). cond (spread indexes b (level_of old n)) (means now (get_or xs (at old n).hi 0) b) (means now (get_or xs (at old n).lo 0) b)) same
+              ∙ ap (λ (xs : List ℕ). cond (spread indexes b (level_of old n))
+              (means now (get_or xs (at old n).hi 0) b) (means now (get_or xs (at old n).lo 0) b)) same
               ∙ chosen_means (spread indexes b (level_of old n)) b two there kept_n
               ∙ sym (means_chosen old ro (spread indexes b) n there) in
               ap (λ (j : ℕ). means new j b) here ∙ one ∙ ap (λ (j : ℕ). means old j (spread indexes b)) (sym e))

@@ -12,7 +12,8 @@ use Rattle.cert_out.specs.CertText.{cert_text}
 use Rattle.cert_out.specs.Written.{IsProof}
 use Rattle.cert_out.proofs.TextLines.{text_states}
 
-pub proof_of : (task : TaskParts) (o : Layout) (width : ℕ) (cert : Certificate) (text : List ℕ) → IsOrderOf task o → width ≡ bits o → width ≤ 65536 → IsInOrder (state_width task) cert → length cert.nodes + 2 < 2 ^ 63
+pub proof_of : (task : TaskParts) (o : Layout) (width : ℕ) (cert : Certificate) (text : List ℕ) → IsOrderOf task o
+    → width ≡ bits o → width ≤ 65536 → IsInOrder (state_width task) cert → length cert.nodes + 2 < 2 ^ 63
     → IsTidy cert → IsInductive task (Named task cert) → text ≡ cert_text width cert → IsProof task text
 proof_of task o width cert text order wide most in_order few tidy inductive written =
     let same : width ≡ state_width task = wide ∙ order.bits in
@@ -20,7 +21,8 @@ proof_of task o width cert text order wide most in_order few tidy inductive writ
     record {
       cert = cert;
       is_text = is;
-      states = subst (λ (bytes : List ℕ). IsCertOf (state_width task) (lines bytes) cert) (sym is) (text_states (state_width task) cert (omega (arith, most, same)) (omega (arith, few)) in_order);
+      states = subst (λ (bytes : List ℕ). IsCertOf (state_width task) (lines bytes) cert) (sym is)
+          (text_states (state_width task) cert (omega (arith, most, same)) (omega (arith, few)) in_order);
       inductive = inductive;
       tidy = tidy;
     }

@@ -79,7 +79,8 @@ record IsSmallNode (x : CertNode) : Type 0 where
   lo : x.lo < 2 ^ 64
   hi : x.hi < 2 ^ 64
 
-small_nodes : (width : ℕ) (before xs : List CertNode) → width < 2 ^ 64 → length before + length xs + 2 < 2 ^ 64 → AreNodesAfter width before xs → AllByRecursion IsSmallNode xs
+small_nodes : (width : ℕ) (before xs : List CertNode) → width < 2 ^ 64 → length before + length xs + 2 < 2 ^ 64
+    → AreNodesAfter width before xs → AllByRecursion IsSmallNode xs
 small_nodes width before [] w room h = tt
 small_nodes width before (x ∷ xs) w room h =
     let bit = h.0.bit in
@@ -97,7 +98,9 @@ unfolding node_line
 node_written x s = record {
   plain = plain_append (decimal x.bit ++ codes " " ++ decimal x.lo ++ codes " ") (decimal x.hi)
       (plain_append (decimal x.bit ++ codes " " ++ decimal x.lo) (codes " ")
-      (plain_append (decimal x.bit ++ codes " ") (decimal x.lo) (plain_append (decimal x.bit) (codes " ") (decimal_plain x.bit s.bit) space_plain) (decimal_plain x.lo s.lo)) space_plain)
+      (plain_append (decimal x.bit ++ codes " ") (decimal x.lo)
+      (plain_append (decimal x.bit) (codes " ") (decimal_plain x.bit s.bit) space_plain)
+      (decimal_plain x.lo s.lo)) space_plain)
       (decimal_plain x.hi s.hi);
   spelled = (decimal x.bit, decimal x.lo, decimal x.hi, decimal_number x.bit s.bit, decimal_number x.lo s.lo, decimal_number x.hi s.hi, refl);
 }
@@ -126,21 +129,26 @@ end_written n lt = (
   (record { plain = plain_of (codes "end") refl; spelled = refl }, tt),
 )
 
-cert_written : (width : ℕ) (cert : Certificate) → width < 2 ^ 64 → length cert.nodes + 2 < 2 ^ 64 → IsInOrder width cert → AreWritten (cert_rows width cert) (cert_lines width cert)
+cert_written : (width : ℕ) (cert : Certificate) → width < 2 ^ 64 → length cert.nodes + 2 < 2 ^ 64
+    → IsInOrder width cert → AreWritten (cert_rows width cert) (cert_lines width cert)
 unfolding cert_lines
 cert_written width cert w few order =
     let r = order.root in
     let nodes = nodes_written cert.nodes (small_nodes width [] cert.nodes w (omega (arith, few)) order.nodes) in
     let ends = end_written cert.root (omega (arith, r, few)) in
-    written_append (version ∷ bits width ∷ count (length cert.nodes) ∷ []) (map node cert.nodes ++ (root cert.root ∷ «end» ∷ [])) (head_lines width (length cert.nodes)) (map node_line cert.nodes ++ end_lines cert.root)
+    written_append (version ∷ bits width ∷ count (length cert.nodes) ∷ [])
+    (map node cert.nodes ++ (root cert.root ∷ «end» ∷ [])) (head_lines width (length cert.nodes))
+    (map node_line cert.nodes ++ end_lines cert.root)
     (head_written width (length cert.nodes) w (omega (arith, few)))
     (written_append (map node cert.nodes) (root cert.root ∷ «end» ∷ []) (map node_line cert.nodes) (end_lines cert.root) nodes ends)
 
 -- the lines of the text of a certificate in order are those of a text of it
-pub text_states : (width : ℕ) (cert : Certificate) → width < 2 ^ 64 → length cert.nodes + 2 < 2 ^ 64 → IsInOrder width cert → IsCertOf width (lines (cert_text width cert)) cert
+pub text_states : (width : ℕ) (cert : Certificate) → width < 2 ^ 64 → length cert.nodes + 2 < 2 ^ 64
+    → IsInOrder width cert → IsCertOf width (lines (cert_text width cert)) cert
 text_states width cert w few order =
     let written = cert_written width cert w few order in
-    let are : lines (cert_text width cert) ≡ cert_lines width cert = lines_plain (cert_lines width cert) (all_plain (cert_rows width cert) (cert_lines width cert) written) in
+    let are : lines (cert_text width cert) ≡ cert_lines width cert =
+    lines_plain (cert_lines width cert) (all_plain (cert_rows width cert) (cert_lines width cert) written) in
     record {
       main = cert_lines width cert;
       tail = [];

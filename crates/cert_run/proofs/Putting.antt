@@ -11,14 +11,17 @@ use Rattle.run_status.proofs.Puts.{end_puts}
 use Rattle.cert_run.specs.Proofs.{IsSolvable, IsUnsolvable, IsJudged, Proves, Refutes, has_plan_text, no_plan_text}
 
 -- a certificate
-pub proof_puts : (task : TaskParts) (text out : Bytes) (old new : SinkView) (result : Status) → IsProof task text × IsUnsolvable task → out ≡ text → Ends Proved out old new result → Puts (OrFront (Proves task)) old new result
+pub proof_puts : (task : TaskParts) (text out : Bytes) (old new : SinkView) (result : Status) → IsProof task text
+    × IsUnsolvable task → out ≡ text → Ends Proved out old new result → Puts (OrFront (Proves task)) old new result
 proof_puts task text out old new result proof same ends =
     end_puts (Proves task) Proved out old new result (subst (λ (t : Bytes). Proves task Proved t) (sym same) proof) ends
 
 -- that there is a plan
-pub plan_puts : (task : TaskParts) (out : Bytes) (old new : SinkView) (result : Status) → IsSolvable task → out ≡ has_plan_text → Ends HasPlan out old new result → Puts (OrFront (Proves task)) old new result
+pub plan_puts : (task : TaskParts) (out : Bytes) (old new : SinkView) (result : Status) → IsSolvable task
+    → out ≡ has_plan_text → Ends HasPlan out old new result → Puts (OrFront (Proves task)) old new result
 plan_puts task out old new result plan same ends = end_puts (Proves task) HasPlan out old new result (same, plan) ends
 
 -- that there is none
-pub yes_puts : (task : TaskParts) (bytes out : Bytes) (old new : SinkView) (result : Status) → IsJudged task bytes Yes → out ≡ no_plan_text → Ends Refuted out old new result → Puts (OrFront (Refutes task bytes)) old new result
+pub yes_puts : (task : TaskParts) (bytes out : Bytes) (old new : SinkView) (result : Status) → IsJudged task bytes Yes
+    → out ≡ no_plan_text → Ends Refuted out old new result → Puts (OrFront (Refutes task bytes)) old new result
 yes_puts task bytes out old new result judged same ends = end_puts (Refutes task bytes) Refuted out old new result (judged, same) ends

@@ -27,7 +27,8 @@ keeps_whole before after s = record {
   members = λ q h. own_member after q ((s q).1 h);
 }
 
-gave_whole : (y : System) (m : Mode) (most : Option ℕ) (before after : List ℕ → Type 0) (p : List ℕ) → Gave y m most before after p → GaveMember y most before after p
+gave_whole : (y : System) (m : Mode) (most : Option ℕ) (before after : List ℕ → Type 0) (p : List ℕ)
+    → Gave y m most before after p → GaveMember y most before after p
 gave_whole y m most before after p gave = record {
   pended = gave.pended;
   fits = gave.fits;
@@ -36,7 +37,8 @@ gave_whole y m most before after p gave = record {
   members = λ q h n. own_member after q ((gave.rest q).1 (h, off (same m q p) (same_law m q p) (λ s. n (rearranged m q p s))));
 }
 
-pub turned_whole : (y : System) (m : Mode) (most : Option ℕ) (before after : List ℕ → Type 0) (r : Result (Option (List ℕ)) Stop) → Turned y m most before after r → TurnedMembers y most before after r
+pub turned_whole : (y : System) (m : Mode) (most : Option ℕ) (before after : List ℕ → Type 0)
+    (r : Result (Option (List ℕ)) Stop) → Turned y m most before after r → TurnedMembers y most before after r
 turned_whole y m most before after (Ok (Some p)) h = gave_whole y m most before after p h
 turned_whole y m most before after (Ok None) h = (h.0, keeps_whole before after h.1)
 turned_whole y m most before after (Err stop) h = (h.0, keeps_whole before after h.1)

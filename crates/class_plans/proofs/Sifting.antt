@@ -39,7 +39,8 @@ module _ (y : System) (most : Option ℕ) (keys : List (List ℕ)) (before after
   -- A plan that the engine below gave.
   module _ (p : List ℕ) (gave : GaveMember y most before after p) where
     -- its class is no longer left
-    pub class_taken : (key : List ℕ) → Same Unordered p key → ¬ IsListed Unordered keys p → IsPlan y p → (later : List (List ℕ)) → later ≡ keys ++ key ∷ [] → Gave y Unordered most (Left y keys) (Left y later) p
+    pub class_taken : (key : List ℕ) → Same Unordered p key → ¬ IsListed Unordered keys p → IsPlan y p
+        → (later : List (List ℕ)) → later ≡ keys ++ key ∷ [] → Gave y Unordered most (Left y keys) (Left y later) p
     class_taken key is fresh plan later more = rw more (record {
       pended = (fresh, plan);
       fits = gave.fits;
@@ -67,13 +68,16 @@ module _ (y : System) (most : Option ℕ) (keys : List (List ℕ)) (before after
         chained after q m.member m.alike (gave.members m.member m.pending (λ s. n (same_chain Unordered q m.member p m.alike s)))
 
     pub covers_taken : (key : List ℕ) → Same Unordered p key → (later : List (List ℕ)) → later ≡ keys ++ key ∷ [] → Covers y later after
-    covers_taken key is later more = rw more (λ q h. kept q ((λ m. h.0 (any_left (Same Unordered q) keys key m)), h.1) (λ s. h.0 (Any-push (Same Unordered q) keys key (same_chain Unordered q p key s is))))
+    covers_taken key is later more = rw more (λ q h. kept q ((λ m. h.0 (any_left (Same Unordered q) keys key m)), h.1)
+        (λ s. h.0 (Any-push (Same Unordered q) keys key (same_chain Unordered q p key s is))))
 
     pub covers_skipped : IsListed Unordered keys p → Covers y keys after
     covers_skipped listed q h = kept q h (λ s. h.0 (listed_same Unordered keys p q s listed))
 
     -- skipping it leaves fewer rearrangements of the keys
-    pub sifting_falls : (tells later : List ℕ → Bool) → ((q : List ℕ) → Decides (tells q) (before q)) → ((q : List ℕ) → Decides (later q) (after q)) → IsListed Unordered keys p → still later keys < still tells keys
+    pub sifting_falls : (tells later : List ℕ → Bool) → ((q : List ℕ) → Decides (tells q) (before q))
+        → ((q : List ℕ) → Decides (later q) (after q)) → IsListed Unordered keys p
+        → still later keys < still tells keys
     sifting_falls tells later told told_later listed =
         count_falls tells later (orders_all keys) p
         (λ q e. (told q).1 (gave.fewer q ((told_later q).0 e)).0)
@@ -106,5 +110,7 @@ module _ (y : System) (most : Option ℕ) (keys : List (List ℕ)) (before after
   pub law_none : (later : List (List ℕ)) → later ≡ keys → NoneLeft y most before → NoneLeft y most (Left y keys) × Stays (Left y keys) (Left y later)
   law_none later kept n = (none_left most n, left_stays later kept)
 
-  pub law_stop : (stop : Stop) (later : List (List ℕ)) → ArePlans y before → AreKeys y Unordered most keys → later ≡ keys → Stops y most before stop → Stops y most (Left y keys) stop × Stays (Left y keys) (Left y later)
+  pub law_stop : (stop : Stop) (later : List (List ℕ)) → ArePlans y before → AreKeys y Unordered most keys
+      → later ≡ keys → Stops y most before stop → Stops y most (Left y keys) stop
+      × Stays (Left y keys) (Left y later)
   law_stop stop later plans ok kept h = (stops_left most stop plans ok h, left_stays later kept)

@@ -20,21 +20,29 @@ use Rattle.task_system.proofs.StepLaw.{step_law}
 
 have_all_decides : (values : List ℕ) (facts : List Fact) → Decides (have_all values facts) (All (HasValue values) facts)
 have_all_decides values facts =
-    Decides-by_and (λ (fact : Fact). get_or values fact.var 0 == fact.val) (HasValue values) (have_all values) (λ fact. Decides-eqb (get_or values fact.var 0) fact.val) refl (λ _ _. refl) facts
+    Decides-by_and (λ (fact : Fact). get_or values fact.var 0 == fact.val) (HasValue values) (have_all values)
+    (λ fact. Decides-eqb (get_or values fact.var 0) fact.val) refl (λ _ _. refl) facts
 
-allows_decides : (values : List ℕ) (var : ℕ) (pre : Option ℕ) → Decides (option_map_or (λ val. get_or values var 0 == val) pre true) (IfSome pre (λ val. get_or values var 0 ≡ val))
+allows_decides : (values : List ℕ) (var : ℕ) (pre : Option ℕ)
+    → Decides (option_map_or (λ val. get_or values var 0 == val) pre true)
+    (IfSome pre (λ val. get_or values var 0 ≡ val))
 allows_decides values var None = ((λ _. tt), (λ _. refl))
 allows_decides values var (Some val) = Decides-eqb (get_or values var 0) val
 
 allow_all_decides : (values : List ℕ) (effects : List Effect) → Decides (allow_all values effects) (All (AllowsBy values) effects)
 allow_all_decides values effects =
-    Decides-by_and (λ (effect : Effect). option_map_or (λ val. get_or values effect.var 0 == val) effect.pre true) (AllowsBy values) (allow_all values) (λ effect. allows_decides values effect.var effect.pre) refl (λ _ _. refl) effects
+    Decides-by_and (λ (effect : Effect). option_map_or (λ val. get_or values effect.var 0 == val) effect.pre true)
+    (AllowsBy values) (allow_all values) (λ effect. allows_decides values effect.var effect.pre)
+    refl (λ _ _. refl) effects
 
-applies_decides : (values : List ℕ) (operator : Operator) → Decides (have_all values operator.prevail && allow_all values operator.effects) (AppliesBy values operator)
-applies_decides values operator = Decides-and (have_all values operator.prevail) (allow_all values operator.effects) (have_all_decides values operator.prevail) (allow_all_decides values operator.effects)
+applies_decides : (values : List ℕ) (operator : Operator) → Decides
+    (have_all values operator.prevail && allow_all values operator.effects) (AppliesBy values operator)
+applies_decides values operator = Decides-and (have_all values operator.prevail) (allow_all values operator.effects)
+    (have_all_decides values operator.prevail) (allow_all_decides values operator.effects)
 
 -- an operator that applies leads from a state to another
-pub leads_on : (task : TaskParts) (s : List ℕ) (a : ℕ) (operator : Operator) → Fits task → IsState task s → slice_get task.operators a ≡ Some operator → Applies task s a → (t : List ℕ) × Step task s a t
+pub leads_on : (task : TaskParts) (s : List ℕ) (a : ℕ) (operator : Operator) → Fits task → IsState task s
+    → slice_get task.operators a ≡ Some operator → Applies task s a → (t : List ℕ) × Step task s a t
 unfolding step
 leads_on task s a operator fits state is applies =
     let values = values_in task s in

@@ -27,7 +27,9 @@ use Rattle.commuting.proofs.Pair.{Allowed, Leaves, Touch, local_value, allowed_a
 turned : (task : TaskParts) (one other : Operator) (var val : ℕ) → MeetAt task one other var val → MeetAt task other one var val
 turned task one other var val m = record { allowed = m.allows; allows = m.allowed; same = sym m.same; left = m.leaves; leaves = m.left }
 
-turned_each : (task : TaskParts) (one other : Operator) (var : ℕ) (o : Option Variable) → IsSomeAnd o (λ v. MeetEach task one other var (range v)) → IsSomeAnd o (λ v. MeetEach task other one var (range v))
+turned_each : (task : TaskParts) (one other : Operator) (var : ℕ) (o : Option Variable)
+    → IsSomeAnd o (λ v. MeetEach task one other var (range v))
+    → IsSomeAnd o (λ v. MeetEach task other one var (range v))
 turned_each task one other var None h = h
 turned_each task one other var (Some v) h = (λ val lt a b. turned task one other var val (h val lt b a))
 
@@ -41,29 +43,35 @@ turned_meet task one other var m = record {
 }
 
 touch_by : (task : TaskParts) (one other : Operator) → MeetOnAll task one other one.effects → (var : ℕ) → Touch task one other var
-touch_by task one other meet var = elim (at_written (Meet task one other) one.effects var (recursion_from_All (λ effect. Meet task one other effect.var) one.effects meet)) [
-  | inl none ↦ inl none
-  | inr m ↦ elim m.well [
-    | inl un ↦ inl (recursion_from_All (λ effect. effect.var ≡ var → ⊥) one.effects un.1)
-    | inr (inl un) ↦ inr (inl un)
-    | inr (inr loc) ↦ inr (inr loc)
-  ]
-]
+touch_by task one other meet var = elim (at_written (Meet task one other) one.effects var
+    (recursion_from_All (λ effect. Meet task one other effect.var) one.effects meet)) [
+      | inl none ↦ inl none
+      | inr m ↦ elim m.well [
+        | inl un ↦ inl (recursion_from_All (λ effect. effect.var ≡ var → ⊥) one.effects un.1)
+        | inr (inl un) ↦ inr (inl un)
+        | inr (inr loc) ↦ inr (inr loc)
+      ]
+    ]
 
 -- A step by its operator.
 
-pub allowed_by : (task : TaskParts) (s : List ℕ) (a : ℕ) (operator : Operator) → slice_get task.operators a ≡ Some operator → Applies task s a → Allowed task s operator
+pub allowed_by : (task : TaskParts) (s : List ℕ) (a : ℕ) (operator : Operator)
+    → slice_get task.operators a ≡ Some operator → Applies task s a → Allowed task s operator
 allowed_by task s a operator is h =
     let both = subst (λ (o : Option Operator). IsSomeAnd o (λ operator. All (Holds task s) operator.prevail × All (Allows task s) operator.effects)) is h in
     record { prevail = both.0; effects = both.1 }
 
-applies_by : (task : TaskParts) (s : List ℕ) (a : ℕ) (operator : Operator) → slice_get task.operators a ≡ Some operator → Allowed task s operator → Applies task s a
+applies_by : (task : TaskParts) (s : List ℕ) (a : ℕ) (operator : Operator)
+    → slice_get task.operators a ≡ Some operator → Allowed task s operator → Applies task s a
 applies_by task s a operator is h =
-    subst (λ (o : Option Operator). IsSomeAnd o (λ operator. All (Holds task s) operator.prevail × All (Allows task s) operator.effects)) (sym is) (h.prevail, h.effects)
+    subst (λ (o : Option Operator). IsSomeAnd o (λ operator. All (Holds task s) operator.prevail × All (Allows task s)
+    operator.effects)) (sym is) (h.prevail, h.effects)
 
-pub leaves_by : (task : TaskParts) (s : List ℕ) (a : ℕ) (operator : Operator) (t : List ℕ) → slice_get task.operators a ≡ Some operator → After task s a t → Leaves task s operator t
+pub leaves_by : (task : TaskParts) (s : List ℕ) (a : ℕ) (operator : Operator) (t : List ℕ)
+    → slice_get task.operators a ≡ Some operator → After task s a t → Leaves task s operator t
 leaves_by task s a operator t is h =
-    subst (λ (o : Option Operator). IsSomeAnd o (λ operator. (var : ℕ) → IsBase task var → ValueAfter (Fires task s) operator.effects var (get_or s (place task var) 0) (get_or t (place task var) 0))) is h.values
+    subst (λ (o : Option Operator). IsSomeAnd o (λ operator. (var : ℕ) → IsBase task var → ValueAfter (Fires task s)
+    operator.effects var (get_or s (place task var) 0) (get_or t (place task var) 0))) is h.values
 
 -- both orders of two steps
 record Both (task : TaskParts) (a b : ℕ) (t u : List ℕ) : Type 0 where
@@ -71,7 +79,8 @@ record Both (task : TaskParts) (a b : ℕ) (t u : List ℕ) : Type 0 where
   after_one : Step task t b v
   after_other : Step task u a v
 
-module _ (task : TaskParts) (a b : ℕ) (one other : Operator) (fits : Fits task) (is_one : slice_get task.operators a ≡ Some one) (is_other : slice_get task.operators b ≡ Some other)
+module _ (task : TaskParts) (a b : ℕ) (one other : Operator) (fits : Fits task)
+    (is_one : slice_get task.operators a ≡ Some one) (is_other : slice_get task.operators b ≡ Some other)
     (meets : MeetOnAll task one other one.effects) (met : MeetOnAll task one other other.effects) where
   touch_one : (var : ℕ) → Touch task one other var
   touch_one var = touch_by task one other meets var
@@ -99,21 +108,33 @@ module _ (task : TaskParts) (a b : ℕ) (one other : Operator) (fits : Fits task
       ((step_state task t b v.0 fits state_t v.1).each ∙ sym (step_state task u a w.0 fits state_u w.1).each)
       (λ var on. elim (touch_one var) [
         | inl none ↦ unwritten_one s t u v.0 w.0 state first second leaves_one leaves_other leaves_v leaves_w var on none
-        | inr (inl un) ↦ quiet task s u other one state fit_one second first leaves_other touch_other t w.0 leaves_one leaves_w var on (recursion_from_All (λ effect. effect.var ≡ var → ⊥) other.effects un.1) ∙ sym (unwritten_value t v.0 var on un leaves_v)
+        | inr (inl un) ↦ quiet task s u other one state fit_one second first leaves_other touch_other t w.0 leaves_one
+            leaves_w var on (recursion_from_All (λ effect. effect.var ≡ var → ⊥) other.effects un.1)
+            ∙ sym (unwritten_value t v.0 var on un leaves_v)
         | inr (inr loc) ↦ at_locals s t u v.0 w.0 state first second leaves_one leaves_other leaves_v leaves_w var on loc
       ]) in
       record { v = v.0; after_one = v.1; after_other = subst (λ (z : List ℕ). Step task u a z) same w.1 }
     where
-      unwritten_value : (t v : List ℕ) (var : ℕ) → IsBase task var → Untouched task other var → Leaves task t other v → get_or v (place task var) 0 ≡ get_or t (place task var) 0
-      unwritten_value t v var on un leaves = unwritten (Fires task t) other.effects var (get_or t (place task var) 0) (get_or v (place task var) 0) (recursion_from_All (λ effect. effect.var ≡ var → ⊥) other.effects un.1) (leaves var on)
+      unwritten_value : (t v : List ℕ) (var : ℕ) → IsBase task var → Untouched task other var → Leaves task t other v
+          → get_or v (place task var) 0 ≡ get_or t (place task var) 0
+      unwritten_value t v var on un leaves = unwritten (Fires task t) other.effects var (get_or t (place task var) 0)
+          (get_or v (place task var) 0) (recursion_from_All (λ effect. effect.var ≡ var → ⊥) other.effects un.1)
+          (leaves var on)
 
-      unwritten_one : (s t u v w : List ℕ) → IsState task s → Allowed task s one → Allowed task s other → Leaves task s one t → Leaves task s other u → Leaves task t other v → Leaves task u one w → (var : ℕ) → IsBase task var → Unwritten var one.effects → get_or w (place task var) 0 ≡ get_or v (place task var) 0
+      unwritten_one : (s t u v w : List ℕ) → IsState task s → Allowed task s one → Allowed task s other
+          → Leaves task s one t → Leaves task s other u → Leaves task t other v → Leaves task u one w → (var : ℕ)
+          → IsBase task var → Unwritten var one.effects → get_or w (place task var) 0 ≡ get_or v (place task var) 0
       unwritten_one s t u v w state first second leaves_one leaves_other leaves_v leaves_w var on none =
           unwritten (Fires task u) one.effects var (get_or u (place task var) 0) (get_or w (place task var) 0) none (leaves_w var on)
-          ∙ sym (quiet task s t one other state (fits_operator task b other fits is_other) first second leaves_one touch_one u v leaves_other leaves_v var on none)
+          ∙ sym (quiet task s t one other state (fits_operator task b other fits is_other) first second leaves_one
+          touch_one u v leaves_other leaves_v var on none)
 
-      at_locals : (s t u v w : List ℕ) → IsState task s → Allowed task s one → Allowed task s other → Leaves task s one t → Leaves task s other u → Leaves task t other v → Leaves task u one w → (var : ℕ) → IsBase task var
-          → (AreLocal var one.effects × AreLocal var other.effects × IsSomeAnd (slice_get task.variables var) (λ x. MeetEach task one other var (range x))) → get_or w (place task var) 0 ≡ get_or v (place task var) 0
+      at_locals : (s t u v w : List ℕ) → IsState task s → Allowed task s one → Allowed task s other
+          → Leaves task s one t → Leaves task s other u → Leaves task t other v → Leaves task u one w
+          → (var : ℕ) → IsBase task var
+          → (AreLocal var one.effects × AreLocal var other.effects
+          × IsSomeAnd (slice_get task.variables var) (λ x. MeetEach task one other var (range x)))
+          → get_or w (place task var) 0 ≡ get_or v (place task var) 0
       at_locals s t u v w state first second leaves_one leaves_other leaves_v leaves_w var on loc =
           let val = get_or s (place task var) 0 in
           let m = meet_at task s t one other state (fits_operator task b other fits is_other) first second leaves_one touch_one var on loc.2 in
@@ -137,8 +158,11 @@ module _ (task : TaskParts) (a b : ℕ) (one other : Operator) (fits : Fits task
   }
 
 -- by what the test looked at
-pub test_law : (task parts : TaskParts) (operators : List Operator) (a b : ℕ) (one other : Operator) (first second : List Effect) → Fits task → parts ≡ task → operators ≡ parts.operators → a < length task.operators → b < length task.operators
-    → one ≡ get_or operators a one → other ≡ get_or operators b other → first ≡ one.effects → second ≡ other.effects → MeetOnAll parts one other first → MeetOnAll parts one other second → Commute (system_of task) a b
+pub test_law : (task parts : TaskParts) (operators : List Operator) (a b : ℕ) (one other : Operator)
+    (first second : List Effect) → Fits task → parts ≡ task → operators ≡ parts.operators
+    → a < length task.operators → b < length task.operators
+    → one ≡ get_or operators a one → other ≡ get_or operators b other → first ≡ one.effects → second ≡ other.effects
+    → MeetOnAll parts one other first → MeetOnAll parts one other second → Commute (system_of task) a b
 test_law task parts operators a b one other first second fits same list lt_a lt_b is_one is_other firsts seconds meets met =
     let all : operators ≡ task.operators = list ∙ ap (λ (z : TaskParts). z.operators) same in
     let at_a = operator_at task operators a one fits all lt_a is_one in

@@ -28,17 +28,26 @@ on_none (Some t) f h = h t
 
 never : (y : System) (cost : ℕ) (test : List ℕ → Bool) (d : ℕ) (s : State) (p : List ℕ) → hits y (λ t. false) cost test d s p ≡ 0
 never y cost test d s [] = no_end (test []) (eqb d cost)
-never y cost test d s (op ∷ p) = omega (arith, no_end (test (op ∷ p)) (eqb d cost), on_none (y.step op s) (λ t. hits y (λ r. false) cost test (d + y.cost op) t p) (λ t. never y cost test (d + y.cost op) t p))
+never y cost test d s (op ∷ p) = omega (
+  arith,
+  no_end (test (op ∷ p)) (eqb d cost),
+  on_none (y.step op s)
+      (λ t. hits y (λ r. false) cost test (d + y.cost op) t p) (λ t. never y cost test (d + y.cost op) t p),
+)
 
-pub hits_same : (y : System) (f g : State → Bool) (cost : ℕ) (test : List ℕ → Bool) (d : ℕ) (s : State) (p : List ℕ) → ((t : State) → f t ≡ g t) → hits y f cost test d s p ≡ hits y g cost test d s p
+pub hits_same : (y : System) (f g : State → Bool) (cost : ℕ) (test : List ℕ → Bool) (d : ℕ) (s : State) (p : List ℕ)
+    → ((t : State) → f t ≡ g t) → hits y f cost test d s p ≡ hits y g cost test d s p
 hits_same y f g cost test d s p h = ap (λ (k : State → Bool). hits y k cost test d s p) (λ i t. h t i)
 
-pub hits_none : (y : System) (f : State → Bool) (cost : ℕ) (test : List ℕ → Bool) (d : ℕ) (s : State) (p : List ℕ) → ((t : State) → f t ≡ false) → hits y f cost test d s p ≡ 0
+pub hits_none : (y : System) (f : State → Bool) (cost : ℕ) (test : List ℕ → Bool) (d : ℕ) (s : State) (p : List ℕ)
+    → ((t : State) → f t ≡ false) → hits y f cost test d s p ≡ 0
 hits_none y f cost test d s p h = hits_same y f (λ t. false) cost test d s p h ∙ never y cost test d s p
 
 module _ (y : System) (front back : ℕ → State → Bool) where
   pub child_counts : (e : Plain) (k : ℕ) (c : Plain) (p : List ℕ) → IsChild y front back e k c → entry_hits y c p ≡ child_hits y front back e p k
-  child_counts (Head has cost ring ops after) k (Head has2 cost2 ring2 ops2 after2) p c = rw (c.1, c.2, c.3) (hits_same y has2 (into y front has cost k) (cost - y.cost k) (begins y (k ∷ ops) after) 0 y.initial p c.0)
+  child_counts (Head has cost ring ops after) k (Head has2 cost2 ring2 ops2 after2) p c =
+      rw (c.1, c.2, c.3) (hits_same y has2 (into y front has cost k) (cost - y.cost k)
+      (begins y (k ∷ ops) after) 0 y.initial p c.0)
   child_counts (Head has cost ring ops after) k (Tail cost2 ring2 ops2) p c = absurd c
   child_counts (Tail cost ring ops) k (Tail cost2 ring2 ops2) p c = rw (c.1, c.2, c.0) refl
   child_counts (Tail cost ring ops) k (Head has2 cost2 ring2 ops2 after2) p c = absurd c
@@ -53,8 +62,10 @@ module _ (y : System) (front back : ℕ → State → Bool) where
   lower cost ring cost2 ring2 le fits (inl a) = omega (arith, le, fits, a)
   lower cost ring cost2 ring2 le fits (inr a) = omega (arith, le, fits, a)
 
-  pub child_lower : (e : Plain) (k : ℕ) (c : Plain) → IsChild y front back e k c → ring_of c < 2 ^ 64 → (rest_of c < rest_of e) ⊎ (ring_of c < ring_of e) → height c < height e
-  child_lower (Head has cost ring ops after) k (Head has2 cost2 ring2 ops2 after2) c fits h = omega (arith, lower cost ring cost2 ring2 (omega (arith, c.1)) fits h)
+  pub child_lower : (e : Plain) (k : ℕ) (c : Plain) → IsChild y front back e k c → ring_of c < 2 ^ 64
+      → (rest_of c < rest_of e) ⊎ (ring_of c < ring_of e) → height c < height e
+  child_lower (Head has cost ring ops after) k (Head has2 cost2 ring2 ops2 after2) c fits h =
+      omega (arith, lower cost ring cost2 ring2 (omega (arith, c.1)) fits h)
   child_lower (Head has cost ring ops after) k (Tail cost2 ring2 ops2) c fits h = absurd c
   child_lower (Tail cost ring ops) k (Tail cost2 ring2 ops2) c fits h = lower cost ring cost2 ring2 (omega (arith, c.1)) fits h
   child_lower (Tail cost ring ops) k (Head has2 cost2 ring2 ops2 after2) c fits h = absurd c
@@ -72,7 +83,8 @@ module _ (y : System) (front back : ℕ → State → Bool) where
   level_off (Head has cost ring ops after) k (Tail cost2 ring2 ops2) c a b f = absurd c
   level_off (Tail cost ring ops) k (Tail cost2 ring2 ops2) c a b f =
       let le : y.cost k ≤ cost = le_of _ _ (both _ _ f.2).0 in
-      let down : ring2 ≤ f.0 = c.4 f.1 f.0 (subst (λ (x : List ℕ). Runs y y.initial x f.1) (sym c.2) f.3) (subst (λ (x : ℕ). BwdIn y x f.0 f.1) (sym c.1) f.4) in
+      let down : ring2 ≤ f.0 = c.4 f.1 f.0 (subst (λ (x : List ℕ). Runs y y.initial x f.1) (sym c.2) f.3)
+      (subst (λ (x : ℕ). BwdIn y x f.0 f.1) (sym c.1) f.4) in
       stuck (y.cost k) cost ring f.0 ring2 le (omega (arith, a, c.1)) b down f.5
   level_off (Tail cost ring ops) k (Head has2 cost2 ring2 ops2 after2) c a b f = absurd c
 
@@ -81,7 +93,8 @@ module _ (y : System) (front back : ℕ → State → Bool) where
   all_push P (z ∷ xs) x a h = (a.0, all_push P xs x a.1 h)
 
   module _ (e : Plain) (k : ℕ) (level falling level2 falling2 : List Plain) where
-    pub added_none : ((p : List ℕ) → child_hits y front back e p k ≡ 0) → (Fallable y front back e k → ⊥) → level2 ≡ level → falling2 ≡ falling → Added y front back e k level falling level2 falling2
+    pub added_none : ((p : List ℕ) → child_hits y front back e p k ≡ 0) → (Fallable y front back e k → ⊥)
+        → level2 ≡ level → falling2 ≡ falling → Added y front back e k level falling level2 falling2
     added_none none off a b = rw (a, b) (record {
       counts = λ p. omega (arith, none p);
       each = λ h. h;
@@ -90,7 +103,8 @@ module _ (y : System) (front back : ℕ → State → Bool) where
       falls = λ f. absurd (off f);
     })
 
-    pub added_falls : (c : Plain) → IsChild y front back e k c → height c < height e → level2 ≡ level → falling2 ≡ falling ++ c ∷ [] → Added y front back e k level falling level2 falling2
+    pub added_falls : (c : Plain) → IsChild y front back e k c → height c < height e → level2 ≡ level
+        → falling2 ≡ falling ++ c ∷ [] → Added y front back e k level falling level2 falling2
     added_falls c is low a b = rw (a, b) (record {
       counts = λ p. omega (arith, total_append y falling (c ∷ []) p, child_counts e k c p is);
       each = λ h. h;
@@ -99,7 +113,8 @@ module _ (y : System) (front back : ℕ → State → Bool) where
       falls = λ f. omega (arith, length-append falling (c ∷ []));
     })
 
-    pub added_level : (c : Plain) → IsChild y front back e k c → rest_of e ≤ rest_of c → ring_of e ≤ ring_of c → level2 ≡ level ++ c ∷ [] → falling2 ≡ falling → Added y front back e k level falling level2 falling2
+    pub added_level : (c : Plain) → IsChild y front back e k c → rest_of e ≤ rest_of c → ring_of e ≤ ring_of c
+        → level2 ≡ level ++ c ∷ [] → falling2 ≡ falling → Added y front back e k level falling level2 falling2
     added_level c is s r a b = rw (a, b) (record {
       counts = λ p. omega (arith, total_append y level (c ∷ []) p, child_counts e k c p is);
       each = λ h. all_push (SomeChild y front back e) level c h (k, is);
@@ -121,7 +136,9 @@ module _ (y : System) (front back : ℕ → State → Bool) where
   pub sofar_none : (e : Plain) → Sofar y front back e [] [] []
   sofar_none e = record { counts = λ p. refl; each = tt; each_falls = tt; falls = λ i h f. absurd h }
 
-  pub sofar_more : (e : Plain) (done : List ℕ) (k : ℕ) (level falling level2 falling2 : List Plain) → Sofar y front back e done level falling → Added y front back e k level falling level2 falling2 → Sofar y front back e (done ++ k ∷ []) level2 falling2
+  pub sofar_more : (e : Plain) (done : List ℕ) (k : ℕ) (level falling level2 falling2 : List Plain)
+      → Sofar y front back e done level falling → Added y front back e k level falling level2 falling2
+      → Sofar y front back e (done ++ k ∷ []) level2 falling2
   sofar_more e done k level falling level2 falling2 s a = record {
     counts = λ p. omega (arith, s.counts p, a.counts p, sum_push done k (child_hits y front back e p));
     each = a.each s.each;
@@ -132,7 +149,8 @@ module _ (y : System) (front back : ℕ → State → Bool) where
     ];
   }
 
-  pub gathered : (e : Plain) (ops : List ℕ) (level falling : List Plain) → MissesNone y front back e ops → Sofar y front back e ops level falling → Gathered y front back e level falling
+  pub gathered : (e : Plain) (ops : List ℕ) (level falling : List Plain) → MissesNone y front back e ops
+      → Sofar y front back e ops level falling → Gathered y front back e level falling
   gathered e ops level falling m s = record {
     counts = λ p. s.counts p ∙ sum_rising y.operators ops (child_hits y front back e p) m.rising m.range (λ k b off. (m.others k b off).0 p);
     each = s.each;

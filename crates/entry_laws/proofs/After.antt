@@ -38,24 +38,38 @@ module _ (y : System) (cost : ℕ) (ok : ℕ → Bool) where
       let z : sum_ops y.operators (part []) ≡ 0 = sum_zero y.operators (part []) (λ k b. no_child k) in
       omega (arith, z, ap ind (same_test 0 cost))
   rest_splits (a ∷ q) cov =
-      let one : sum_ops y.operators (part (a ∷ q)) ≡ part (a ∷ q) a = sum_one y.operators a (part (a ∷ q)) (cov.number a q refl) (λ k b n. ap (λ (z : Bool). ind (ok k && (z && eqb (cost_of y q) (cost - y.cost k)))) (differ a k (λ e. n (sym e))) ∙ no_child k) in
-      let this : part (a ∷ q) a ≡ ind (ok a && eqb (cost_of y q) (cost - y.cost a)) = ap (λ (z : Bool). ind (ok a && (z && eqb (cost_of y q) (cost - y.cost a)))) (alike a) in
-      let all : ind (ok a && eqb (cost_of y q) (cost - y.cost a)) ≡ ind (eqb (y.cost a + cost_of y q) cost) = ap ind (kept_test (y.cost a) (cost_of y q) cost (ok a) (cov.there a q refl) (cov.fits a)) in
+      let one : sum_ops y.operators (part (a ∷ q)) ≡ part (a ∷ q) a =
+      sum_one y.operators a (part (a ∷ q)) (cov.number a q refl)
+      (λ k b n. ap (λ (z : Bool). ind (ok k && (z && eqb (cost_of y q) (cost - y.cost k))))
+      (differ a k (λ e. n (sym e))) ∙ no_child k) in
+      let this : part (a ∷ q) a ≡ ind (ok a && eqb (cost_of y q) (cost - y.cost a)) =
+      ap (λ (z : Bool). ind (ok a && (z && eqb (cost_of y q) (cost - y.cost a)))) (alike a) in
+      let all : ind (ok a && eqb (cost_of y q) (cost - y.cost a)) ≡ ind (eqb (y.cost a + cost_of y q) cost) =
+      ap ind (kept_test (y.cost a) (cost_of y q) cost (ok a) (cov.there a q refl) (cov.fits a)) in
       omega (arith, one, this, all)
 
   -- what the child by k counts
   abbrev pub after_child : List ℕ → List ℕ → ℕ → ℕ
   after_child ops p k = ind (ok k && begins y (ops ++ k ∷ []) (cost - y.cost k) p)
 
-  pub after_splits : (ops p : List ℕ) → ((r : List ℕ) → p ≡ ops ++ r → Covers r) → ind (begins y ops cost p) ≡ ind (are_equal p ops && eqb cost 0) + sum_ops y.operators (after_child ops p)
+  pub after_splits : (ops p : List ℕ) → ((r : List ℕ) → p ≡ ops ++ r → Covers r)
+      → ind (begins y ops cost p) ≡ ind (are_equal p ops && eqb cost 0) + sum_ops y.operators (after_child ops p)
   after_splits [] p cov = rest_splits p (cov p refl)
   after_splits (o ∷ ops) [] cov = omega (arith, sum_zero y.operators (after_child (o ∷ ops) []) (λ k b. no_child k))
   after_splits (o ∷ ops) (a ∷ p) cov = elim (same_or a o) [
     | inl e ↦
         let ih = after_splits ops p (λ r is. cov r (ap (λ (x : List ℕ). a ∷ x) is ∙ ap (λ (x : ℕ). x ∷ (ops ++ r)) e)) in
-        subst (λ (z : Bool). ind (z && begins y ops cost p) ≡ ind ((z && are_equal p ops) && eqb cost 0) + sum_ops y.operators (λ k. ind (ok k && (z && begins y (ops ++ k ∷ []) (cost - y.cost k) p)))) (sym (eq-eqb a o e)) ih
+        subst (λ (z : Bool). ind (z && begins y ops cost p) ≡ ind ((z && are_equal p ops) && eqb cost 0) + sum_ops
+        y.operators (λ k. ind (ok k && (z && begins y (ops ++ k ∷ []) (cost - y.cost k) p))))
+        (sym (eq-eqb a o e)) ih
     | inr n ↦
-        subst (λ (z : Bool). ind (z && begins y ops cost p) ≡ ind ((z && are_equal p ops) && eqb cost 0) + sum_ops y.operators (λ k. ind (ok k && (z && begins y (ops ++ k ∷ []) (cost - y.cost k) p)))) (sym (differ a o n)) (omega (arith, sum_zero y.operators (λ k. ind (ok k && false)) (λ k b. no_child k)))
+        subst (λ (z : Bool). ind (z && begins y ops cost p) ≡ ind ((z && are_equal p ops) && eqb cost 0) + sum_ops
+        y.operators (λ k. ind (ok k && (z && begins y (ops ++ k ∷ []) (cost - y.cost k) p))))
+        (sym (differ a o n)) (omega (
+          arith,
+          sum_zero y.operators (λ k. ind (ok k && false))
+              (λ k b. no_child k),
+        ))
   ]
     where
       same_or : (a b : ℕ) → (a ≡ b) ⊎ (a ≡ b → ⊥)

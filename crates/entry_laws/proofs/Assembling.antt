@@ -31,7 +31,9 @@ all_last P (y ∷ xs) x a = all_last P xs x a.1
 
 module _ (y : System) (front back : ℕ → State → Bool) (e : Plain) (others level falling : List Plain) (sofar : Gathered y front back e level falling) where
   follow : AllByRecursion (Follows y front back e) (level ++ falling)
-  follow = all_append (Follows y front back e) level falling (all_map (SomeChild y front back e) (Follows y front back e) level (λ c h. inl h) sofar.each) (all_map (Falling y front back e) (Follows y front back e) falling (λ c h. inl h.0) sofar.each_falls)
+  follow = all_append (Follows y front back e) level falling
+      (all_map (SomeChild y front back e) (Follows y front back e) level (λ c h. inl h) sofar.each)
+      (all_map (Falling y front back e) (Follows y front back e) falling (λ c h. inl h.0) sofar.each_falls)
 
   -- the last falling child is taken next
   pub goes_plain : Open y e → ((p : List ℕ) → begun_hits y e p ≡ 0) → 0 < length falling → Goes y front back (others ++ e ∷ []) (others ++ (level ++ falling))
@@ -39,7 +41,8 @@ module _ (y : System) (front back : ℕ → State → Bool) (e : Plain) (others 
       let l = lasts falling some in
       let c = l.1 in
       let whole : level ++ falling ≡ (level ++ l.0) ++ c ∷ [] = ap (λ (q : List Plain). level ++ q) l.2 ∙ regroup level l.0 c in
-      let fall : Falling y front back e c = all_last (Falling y front back e) l.0 c (subst (λ (q : List Plain). AllByRecursion (Falling y front back e) q) l.2 sofar.each_falls) in
+      let fall : Falling y front back e c = all_last (Falling y front back e) l.0 c
+      (subst (λ (q : List Plain). AllByRecursion (Falling y front back e) q) l.2 sofar.each_falls) in
       record {
         taken = e;
         others = others;
@@ -55,7 +58,9 @@ module _ (y : System) (front back : ℕ → State → Bool) (e : Plain) (others 
       }
 
   -- the suffix that begins is taken next
-  pub goes_begun : (c : Plain) → Open y e → IsBegun y e c → ((p : List ℕ) → entry_hits y c p ≡ begun_hits y e p) → height c < height e → weight c ≡ weight e + 1 → Goes y front back (others ++ e ∷ []) (others ++ ((level ++ falling) ++ c ∷ []))
+  pub goes_begun : (c : Plain) → Open y e → IsBegun y e c → ((p : List ℕ) → entry_hits y c p ≡ begun_hits y e p)
+      → height c < height e → weight c ≡ weight e + 1 → Goes y front back (others ++ e ∷ [])
+      (others ++ ((level ++ falling) ++ c ∷ []))
   goes_begun c o begun same low long = record {
     taken = e;
     others = others;
@@ -83,13 +88,20 @@ module _ (y : System) (front back : ℕ → State → Bool) (e : Plain) (others 
   }
 
 -- an entry that isn't finished has a falling child
-pub head_some : (y : System) (front back : ℕ → State → Bool) (f b listed : ℕ) (tab : Tables y front back f b) (has : State → Bool) (cost ring : ℕ) (ops : List ℕ) (after : ℕ) (level falling : List Plain) → Stands y f b listed (Head has cost ring ops after) → Gathered y front back (Head has cost ring ops after) level falling → ((cost ≡ 0) × (has y.initial ≡ true) → ⊥) → 0 < length falling
-head_some y front back f b listed tab has cost ring ops after level falling st s off = elim (head_falls y front back f b tab has cost ring listed ops after st) [
-  | inl h ↦ absurd (off h)
-  | inr h ↦ s.falls h.0 h.3 (h.1, h.2, h.4, h.5, h.6)
-]
+pub head_some : (y : System) (front back : ℕ → State → Bool) (f b listed : ℕ) (tab : Tables y front back f b)
+    (has : State → Bool) (cost ring : ℕ) (ops : List ℕ) (after : ℕ) (level falling : List Plain)
+    → Stands y f b listed (Head has cost ring ops after) → Gathered y front back (Head has cost ring ops after)
+    level falling → ((cost ≡ 0) × (has y.initial ≡ true) → ⊥) → 0 < length falling
+head_some y front back f b listed tab has cost ring ops after level falling st s off =
+    elim (head_falls y front back f b tab has cost ring listed ops after st) [
+      | inl h ↦ absurd (off h)
+      | inr h ↦ s.falls h.0 h.3 (h.1, h.2, h.4, h.5, h.6)
+    ]
 
-pub tail_some : (y : System) (front back : ℕ → State → Bool) (f b listed : ℕ) (tab : Tables y front back f b) (cost ring : ℕ) (ops : List ℕ) (level falling : List Plain) → Stands y f b listed (Tail cost ring ops) → Gathered y front back (Tail cost ring ops) level falling → ((cost ≡ 0) × IsPlan y ops → ⊥) → 0 < length falling
+pub tail_some : (y : System) (front back : ℕ → State → Bool) (f b listed : ℕ) (tab : Tables y front back f b)
+    (cost ring : ℕ) (ops : List ℕ) (level falling : List Plain) → Stands y f b listed (Tail cost ring ops)
+    → Gathered y front back (Tail cost ring ops) level falling
+    → ((cost ≡ 0) × IsPlan y ops → ⊥) → 0 < length falling
 tail_some y front back f b listed tab cost ring ops level falling st s off = elim (tail_falls y front back f b tab cost ring listed ops st) [
   | inl h ↦ absurd (off h)
   | inr h ↦ s.falls h.0 h.3 (h.1, h.2, h.4, h.5, h.6, h.7)
@@ -99,12 +111,14 @@ begun_counts : (a : Bool) → a ≡ (a && true)
 begun_counts true = refl
 begun_counts false = refl
 
-pub begins_same : (y : System) (has : State → Bool) (ring : ℕ) (ops : List ℕ) (after ring2 : ℕ) (p : List ℕ) → has y.initial ≡ true → entry_hits y (Tail after ring2 ops) p ≡ begun_hits y (Head has 0 ring ops after) p
+pub begins_same : (y : System) (has : State → Bool) (ring : ℕ) (ops : List ℕ) (after ring2 : ℕ) (p : List ℕ)
+    → has y.initial ≡ true → entry_hits y (Tail after ring2 ops) p ≡ begun_hits y (Head has 0 ring ops after) p
 begins_same y has ring ops after ring2 p h = rw h (ap ind (begun_counts (begins y ops after p)))
 
 off_counts : (a c : Bool) → c ≡ false → ind (a && c) ≡ 0
 off_counts true c h = rw h refl
 off_counts false c h = refl
 
-pub not_begun : (y : System) (has : State → Bool) (cost ring : ℕ) (ops : List ℕ) (after : ℕ) (p : List ℕ) → (eqb 0 cost && has y.initial) ≡ false → begun_hits y (Head has cost ring ops after) p ≡ 0
+pub not_begun : (y : System) (has : State → Bool) (cost ring : ℕ) (ops : List ℕ) (after : ℕ) (p : List ℕ)
+    → (eqb 0 cost && has y.initial) ≡ false → begun_hits y (Head has cost ring ops after) p ≡ 0
 not_begun y has cost ring ops after p h = off_counts (begins y ops after p) _ h

@@ -16,13 +16,21 @@ module _ (y : System) (has : State → Bool) (cost : ℕ) (test : List ℕ → B
   abbrev here : ℕ → List ℕ → ℕ → State → ℕ → ℕ
   here op p d s k = ind ((eqb op k && test p) && (eqb d (rest k) && back k s))
 
-  picked : (op : ℕ) (p : List ℕ) (d : ℕ) (s : State) → op < y.operators → Backs d s → sum_ops y.operators (here op p d s) ≡ ind (test p && (eqb (d + y.cost op) cost && at_some (y.step op s) has))
+  picked : (op : ℕ) (p : List ℕ) (d : ℕ) (s : State) → op < y.operators → Backs d s
+      → sum_ops y.operators (here op p d s) ≡ ind
+      (test p && (eqb (d + y.cost op) cost && at_some (y.step op s) has))
   picked op p d s b back_ok =
-      sum_one y.operators op (here op p d s) b (λ k c off. ap (λ (q : Bool). ind ((q && test p) && (eqb d (rest k) && back k s))) (differ op k (λ e. off (sym e))))
+      sum_one y.operators op (here op p d s) b (λ k c off. ap
+      (λ (q : Bool). ind ((q && test p) && (eqb d (rest k) && back k s))) (differ op k (λ e. off (sym e))))
       ∙ ap (λ (q : Bool). ind ((q && test p) && (eqb d (rest op) && back op s))) (alike op)
       ∙ ap (λ (q : Bool). ind (test p && q)) (back_ok op b)
 
-  more : (op : ℕ) (p : List ℕ) (d : ℕ) (s : State) (o : Option State) → y.step op s ≡ o → op < y.operators → Backs d s → ((t : State) → o ≡ Some t → hits y has cost test (d + y.cost op) t p ≡ ind (test p && (eqb (d + y.cost op) cost && has t)) + sum_ops y.operators (λ k. hits y (back k) (rest k) (next k test) (d + y.cost op) t p)) → on_some o (λ t. hits y has cost test (d + y.cost op) t p) ≡ sum_ops y.operators (λ k. here op p d s k + on_some o (λ t. hits y (back k) (rest k) (next k test) (d + y.cost op) t p))
+  more : (op : ℕ) (p : List ℕ) (d : ℕ) (s : State) (o : Option State) → y.step op s ≡ o → op < y.operators → Backs d s
+      → ((t : State) → o ≡ Some t → hits y has cost test (d + y.cost op) t p ≡ ind
+      (test p && (eqb (d + y.cost op) cost && has t)) + sum_ops y.operators
+      (λ k. hits y (back k) (rest k) (next k test) (d + y.cost op) t p))
+      → on_some o (λ t. hits y has cost test (d + y.cost op) t p) ≡ sum_ops y.operators
+      (λ k. here op p d s k + on_some o (λ t. hits y (back k) (rest k) (next k test) (d + y.cost op) t p))
   more op p d s None e b back_ok ih =
       let one = picked op p d s b back_ok in
       let none : ind (test p && (eqb (d + y.cost op) cost && at_some (y.step op s) has)) ≡ 0 = rw e (no_ind (test p) (eqb (d + y.cost op) cost)) in
@@ -32,7 +40,9 @@ module _ (y : System) (has : State → Bool) (cost : ℕ) (test : List ℕ → B
       let some : ind (test p && (eqb (d + y.cost op) cost && at_some (y.step op s) has)) ≡ ind (test p && (eqb (d + y.cost op) cost && has t)) = rw e refl in
       omega (arith, sum_add y.operators (here op p d s) (λ k. hits y (back k) (rest k) (next k test) (d + y.cost op) t p), one, some, ih t refl)
 
-  pub splits : (p : List ℕ) (d : ℕ) (s : State) → Along d s p → hits y has cost test d s p ≡ ind (test p && (eqb d cost && has s)) + sum_ops y.operators (λ op. hits y (back op) (rest op) (next op test) d s p)
+  pub splits : (p : List ℕ) (d : ℕ) (s : State) → Along d s p
+      → hits y has cost test d s p ≡ ind (test p && (eqb d cost && has s)) + sum_ops y.operators
+      (λ op. hits y (back op) (rest op) (next op test) d s p)
   splits [] d s a = omega (arith, sum_zero y.operators (λ k. hits y (back k) (rest k) (next k test) d s []) (λ k b. refl))
   splits (op ∷ p) d s a =
       let m = more op p d s (y.step op s) refl a.1 a.0 (λ t e. splits p (d + y.cost op) t (a.2 t e)) in

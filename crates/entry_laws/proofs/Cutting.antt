@@ -24,7 +24,8 @@ pub cost_append : (y : System) (p q : List ℕ) → cost_of y (p ++ q) ≡ cost_
 cost_append y [] q = omega arith
 cost_append y (op ∷ p) q = omega (arith, cost_append y p q)
 
-crossing_at : (y : System) (b d : ℕ) (q : List ℕ) (op : ℕ) (r : List ℕ) → cost_of y r < b → b ≤ y.cost op + cost_of y r → crossing y b d (q ++ op ∷ r) ≡ Cross (d + cost_of y q) op (cost_of y r)
+crossing_at : (y : System) (b d : ℕ) (q : List ℕ) (op : ℕ) (r : List ℕ) → cost_of y r < b
+    → b ≤ y.cost op + cost_of y r → crossing y b d (q ++ op ∷ r) ≡ Cross (d + cost_of y q) op (cost_of y r)
 crossing_at y b d [] op r lt le =
     let e : d ≡ d + 0 = omega arith in
     rw (leb_no b (cost_of y r) lt) (ap (λ (n : ℕ). Cross n op (cost_of y r)) e)
@@ -51,7 +52,8 @@ cut_one y b p (Cross d op r) (q, s, is, x, z, lt, le) =
     let high : b ≤ y.cost op + cost_of y s = omega (arith, z, le) in
     let far : b ≤ cost_of y (q ++ op ∷ s) = omega (arith, cost_append y q (op ∷ s), high) in
     let from : 0 + cost_of y q ≡ d = omega (arith, x) in
-    rw is (rw (leb_yes b (cost_of y (q ++ op ∷ s)) far) (crossing_at y b 0 q op s low high ∙ ap (λ (n : ℕ). Cross n op (cost_of y s)) from ∙ ap (λ (n : ℕ). Cross d op n) z))
+    rw is (rw (leb_yes b (cost_of y (q ++ op ∷ s)) far) (crossing_at y b 0 q op s low high ∙ ap
+    (λ (n : ℕ). Cross n op (cost_of y s)) from ∙ ap (λ (n : ℕ). Cross d op n) z))
 
 pub cut_is : (y : System) (b : ℕ) (p : List ℕ) → 0 < b → IsCut y b p (cut_of y b p)
 cut_is y b p pos = elim (below_or (cost_of y p) b) [
@@ -64,7 +66,8 @@ cut_is y b p pos = elim (below_or (cost_of y p) b) [
 ]
 
 -- the cut lies inside what both sides know, and the crossing operator costs something
-pub cut_inside : (y : System) (f b : ℕ) (p : List ℕ) (d op r : ℕ) → IsCut y b p (Cross d op r) → cost_of y p < f + b → (d + y.cost op + r ≡ cost_of y p) × (d < f) × (r < b) × (0 < y.cost op)
+pub cut_inside : (y : System) (f b : ℕ) (p : List ℕ) (d op r : ℕ) → IsCut y b p (Cross d op r) → cost_of y p < f + b
+    → (d + y.cost op + r ≡ cost_of y p) × (d < f) × (r < b) × (0 < y.cost op)
 cut_inside y f b p d op r (q, s, is, x, z, lt, le) c =
     let e : cost_of y p ≡ cost_of y q + (y.cost op + cost_of y s) = ap (cost_of y) is ∙ cost_append y q (op ∷ s) in
     (omega (arith, e, x, z), omega (arith, e, x, z, c, le), lt, omega (arith, lt, le))
@@ -90,27 +93,40 @@ none_left y b x op r d [] le lt = refl
 none_left y b x op r d (a ∷ p) le lt = elim (same_or a op) [
   | inl e ↦
       let w : y.cost a ≡ y.cost op = ap y.cost e in
-      omega (arith, miss (eqb a op) (eqb (cost_of y p) r) (eqb d x) (off _ _ (λ h. omega (arith, h, w, le, lt))), none_left y b x op r (d + y.cost a) p le (omega (arith, lt)))
-  | inr n ↦ omega (arith, ap (λ (z : Bool). ind ((z && eqb (cost_of y p) r) && eqb d x)) (off a op n), none_left y b x op r (d + y.cost a) p le (omega (arith, lt)))
+      omega (
+        arith,
+        miss (eqb a op) (eqb (cost_of y p) r) (eqb d x) (off _ _ (λ h. omega (arith, h, w, le, lt))),
+        none_left y b x op r (d + y.cost a) p le (omega (arith, lt)),
+      )
+  | inr n ↦ omega (
+    arith,
+    ap (λ (z : Bool). ind ((z && eqb (cost_of y p) r) && eqb d x)) (off a op n),
+    none_left y b x
+        op r (d + y.cost a) p le (omega (arith, lt)),
+  )
 ]
   where
     same_or : (a b : ℕ) → (a ≡ b) ⊎ (a ≡ b → ⊥)
     same_or a b = grind (arith, nat_tests)
 
 -- a place is found exactly where the plan has this cut
-drawn_from : (y : System) (b x op r d : ℕ) (p : List ℕ) → r < b → b ≤ y.cost op + r → spots y x (begins y (op ∷ []) r) d p ≡ ind (same_cut (crossing y b d p) (Cross x op r))
+drawn_from : (y : System) (b x op r d : ℕ) (p : List ℕ) → r < b → b ≤ y.cost op + r
+    → spots y x (begins y (op ∷ []) r) d p ≡ ind (same_cut (crossing y b d p) (Cross x op r))
 drawn_from y b x op r d [] lt le = refl
 drawn_from y b x op r d (a ∷ p) lt le = elim (below_or (cost_of y p) b) [
   | inl low ↦
       let none = none_left y b x op r (d + y.cost a) p le low in
-      let here : ind ((eqb a op && eqb (cost_of y p) r) && eqb d x) ≡ ind (eqb a op && (eqb (cost_of y p) r && eqb d x)) = ap ind (shift (eqb a op) (eqb (cost_of y p) r) (eqb d x)) in
+      let here : ind ((eqb a op && eqb (cost_of y p) r) && eqb d x) ≡ ind
+      (eqb a op && (eqb (cost_of y p) r && eqb d x)) =
+      ap ind (shift (eqb a op) (eqb (cost_of y p) r) (eqb d x)) in
       rw (leb_no b (cost_of y p) low) (omega (arith, none, here))
   | inr far ↦
       let here = miss (eqb a op) (eqb (cost_of y p) r) (eqb d x) (off _ _ (λ h. omega (arith, h, far, lt))) in
       rw (leb_yes b (cost_of y p) far) (omega (arith, here, drawn_from y b x op r (d + y.cost a) p lt le))
 ]
 
-pub drawn_spots : (y : System) (b x op r : ℕ) (p : List ℕ) → r < b → b ≤ y.cost op + r → spots y x (begins y (op ∷ []) r) 0 p ≡ ind (same_cut (cut_of y b p) (Cross x op r))
+pub drawn_spots : (y : System) (b x op r : ℕ) (p : List ℕ) → r < b → b ≤ y.cost op + r
+    → spots y x (begins y (op ∷ []) r) 0 p ≡ ind (same_cut (cut_of y b p) (Cross x op r))
 drawn_spots y b x op r p lt le = elim (below_or (cost_of y p) b) [
   | inl low ↦ rw (leb_no b (cost_of y p) low) (none_left y b x op r 0 p le low)
   | inr far ↦ rw (leb_yes b (cost_of y p) far) (drawn_from y b x op r 0 p lt le)
@@ -119,7 +135,8 @@ drawn_spots y b x op r p lt le = elim (below_or (cost_of y p) b) [
 -- along p the operators apply, and at each place that counts the state is in the set
 abbrev pub Meeting : System → (State → Bool) → ℕ → (List ℕ → Bool) → ℕ → State → List ℕ → Type 0
 Meeting y has cost test d s [] = (test [] ≡ true → d ≡ cost → has s ≡ true)
-Meeting y has cost test d s (op ∷ p) = (test (op ∷ p) ≡ true → d ≡ cost → has s ≡ true) × ((t : State) × (y.step op s ≡ Some t) × Meeting y has cost test (d + y.cost op) t p)
+Meeting y has cost test d s (op ∷ p) = (test (op ∷ p) ≡ true → d ≡ cost → has s ≡ true)
+    × ((t : State) × (y.step op s ≡ Some t) × Meeting y has cost test (d + y.cost op) t p)
 
 counts : (a c : Bool) (d cost : ℕ) → (a ≡ true → d ≡ cost → c ≡ true) → ind (a && (eqb d cost && c)) ≡ ind (a && eqb d cost)
 counts a c d cost h = by_cases a (eqb d cost) c refl h
@@ -129,7 +146,8 @@ counts a c d cost h = by_cases a (eqb d cost) c refl h
     by_cases true false c e h = refl
     by_cases false b c e h = refl
 
-pub hits_spots : (y : System) (has : State → Bool) (cost : ℕ) (test : List ℕ → Bool) (d : ℕ) (s : State) (p : List ℕ) → Meeting y has cost test d s p → hits y has cost test d s p ≡ spots y cost test d p
+pub hits_spots : (y : System) (has : State → Bool) (cost : ℕ) (test : List ℕ → Bool) (d : ℕ) (s : State) (p : List ℕ)
+    → Meeting y has cost test d s p → hits y has cost test d s p ≡ spots y cost test d p
 hits_spots y has cost test d s [] m = counts (test []) (has s) d cost m
 hits_spots y has cost test d s (op ∷ p) m =
     let here = counts (test (op ∷ p)) (has s) d cost m.0 in

@@ -23,7 +23,8 @@ module _ (y : System) (front back : ℕ → State → Bool) (f b : ℕ) (tab : T
   both_of : (a c : Bool) → a ≡ true → c ≡ true → (a && c) ≡ true
   both_of a c e h = rw (e, h) refl
 
-  at_cut : (d op r c : ℕ) (s t : State) (p : List ℕ) → d < f → r < b → ReachedAt y c s → Runs y s p t → IsTrue (y.goal t) → begins y (op ∷ []) r p ≡ true → c ≡ d → meeting y front back d op r s ≡ true
+  at_cut : (d op r c : ℕ) (s t : State) (p : List ℕ) → d < f → r < b → ReachedAt y c s → Runs y s p t
+      → IsTrue (y.goal t) → begins y (op ∷ []) r p ≡ true → c ≡ d → meeting y front back d op r s ≡ true
   at_cut d op r c s t [] low near g run goal h e = absurd (falsum h)
   at_cut d op r c s t (a ∷ p) low near g (m, leads, run) goal h e =
       let parts = both _ _ h in
@@ -36,7 +37,8 @@ module _ (y : System) (front back : ℕ → State → Bool) (f b : ℕ) (tab : T
       let w : Useful y m = record { before = (d + y.cost op, fwd_more y d op s m fwd lead); after = (r, bwd) } in
       rw lead.step (both_of _ _ (tab.front_all d s low u fwd) (tab.back_all r m near w bwd))
 
-  meets : (d op r c : ℕ) (s t : State) (p : List ℕ) → d < f → r < b → ReachedAt y c s → Runs y s p t → IsTrue (y.goal t) → Meeting y (meeting y front back d op r) d (begins y (op ∷ []) r) c s p
+  meets : (d op r c : ℕ) (s t : State) (p : List ℕ) → d < f → r < b → ReachedAt y c s → Runs y s p t
+      → IsTrue (y.goal t) → Meeting y (meeting y front back d op r) d (begins y (op ∷ []) r) c s p
   meets d op r c s t [] low near g run goal = (λ h e. at_cut d op r c s t [] low near g run goal h e)
   meets d op r c s t (a ∷ p) low near g (m, leads, run) goal = (
     (λ h e. at_cut d op r c s t (a ∷ p) low near g (m, leads, run) goal h e),
@@ -44,7 +46,9 @@ module _ (y : System) (front back : ℕ → State → Bool) (f b : ℕ) (tab : T
   )
 
   -- a plan extends the entry that a cut begins with exactly where the cut is its own
-  pub cross_hits : (d op r ring : ℕ) (p : List ℕ) → d < f → r < b → b ≤ y.cost op + r → IsPlan y p → entry_hits y (Head (meeting y front back d op r) d ring (op ∷ []) r) p ≡ ind (same_cut (cut_of y b p) (Cross d op r))
+  pub cross_hits : (d op r ring : ℕ) (p : List ℕ) → d < f → r < b → b ≤ y.cost op + r → IsPlan y p
+      → entry_hits y (Head (meeting y front back d op r) d ring (op ∷ []) r) p ≡ ind
+      (same_cut (cut_of y b p) (Cross d op r))
   cross_hits d op r ring p low near far (t, run, goal) =
       hits_spots y (meeting y front back d op r) d (begins y (op ∷ []) r) 0 y.initial p (meets d op r 0 y.initial t p low near ([], refl, refl) run goal)
       ∙ drawn_spots y b d op r p near far
@@ -57,7 +61,9 @@ module _ (y : System) (front back : ℕ → State → Bool) (f b : ℕ) (tab : T
       (m.0, at_cut d op r d m.0 t (op ∷ rest) low near (q, m.1, x) m.2 goal test refl)
 
   -- what the first entry of a cut stands on
-  pub cross_stands : (d op r ring listed : ℕ) → op < y.operators → d < f → r < b → d + y.cost op + r ≡ listed → ((s : State) × (meeting y front back d op r s ≡ true) × FwdIn y d ring s) → Stands y f b listed (Head (meeting y front back d op r) d ring (op ∷ []) r)
+  pub cross_stands : (d op r ring listed : ℕ) → op < y.operators → d < f → r < b → d + y.cost op + r ≡ listed
+      → ((s : State) × (meeting y front back d op r s ≡ true) × FwdIn y d ring s)
+      → Stands y f b listed (Head (meeting y front back d op r) d ring (op ∷ []) r)
   cross_stands d op r ring listed number low near c member = (
     member,
     (λ s h. tab.front_sound d s low (both (front d s) (at_some (y.step op s) (back r)) h).0),
@@ -67,12 +73,17 @@ module _ (y : System) (front back : ℕ → State → Bool) (f b : ℕ) (tab : T
     near,
   )
 
-  into_parts : (has : State → Bool) (cost k : ℕ) (s t : State) → y.cost k ≤ cost → front (cost - y.cost k) s ≡ true → y.step k s ≡ Some t → has t ≡ true → into y front has cost k s ≡ true
+  into_parts : (has : State → Bool) (cost k : ℕ) (s t : State) → y.cost k ≤ cost → front (cost - y.cost k) s ≡ true
+      → y.step k s ≡ Some t → has t ≡ true → into y front has cost k s ≡ true
   into_parts has cost k s t le there step h = rw (leb_yes (y.cost k) cost le, there, step) h
 
   -- some child falls, or the prefix is whole
-  pub head_falls : (has : State → Bool) (cost ring listed : ℕ) (ops : List ℕ) (after : ℕ) → Stands y f b listed (Head has cost ring ops after) → ((cost ≡ 0) × (has y.initial ≡ true)) ⊎ ((k : ℕ) × (n : ℕ) × (t : State) × (k < y.operators) × (into y front has cost k t ≡ true) × FwdIn y (cost - y.cost k) n t × ((0 < y.cost k) ⊎ ((y.cost k ≡ 0) × (n + 1 ≡ ring))))
-  head_falls has cost ring listed ops after ((s, member, ([], ends, c, z)), sound, leads, costs, low, near) = inl (sym c, subst (λ (x : State). has x ≡ true) ends member)
+  pub head_falls : (has : State → Bool) (cost ring listed : ℕ) (ops : List ℕ) (after : ℕ)
+      → Stands y f b listed (Head has cost ring ops after) → ((cost ≡ 0) × (has y.initial ≡ true))
+      ⊎ ((k : ℕ) × (n : ℕ) × (t : State) × (k < y.operators) × (into y front has cost k t ≡ true)
+      × FwdIn y (cost - y.cost k) n t × ((0 < y.cost k) ⊎ ((y.cost k ≡ 0) × (n + 1 ≡ ring))))
+  head_falls has cost ring listed ops after ((s, member, ([], ends, c, z)), sound, leads, costs, low, near) =
+      inl (sym c, subst (λ (x : State). has x ≡ true) ends member)
   head_falls has cost ring listed ops after ((s, member, (k ∷ q, (t, lead, ends), c, z)), sound, leads, costs, low, near) =
       let left : cost_of y q ≡ cost - y.cost k = omega (arith, c) in
       let le : y.cost k ≤ cost = omega (arith, c) in
@@ -81,20 +92,28 @@ module _ (y : System) (front back : ℕ → State → Bool) (f b : ℕ) (tab : T
       let e = m.2 in
       let bwd : ToGoalAt y (cost_of y (k ∷ ops ++ e.0)) t = (k ∷ ops ++ e.0, e.1, (s, lead, joined y ops e.0 s m.0 e.1 m.1 e.2), e.3, refl) in
       let serves : Useful y t = record { before = (cost_of y q, fwd); after = (cost_of y (k ∷ ops ++ e.0), bwd) } in
-      let there : front (cost - y.cost k) t ≡ true = tab.front_all (cost - y.cost k) t (omega (arith, low)) serves (subst (λ (x : ℕ). ReachedAt y x t) left fwd) in
+      let there : front (cost - y.cost k) t ≡ true = tab.front_all (cost - y.cost k) t (omega (arith, low)) serves
+      (subst (λ (x : ℕ). ReachedAt y x t) left fwd) in
       let fall : (0 < y.cost k) ⊎ ((y.cost k ≡ 0) × (zeros y q + 1 ≡ ring)) = elim (zero_or (y.cost k)) [
         | inl w ↦ inr (w, (let one : zeros y (k ∷ q) ≡ suc (zeros y q) = rw (eq-eqb (y.cost k) 0 w) refl in omega (arith, one, z)))
         | inr w ↦ inl w
       ] in
       inr (k, zeros y q, t, lead.number, into_parts has cost k t s le there lead.step member, (q, ends, left, refl), fall)
 
-  pub tail_falls : (cost ring listed : ℕ) (ops : List ℕ) → Stands y f b listed (Tail cost ring ops) → ((cost ≡ 0) × IsPlan y ops) ⊎ ((k : ℕ) × (n : ℕ) × (t : State) × (k < y.operators) × (onto y back cost ops k ≡ true) × Runs y y.initial (ops ++ k ∷ []) t × BwdIn y (cost - y.cost k) n t × ((0 < y.cost k) ⊎ ((y.cost k ≡ 0) × (n + 1 ≡ ring))))
+  pub tail_falls : (cost ring listed : ℕ) (ops : List ℕ) → Stands y f b listed (Tail cost ring ops)
+      → ((cost ≡ 0) × IsPlan y ops) ⊎ ((k : ℕ) × (n : ℕ) × (t : State) × (k < y.operators)
+      × (onto y back cost ops k ≡ true) × Runs y y.initial (ops ++ k ∷ []) t × BwdIn y (cost - y.cost k) n t
+      × ((0 < y.cost k) ⊎ ((y.cost k ≡ 0) × (n + 1 ≡ ring))))
   tail_falls cost ring listed ops ((s, run, ([], t, e, goal, c, z)), costs, near) = inl (sym c, (s, run, subst (λ (x : State). IsTrue (y.goal x)) (sym e) goal))
   tail_falls cost ring listed ops ((s, run, (k ∷ p, u, (t, lead, rest), goal, c, z)), costs, near) =
       let left : cost_of y p ≡ cost - y.cost k = omega (arith, c) in
       let le : y.cost k ≤ cost = omega (arith, c) in
       let bwd : ToGoalAt y (cost - y.cost k) t = (p, u, rest, goal, left) in
-      let serves : Useful y t = record { before = (cost_of y ops + y.cost k, fwd_more y (cost_of y ops) k s t (ops, run, refl) lead); after = (cost - y.cost k, bwd) } in
+      let serves : Useful y t =
+      record {
+        before = (cost_of y ops + y.cost k, fwd_more y (cost_of y ops) k s t (ops, run, refl) lead);
+        after = (cost - y.cost k, bwd);
+      } in
       let there : back (cost - y.cost k) t ≡ true = tab.back_all (cost - y.cost k) t (omega (arith, near)) serves bwd in
       let ok : onto y back cost ops k ≡ true = rw (leb_yes (y.cost k) cost le, reach_run y y.initial ops s run, lead.step) there in
       let fall : (0 < y.cost k) ⊎ ((y.cost k ≡ 0) × (zeros y p + 1 ≡ ring)) = elim (zero_or (y.cost k)) [
@@ -110,5 +129,8 @@ spent false true x h e = absurd (falsum (h refl))
 spent false false x h e = rw e (omega arith)
 
 -- a cut that is drawn goes on as its first entry
-pub draws : (y : System) (b : ℕ) (e : Plain) (c : Cut) (undrawn left : Cut → Bool) (p : List ℕ) → entry_hits y e p ≡ ind (same_cut (cut_of y b p) c) → (same_cut (cut_of y b p) c ≡ true → undrawn (cut_of y b p) ≡ true) → left (cut_of y b p) ≡ (undrawn (cut_of y b p) && not (same_cut (cut_of y b p) c)) → places y b (e ∷ []) left p ≡ places y b [] undrawn p
+pub draws : (y : System) (b : ℕ) (e : Plain) (c : Cut) (undrawn left : Cut → Bool) (p : List ℕ)
+    → entry_hits y e p ≡ ind (same_cut (cut_of y b p) c) → (same_cut (cut_of y b p) c ≡ true → undrawn
+    (cut_of y b p) ≡ true) → left (cut_of y b p) ≡ (undrawn (cut_of y b p) && not (same_cut (cut_of y b p) c))
+    → places y b (e ∷ []) left p ≡ places y b [] undrawn p
 draws y b e c undrawn left p one owed rest = omega (arith, one, spent _ _ _ owed rest)

@@ -25,7 +25,8 @@ by_order y y2 op op2 h k = (grind (arith, nat_tests), grind (arith, nat_tests))
 not_itself : (y op : ℕ) → (ltb y y || (eqb y y && ltb op op)) ≡ false
 not_itself y op = grind (arith, nat_tests)
 
-goes_on : (y y2 y3 op op2 op3 : ℕ) → (ltb y y2 || (eqb y y2 && ltb op op2)) ≡ true → (ltb y2 y3 || (eqb y2 y3 && ltb op2 op3)) ≡ true → (ltb y y3 || (eqb y y3 && ltb op op3)) ≡ true
+goes_on : (y y2 y3 op op2 op3 : ℕ) → (ltb y y2 || (eqb y y2 && ltb op op2)) ≡ true
+    → (ltb y2 y3 || (eqb y2 y3 && ltb op2 op3)) ≡ true → (ltb y y3 || (eqb y y3 && ltb op op3)) ≡ true
 goes_on y y2 y3 op op2 op3 h k = grind (arith, nat_tests)
 
 pub precedes_trans : (a c d : Cut) → precedes a c ≡ true → precedes c d ≡ true → precedes a d ≡ true
@@ -61,7 +62,8 @@ precedes_told : (a c : Cut) → Decides (precedes a c) (Precedes a c)
 precedes_told Whole Whole = ((λ e. falsum e), (λ x. absurd x))
 precedes_told Whole (Cross x op r) = ((λ e. tt), (λ x. refl))
 precedes_told (Cross x op r) Whole = ((λ e. falsum e), (λ x. absurd x))
-precedes_told (Cross x op r) (Cross z k q) = Decides-or (ltb r q) (eqb r q && ltb op k) (Decides-ltb r q) (Decides-and (eqb r q) (ltb op k) (Decides-eqb r q) (Decides-ltb op k))
+precedes_told (Cross x op r) (Cross z k q) = Decides-or (ltb r q) (eqb r q && ltb op k) (Decides-ltb r q)
+    (Decides-and (eqb r q) (ltb op k) (Decides-eqb r q) (Decides-ltb op k))
 
 later_told : (a : Option Cut) (c : Cut) → Decides (later a c) (Follows a c)
 later_told None c = ((λ e. tt), (λ x. refl))
@@ -134,11 +136,15 @@ module _ (y : System) (b cost : ℕ) where
 
   module _ (front back : ℕ → State → Bool) (f : ℕ) (pos : 0 < b) where
     -- one more cut is drawn
-    module _ (after : Option Cut) (c : Cut) (e : Plain) (next : IsNextCut y b cost after (Some c)) (stands : Stands y f b cost e) (hits : (p : List ℕ) → IsPlan y p → cost_of y p ≡ cost → entry_hits y e p ≡ ind (same_cut (cut_of y b p) c)) where
+    module _ (after : Option Cut) (c : Cut) (e : Plain) (next : IsNextCut y b cost after (Some c))
+        (stands : Stands y f b cost e) (hits : (p : List ℕ) → IsPlan y p → cost_of y p ≡ cost → entry_hits y e p
+        ≡ ind (same_cut (cut_of y b p) c)) where
       pub drawn_places : (p : List ℕ) → IsPlan y p → cost_of y p ≡ cost → places y b (e ∷ []) (undrawn true (Some c)) p ≡ places y b [] (undrawn true after) p
       drawn_places p plan is =
           let at = cut_at pos p plan is in
-          draws y b e c (undrawn true after) (undrawn true (Some c)) p (hits p plan is) (λ h. rw (same_is (cut_of y b p) c h) ((later_told after c).1 next.1)) (left_is after c (cut_of y b p) next at)
+          draws y b e c (undrawn true after) (undrawn true (Some c)) p (hits p plan is)
+          (λ h. rw (same_is (cut_of y b p) c h) ((later_told after c).1 next.1))
+          (left_is after c (cut_of y b p) next at)
 
       pub drawn_lawful : Lawful y front back f b cost [] (undrawn true after) → Lawful y front back f b cost (e ∷ []) (undrawn true (Some c))
       drawn_lawful ok = record {
@@ -174,7 +180,10 @@ next_lawful y front back f b cost tables = record { tables = tables; stands = tt
 same_or : (a c : ℕ) → c ≤ a → (c < a) ⊎ (a ≡ c)
 same_or a c h = grind arith
 
-pub next_owed : (y : System) (b b2 : ℕ) (listed : Option ℕ) (cost : ℕ) → ((p : List ℕ) → Above y listed p → cost ≤ cost_of y p) → ((p : List ℕ) → IsPlan y p → cost ≤ cost_of y p → Above y listed p) → (p : List ℕ) → Owed y b2 cost [] (undrawn true None) p ↔ Above y listed p
+pub next_owed : (y : System) (b b2 : ℕ) (listed : Option ℕ) (cost : ℕ)
+    → ((p : List ℕ) → Above y listed p → cost ≤ cost_of y p)
+    → ((p : List ℕ) → IsPlan y p → cost ≤ cost_of y p → Above y listed p) → (p : List ℕ)
+    → Owed y b2 cost [] (undrawn true None) p ↔ Above y listed p
 next_owed y b b2 listed cost least above p = (
   (λ h. above p h.0 (elim h.1 [ inl a ↦ omega (arith, a) | inr k ↦ omega (arith, k.0) ])),
   (λ h. let plan = plan_of listed h in (plan, elim (same_or (cost_of y p) cost (least p h)) [ inl a ↦ inl a | inr e ↦ inr (e, refl) ])),

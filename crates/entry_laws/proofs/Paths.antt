@@ -50,6 +50,7 @@ pub parted : (y : System) (q p : List ℕ) (s t : State) → Runs y s (q ++ p) t
 parted y [] p s t r = (s, refl, r)
 parted y (op ∷ q) p s t (n, leads, run) = let m = parted y q p n t run in (m.0, (n, leads, m.1), m.2)
 
-pub led : (y : System) (op : ℕ) (s : State) (has : State → Bool) (o : Option State) → op < y.operators → y.step op s ≡ o → at_some o has ≡ true → (t : State) × (has t ≡ true) × Leads y op s t
+pub led : (y : System) (op : ℕ) (s : State) (has : State → Bool) (o : Option State) → op < y.operators
+    → y.step op s ≡ o → at_some o has ≡ true → (t : State) × (has t ≡ true) × Leads y op s t
 led y op s has None b e h = absurd (falsum h)
 led y op s has (Some t) b e h = (t, h, record { number = b; step = e })

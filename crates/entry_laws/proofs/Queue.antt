@@ -42,7 +42,8 @@ pub last_deep : (m : Plain → ℕ) (xs ys : List Plain) (e : Plain) → last_by
 last_deep m xs ys e = ap (last_by m) (append_last xs ys e) ∙ last_of m (xs ++ ys) e
 
 module _ (y : System) (front back : ℕ → State → Bool) (f b listed : ℕ) (undrawn : Cut → Bool) where
-  each_stands : (e : Plain) (es : List Plain) → Tables y front back f b → Stands y f b listed e → AllByRecursion (Follows y front back e) es → AllByRecursion (Stands y f b listed) es
+  each_stands : (e : Plain) (es : List Plain) → Tables y front back f b → Stands y f b listed e
+      → AllByRecursion (Follows y front back e) es → AllByRecursion (Stands y f b listed) es
   each_stands e [] tab st a = tt
   each_stands e (c ∷ es) tab st a = (follows_stand y front back f b listed tab e c st a.0, each_stands e es tab st a.1)
 
@@ -63,7 +64,8 @@ module _ (y : System) (front back : ℕ → State → Bool) (f b listed : ℕ) (
       pub goes_lawful : Lawful y front back f b listed new undrawn
       goes_lawful = record {
         tables = ok.tables;
-        stands = rw g.is (all_append (Stands y f b listed) g.others (g.pushed ++ g.last ∷ []) at.0 (each_stands g.taken (g.pushed ++ g.last ∷ []) ok.tables at.1 g.each));
+        stands = rw g.is (all_append (Stands y f b listed) g.others (g.pushed ++ g.last ∷ []) at.0
+            (each_stands g.taken (g.pushed ++ g.last ∷ []) ok.tables at.1 g.each));
         once = λ p plan c. omega (arith, goes_total p plan, ok.once p plan c);
       }
 

@@ -68,14 +68,16 @@ sum_by_one : (n : ℕ) (ks : List ℕ) (f : ℕ → ℕ) → All (λ k. k < n) k
 sum_by_one n [] f r = sym (sum_zero n (one_of [] f) (λ k b. refl))
 sum_by_one n (i ∷ ks) f r =
     let term : ℕ → ℕ = λ k. cond (eqb i k) (f k) 0 in
-    let off : (k : ℕ) → k < n → (k ≡ i → ⊥) → term k ≡ 0 = λ k b ne. elim (eqb_tells i k) [ inl e ↦ absurd (ne (sym e.1)) | inr m ↦ ap (λ (t : Bool). cond t (f k) 0) m.0 ] in
+    let off : (k : ℕ) → k < n → (k ≡ i → ⊥) → term k ≡ 0 = λ k b ne. elim (eqb_tells i k)
+    [ inl e ↦ absurd (ne (sym e.1)) | inr m ↦ ap (λ (t : Bool). cond t (f k) 0) m.0 ] in
     let one : sum_ops n term ≡ term i = sum_one n i term (All-head (λ k. k < n) i ks r) off in
     let here : term i ≡ f i = ap (λ (t : Bool). cond t (f i) 0) (eq-eqb i i refl) in
     let both : sum_ops n (one_of (i ∷ ks) f) ≡ sum_ops n term + sum_ops n (one_of ks f) = sum_add n term (one_of ks f) in
     omega (arith, one, here, both, sum_by_one n ks f (All-tail (λ k. k < n) i ks r))
 
 -- the sum over a rising list is that over all operators, where the terms of the others are 0
-pub sum_rising : (n : ℕ) (ks : List ℕ) (f : ℕ → ℕ) → IsStrictlyIncreasing ks → All (λ k. k < n) ks → ((k : ℕ) → k < n → ¬ Contains ks k → f k ≡ 0) → sum_list ks f ≡ sum_ops n f
+pub sum_rising : (n : ℕ) (ks : List ℕ) (f : ℕ → ℕ) → IsStrictlyIncreasing ks → All (λ k. k < n) ks
+    → ((k : ℕ) → k < n → ¬ Contains ks k → f k ≡ 0) → sum_list ks f ≡ sum_ops n f
 sum_rising n ks f rising range others =
     let o = once ks (AllPairs-from_increasing ks rising) in
     sum_by_one n ks f range ∙ sum_same n (one_of ks f) f (λ k b. elim (in_told ks k) [

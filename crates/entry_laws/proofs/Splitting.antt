@@ -24,7 +24,9 @@ apart d w c n b = grind (arith, nat_tests)
 module _ (y : System) (front back : ℕ → State → Bool) (f b listed : ℕ) (tab : Tables y front back f b) where
   module _ (has : State → Bool) (cost : ℕ) (low : cost < f) where
     -- along a plan, the children are those that the layers tell
-    backs : (d : ℕ) (s : State) → ReachedAt y d s → Useful y s → (op : ℕ) → op < y.operators → (eqb d (cost - y.cost op) && into y front has cost op s) ≡ (eqb (d + y.cost op) cost && at_some (y.step op s) has)
+    backs : (d : ℕ) (s : State) → ReachedAt y d s → Useful y s → (op : ℕ) → op < y.operators
+        → (eqb d (cost - y.cost op) && into y front has cost op s)
+        ≡ (eqb (d + y.cost op) cost && at_some (y.step op s) has)
     backs d s g u op n = elim (fits d (y.cost op) cost) [
       | inl eq ↦
           let there = tab.front_all d s (omega (arith, low, eq)) u g in
@@ -36,8 +38,16 @@ module _ (y : System) (front back : ℕ → State → Bool) (f b listed : ℕ) (
           rw n (apart d (y.cost op) cost n0 (front (cost - y.cost op) s && at_some (y.step op s) has))
     ]
 
-    along : (test : List ℕ → Bool) (p : List ℕ) (d : ℕ) (s t : State) → ReachedAt y d s → Runs y s p t → IsTrue (y.goal t) → Along y has cost test (into y front has cost) (λ op. cost - y.cost op) d s p
-    along test [] d s t g run goal = backs d s g (record { before = (d, g); after = (0, ([], s, refl, subst (λ (x : State). IsTrue (y.goal x)) (sym run) goal, refl)) })
+    along : (test : List ℕ → Bool) (p : List ℕ) (d : ℕ) (s t : State) → ReachedAt y d s → Runs y s p t
+        → IsTrue (y.goal t) → Along y has cost test (into y front has cost) (λ op. cost - y.cost op) d s p
+    along test [] d s t g run goal =
+        backs d s g (record {
+          before = (d, g);
+          after = (
+            0,
+            ([], s, refl, subst (λ (x : State). IsTrue (y.goal x)) (sym run) goal, refl),
+          );
+        })
     along test (op ∷ p) d s t g (m, leads, run) goal = (
       backs d s g (record { before = (d, g); after = (y.cost op + cost_of y p, (op ∷ p, t, (m, leads, run), goal, refl)) }),
       leads.number,
@@ -46,10 +56,15 @@ module _ (y : System) (front back : ℕ → State → Bool) (f b listed : ℕ) (
           along test p (d + y.cost op) n t (fwd_more y d op s n g l) (subst (λ (x : State). Runs y x p t) (sym same) run) goal),
     )
 
-  pub head_splits : (has : State → Bool) (cost ring : ℕ) (ops : List ℕ) (after : ℕ) (p : List ℕ) → cost < f → IsPlan y p → entry_hits y (Head has cost ring ops after) p ≡ begun_hits y (Head has cost ring ops after) p + sum_ops y.operators (child_hits y front back (Head has cost ring ops after) p)
-  head_splits has cost ring ops after p low (t, run, goal) = splits y has cost (begins y ops after) (into y front has cost) (λ op. cost - y.cost op) p 0 y.initial (along has cost low (begins y ops after) p 0 y.initial t ([], refl, refl) run goal)
+  pub head_splits : (has : State → Bool) (cost ring : ℕ) (ops : List ℕ) (after : ℕ) (p : List ℕ) → cost < f
+      → IsPlan y p → entry_hits y (Head has cost ring ops after) p ≡ begun_hits y (Head has cost ring ops after) p
+      + sum_ops y.operators (child_hits y front back (Head has cost ring ops after) p)
+  head_splits has cost ring ops after p low (t, run, goal) =
+      splits y has cost (begins y ops after) (into y front has cost) (λ op. cost - y.cost op) p 0 y.initial
+      (along has cost low (begins y ops after) p 0 y.initial t ([], refl, refl) run goal)
 
-  covers : (cost : ℕ) (ops : List ℕ) (s : State) → cost < b → Runs y y.initial ops s → (r : List ℕ) → IsPlan y (ops ++ r) → Covers y cost (onto y back cost ops) r
+  covers : (cost : ℕ) (ops : List ℕ) (s : State) → cost < b → Runs y y.initial ops s → (r : List ℕ)
+      → IsPlan y (ops ++ r) → Covers y cost (onto y back cost ops) r
   covers cost ops s low at r (t, run, goal) =
       let m = parted y ops r y.initial t run in
       let here : m.0 ≡ s = run_one y y.initial ops m.0 s m.1 at in
@@ -69,8 +84,11 @@ module _ (y : System) (front back : ℕ → State → Bool) (f b listed : ℕ) (
         number = λ k q is. (subst (λ (x : List ℕ). Runs y s x t) is rest).1.number;
       }
 
-  pub tail_splits : (cost ring : ℕ) (ops : List ℕ) (p : List ℕ) (s : State) → cost < b → Runs y y.initial ops s → IsPlan y p → entry_hits y (Tail cost ring ops) p ≡ ind (are_equal p ops && eqb cost 0) + sum_ops y.operators (child_hits y front back (Tail cost ring ops) p)
-  tail_splits cost ring ops p s low at plan = after_splits y cost (onto y back cost ops) ops p (λ r is. covers cost ops s low at r (subst (λ (x : List ℕ). IsPlan y x) is plan))
+  pub tail_splits : (cost ring : ℕ) (ops : List ℕ) (p : List ℕ) (s : State) → cost < b → Runs y y.initial ops s
+      → IsPlan y p → entry_hits y (Tail cost ring ops) p ≡ ind (are_equal p ops && eqb cost 0) + sum_ops y.operators
+      (child_hits y front back (Tail cost ring ops) p)
+  tail_splits cost ring ops p s low at plan = after_splits y cost (onto y back cost ops) ops p
+      (λ r is. covers cost ops s low at r (subst (λ (x : List ℕ). IsPlan y x) is plan))
 
   no_plan : (cost : ℕ) (ops p : List ℕ) → (cost ≡ 0 → IsPlan y ops → ⊥) → IsPlan y p → ind (are_equal p ops && eqb cost 0) ≡ 0
   no_plan cost ops p «open» plan = elim (either (are_equal p ops && eqb cost 0)) [
@@ -85,7 +103,8 @@ module _ (y : System) (front back : ℕ → State → Bool) (f b listed : ℕ) (
       zero_of c h = grind (arith, nat_tests)
 
   -- a plan extends an open entry as often as what follows it
-  pub open_splits : (e : Plain) (p : List ℕ) → Stands y f b listed e → Open y e → IsPlan y p → entry_hits y e p ≡ begun_hits y e p + sum_ops y.operators (child_hits y front back e p)
+  pub open_splits : (e : Plain) (p : List ℕ) → Stands y f b listed e → Open y e → IsPlan y p
+      → entry_hits y e p ≡ begun_hits y e p + sum_ops y.operators (child_hits y front back e p)
   open_splits (Head has cost ring ops after) p st o plan = head_splits has cost ring ops after p st.4 plan
   open_splits (Tail cost ring ops) p st o plan = omega (arith, tail_splits cost ring ops p st.0.0 st.2 st.0.1 plan, no_plan cost ops p o plan)
 
@@ -94,7 +113,8 @@ module _ (y : System) (front back : ℕ → State → Bool) (f b listed : ℕ) (
   and_true false = refl
 
   -- a plan extends a finished entry as often as its children, and once more if it is the plan there
-  pub done_splits : (e : Plain) (p q : List ℕ) → Stands y f b listed e → Done y e p → IsPlan y q → entry_hits y e q ≡ ind (are_equal q p) + sum_ops y.operators (child_hits y front back e q)
+  pub done_splits : (e : Plain) (p q : List ℕ) → Stands y f b listed e → Done y e p → IsPlan y q
+      → entry_hits y e q ≡ ind (are_equal q p) + sum_ops y.operators (child_hits y front back e q)
   done_splits (Head has cost ring ops after) p q st d plan = absurd d
   done_splits (Tail cost ring ops) p q st d plan =
       let one : ind (are_equal q ops && eqb cost 0) ≡ ind (are_equal q p) = rw (d.0, d.1) (and_true (are_equal q ops)) in
@@ -106,7 +126,8 @@ module _ (y : System) (front back : ℕ → State → Bool) (f b listed : ℕ) (
       let le : y.cost k ≤ cost = le_of _ _ first.0 in
       let place : cost2 + cost_of y ops2 + after2 ≡ listed = rw (left, longer, same_after) (omega (arith, st.3, le)) in (
         member,
-        (λ s h. let p = both _ _ (both _ _ (sym (same s) ∙ h)).1 in subst (λ (c : ℕ). ReachedAt y c s) (sym left) (tab.front_sound (cost - y.cost k) s (omega (arith, st.4)) p.0)),
+        (λ s h. let p = both _ _ (both _ _ (sym (same s) ∙ h)).1 in subst (λ (c : ℕ). ReachedAt y c s) (sym left)
+            (tab.front_sound (cost - y.cost k) s (omega (arith, st.4)) p.0)),
         (λ s h. let p = both _ _ (both _ _ (sym (same s) ∙ h)).1 in
             let t = led y k s has (y.step k s) number refl p.1 in
             let m = st.2 t.0 t.1 in
@@ -117,7 +138,8 @@ module _ (y : System) (front back : ℕ → State → Bool) (f b listed : ℕ) (
       )
   follows_stand (Head has cost ring ops after) (Head has2 cost2 ring2 ops2 after2) st (inr x) = absurd x
   follows_stand (Head has cost ring ops after) (Tail cost2 ring2 ops2) st (inl (k, x)) = absurd x
-  follows_stand (Head has cost ring ops after) (Tail cost2 ring2 ops2) st (inr (z, start, left, same, member)) = (member, rw (same, left) (omega (arith, st.3, z)), omega (arith, left, st.5))
+  follows_stand (Head has cost ring ops after) (Tail cost2 ring2 ops2) st (inr (z, start, left, same, member)) =
+      (member, rw (same, left) (omega (arith, st.3, z)), omega (arith, left, st.5))
   follows_stand (Tail cost ring ops) (Tail cost2 ring2 ops2) st (inl (k, (ok, left, longer, member, least, number))) =
       let le : y.cost k ≤ cost = le_of _ _ (both _ _ ok).0 in
       (member, rw (left, longer) (omega (arith, cost_append y ops (k ∷ []), st.1, le)), omega (arith, left, st.2))

@@ -23,7 +23,8 @@ stops_from y (Some c) a b CostRange s h = absurd h
 stays_back : (a b : List ℕ → Type 0) → Stays a b → Stays b a
 stays_back a b s q = ((s q).1, (s q).0)
 
-pub turned_from : (y : System) (m : Mode) (most : Option ℕ) (a b c : List ℕ → Type 0) (r : Result (Option (List ℕ)) Stop) → Stays a b → Turned y m most b c r → Turned y m most a c r
+pub turned_from : (y : System) (m : Mode) (most : Option ℕ) (a b c : List ℕ → Type 0)
+    (r : Result (Option (List ℕ)) Stop) → Stays a b → Turned y m most b c r → Turned y m most a c r
 turned_from y m most a b c (Ok (Some p)) s g = record {
   pended = (s p).0 g.pended;
   fits = g.fits;
@@ -34,7 +35,8 @@ turned_from y m most a b c (Ok None) s h = (none_from y most b a (λ q k. (s q).
 turned_from y m most a b c (Err stop) s h = (stops_from y most b a stop (stays_back a b s) h.0, stays_trans a b c s h.1)
 
 -- what ended it is still so afterwards
-pub ended_by : (y : System) (m : Mode) (most : Option ℕ) (a b : List ℕ → Type 0) (r : Result (Option (List ℕ)) Stop) → Turned y m most a b r → Ended y most b (last_of r)
+pub ended_by : (y : System) (m : Mode) (most : Option ℕ) (a b : List ℕ → Type 0) (r : Result (Option (List ℕ)) Stop)
+    → Turned y m most a b r → Ended y most b (last_of r)
 ended_by y m most a b (Ok (Some p)) g = tt
 ended_by y m most a b (Ok None) h = none_from y most a b (λ q k. (h.1 q).0 k) h.0
 ended_by y m most a b (Err stop) h = stops_from y most a b stop h.1 h.0
@@ -43,5 +45,6 @@ ended_by y m most a b (Err stop) h = stops_from y most a b stop h.1 h.0
 pub again_none : (y : System) (m : Mode) (most : Option ℕ) (a : List ℕ → Type 0) → Ended y most a (Some None) → Turned y m most a a (Ok None)
 again_none y m most a h = (h, λ q. ((λ k. k), (λ k. k)))
 
-pub again_stop : (y : System) (m : Mode) (most : Option ℕ) (a : List ℕ → Type 0) (stop : Stop) → Ended y most a (Some (Some stop)) → Turned y m most a a (Err stop)
+pub again_stop : (y : System) (m : Mode) (most : Option ℕ) (a : List ℕ → Type 0) (stop : Stop)
+    → Ended y most a (Some (Some stop)) → Turned y m most a a (Err stop)
 again_stop y m most a stop h = (h, λ q. ((λ k. k), (λ k. k)))

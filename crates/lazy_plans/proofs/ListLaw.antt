@@ -62,10 +62,13 @@ unmatched : (b : Bool) {A : Type 0} → Decides b A → ¬ A → b ≡ false
 unmatched true d n = absurd (n (d.0 refl))
 unmatched false d n = refl
 
-pub rest_first : (system : System) (mode : Mode) (most : Option ℕ) (pends : List ℕ → Type 0) → Fair system mode most pends → ((p : List ℕ) → IsPlanOf system mode p → pends p) → Rest system mode [] pends
+pub rest_first : (system : System) (mode : Mode) (most : Option ℕ) (pends : List ℕ → Type 0)
+    → Fair system mode most pends → ((p : List ℕ) → IsPlanOf system mode p → pends p) → Rest system mode [] pends
 rest_first system mode most pends fair whole q = (λ h. (fair.members q h, any_none (Same mode q)), λ h. whole q h.0)
 
-pub rest_without : (system : System) (mode : Mode) (plans : List (List ℕ)) (whole pends : List ℕ → Type 0) → Rest system mode [] whole → ((p : List ℕ) → pends p ↔ (whole p × ¬ IsListed mode plans p)) → Rest system mode plans pends
+pub rest_without : (system : System) (mode : Mode) (plans : List (List ℕ)) (whole pends : List ℕ → Type 0)
+    → Rest system mode [] whole → ((p : List ℕ) → pends p ↔ (whole p × ¬ IsListed mode plans p))
+    → Rest system mode plans pends
 rest_without system mode plans whole pends rest is q = (
   (λ h. let k = (is q).0 h in (((rest q).0 k.0).0, k.1)),
   (λ h. (is q).1 ((rest q).1 (h.0, any_none (Same mode q)), h.1)),
@@ -130,7 +133,9 @@ module _ (system : System) (mode : Mode) (plans : List (List ℕ)) (before : Lis
     cheapest = cheapest (slice_get plans (length plans - 1)) ends;
   }
     where
-      cheapest : (o : Option (List ℕ)) → IfSome o (λ last. cost_of system last ≤ c) → IfSome o (λ last. (q : List ℕ) → IsPlanOf system mode q → cost_of system q < cost_of system last → IsListed mode plans q)
+      cheapest : (o : Option (List ℕ)) → IfSome o (λ last. cost_of system last ≤ c)
+          → IfSome o (λ last. (q : List ℕ) → IsPlanOf system mode q → cost_of system q < cost_of system last
+          → IsListed mode plans q)
       cheapest None e = tt
       cheapest (Some last) e = λ q plan lt. below c least q plan (omega (arith, lt, e))
 
@@ -142,6 +147,7 @@ module _ (system : System) (mode : Mode) (plans : List (List ℕ)) (before : Lis
     cheapest = cheapest (slice_get plans (length plans - 1));
   }
     where
-      cheapest : (o : Option (List ℕ)) → IfSome o (λ last. (q : List ℕ) → IsPlanOf system mode q → cost_of system q < cost_of system last → IsListed mode plans q)
+      cheapest : (o : Option (List ℕ)) → IfSome o (λ last. (q : List ℕ) → IsPlanOf system mode q → cost_of system q
+          < cost_of system last → IsListed mode plans q)
       cheapest None = tt
       cheapest (Some last) = λ q plan lt. all q plan

@@ -48,7 +48,9 @@ all_out (x ∷ xs) s a (inl e) = a.0 (sym e)
 all_out (x ∷ xs) s a (inr l) = all_out xs s a.1 l
 
 apart_told : (xs : List State) (s : State) → Decides (not (is_listed xs s)) (All (λ (x : State). s ≢ x) xs)
-apart_told xs s = Decides-like (not (is_listed xs s)) (λ n. All-from_recursion (λ (x : State). s ≢ x) xs (out_all xs s n)) (λ a. all_out xs s (recursion_from_All (λ (x : State). s ≢ x) xs a)) (Decides-not (is_listed xs s) (listed_told xs s))
+apart_told xs s = Decides-like (not (is_listed xs s)) (λ n. All-from_recursion (λ (x : State). s ≢ x) xs
+    (out_all xs s n)) (λ a. all_out xs s (recursion_from_All (λ (x : State). s ≢ x) xs a))
+    (Decides-not (is_listed xs s) (listed_told xs s))
 
 different_told : (ss : List State) → Decides (all_different ss) (AllDifferent ss)
 different_told [] = ((λ e. tt), (λ d. refl))
@@ -60,7 +62,8 @@ some_is a b e = cc
 none_some : (a : State) → None ≡ Some a → ⊥
 none_some a e = cc
 
-step_told : (o : Option State) (f : State → Bool) (P : State → Type 0) → ((t : State) → Decides (f t) (P t)) → Decides (on_step o f) ((t : State) × (o ≡ Some t) × P t)
+step_told : (o : Option State) (f : State → Bool) (P : State → Type 0) → ((t : State) → Decides (f t) (P t))
+    → Decides (on_step o f) ((t : State) × (o ≡ Some t) × P t)
 step_told None f P d = ((λ e. cc), (λ h. absurd (none_some h.0 h.1)))
 step_told (Some t) f P d = ((λ e. (t, refl, (d t).0 e)), (λ h. (d t).1 (subst P (sym (some_is t h.0 h.1)) h.2)))
 
@@ -76,4 +79,5 @@ goal_told y (op ∷ p) s =
 pub in_told : (y : System) (m : Mode) (p : List ℕ) → Decides (is_in y m p) (IsPlanOf y m p)
 in_told y TopK p = goal_told y p y.initial
 in_told y Unordered p = goal_told y p y.initial
-in_told y Loopless p = Decides-and (leads_to_goal y y.initial p) (all_different (trace y y.initial p)) (goal_told y p y.initial) (different_told (trace y y.initial p))
+in_told y Loopless p = Decides-and (leads_to_goal y y.initial p) (all_different (trace y y.initial p))
+    (goal_told y p y.initial) (different_told (trace y y.initial p))

@@ -9,7 +9,8 @@ use Rattle.least_costs.specs.Least.{HasWay}
 
 module _ (g : Graph) (at : At) (known : ℕ) (right : (c : ℕ) → c < known → RightLayer g Least at c) where
   -- before the last arc of a cheapest walk stands a state of the layer that is so much cheaper
-  before : (op : ℕ) (p : List ℕ) (c : ℕ) (t s : State) → g.arc op t s → Walk g p t → walk_cost g p + g.cost op ≡ c → c < known → LiesBetween g s → ((d : ℕ) → Reached g d s → c ≤ d) → InLayer at (walk_cost g p) t
+  before : (op : ℕ) (p : List ℕ) (c : ℕ) (t s : State) → g.arc op t s → Walk g p t → walk_cost g p + g.cost op ≡ c
+      → c < known → LiesBetween g s → ((d : ℕ) → Reached g d s → c ≤ d) → InLayer at (walk_cost g p) t
   before op p c t s arc walk sum lt u least =
       let x = walk_cost g p in
       let belongs : Belongs g Least x t = (
@@ -18,7 +19,8 @@ module _ (g : Graph) (at : At) (known : ℕ) (right : (c : ℕ) → c < known �
       ) in
       ((right x (omega (arith, sum, lt))).exact t (between_before g p op t s walk arc u)).1 belongs
 
-  by_walk : (p : List ℕ) (c i : ℕ) (s : State) → Walk g p s → walk_cost g p ≡ c → EndsInZeros g p i → c < known → LiesBetween g s → ((d : ℕ) → Reached g d s → c ≤ d) → HasWay g at c i s
+  by_walk : (p : List ℕ) (c i : ℕ) (s : State) → Walk g p s → walk_cost g p ≡ c → EndsInZeros g p i → c < known
+      → LiesBetween g s → ((d : ℕ) → Reached g d s → c ≤ d) → HasWay g at c i s
   by_walk [] c i s start cost zs lt u least = inl (sym cost, zs, start)
   by_walk (op ∷ p) c zero s (t, arc, walk) cost dear lt u least =
       let sum : walk_cost g p + g.cost op ≡ c = omega (arith, cost) in

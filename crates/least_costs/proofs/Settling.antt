@@ -21,7 +21,9 @@ in_layer at c i s (inl (j, le, h)) = (c, omega arith, (j, h))
 in_layer at c i s (inr (x, lt, h)) = (x, omega (arith, lt), h)
 
 -- where a walk inside P leads is settled at its cost or below it
-walk_settled : (g : Graph) (P : State → Type 0) (at : At) (bound : ℕ) → Layered g Least P at bound → (p : List ℕ) (s : State) → WalkInside g P p s → walk_cost g p < bound → (x : ℕ) × (x ≤ walk_cost g p) × InLayer at x s
+walk_settled : (g : Graph) (P : State → Type 0) (at : At) (bound : ℕ) → Layered g Least P at bound
+    → (p : List ℕ) (s : State) → WalkInside g P p s → walk_cost g p < bound → (x : ℕ)
+    × (x ≤ walk_cost g p) × InLayer at x s
 walk_settled g P at bound r [] s (start, here) lt = in_layer at 0 0 s (r.begin s lt start here)
 walk_settled g P at bound r (op ∷ p) s ((t, arc, walk), here) lt =
     let before = walk_settled g P at bound r p t walk (omega (arith, lt)) in
@@ -29,10 +31,12 @@ walk_settled g P at bound r (op ∷ p) s ((t, arc, walk), here) lt =
     let i = before.2.0 in
     elim (zero_or (g.cost op)) [
       | inl z ↦ (let a = in_layer at x (i + 1) s (r.beside x i op t s before.2.1 arc here z) in (a.0, omega (arith, a.1, before.1), a.2))
-      | inr h ↦ (let a = in_layer at (x + g.cost op) 0 s (r.onward x i op t s before.2.1 arc here h (omega (arith, before.1, lt))) in (a.0, omega (arith, a.1, before.1), a.2))
+      | inr h ↦ (let a = in_layer at (x + g.cost op) 0 s (r.onward x i op t s before.2.1 arc here h
+          (omega (arith, before.1, lt))) in (a.0, omega (arith, a.1, before.1), a.2))
     ]
 
-module _ (side : Side) (y : System) (P : State → Type 0) (at : At) (Open : ℕ → Type 0) (b : Bool) (known : ℕ) (z : IsSettled (seen_from side y) Least P at Open b known) where
+module _ (side : Side) (y : System) (P : State → Type 0) (at : At) (Open : ℕ → Type 0) (b : Bool) (known : ℕ)
+    (z : IsSettled (seen_from side y) Least P at Open b known) where
   all : (d : ℕ) (s : State) → InsideAt side y P d s → d < known → (c : ℕ) × (c ≤ d) × InLayer at c s
   all d s h lt =
       let w = inside_walk side y P d s h in

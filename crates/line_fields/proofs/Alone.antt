@@ -10,7 +10,8 @@ use Rattle.line_fields.proofs.Fronts.{number_follows, follows_number}
 pub alone_is : (word : List ℕ) (n : ℕ) (line : List ℕ) → number_after word line ≡ Some n → IsNumbered word n line
 alone_is word n line e = by_number (number_then word line) refl e
   where
-    by_rest : (k : ℕ) (rest : List ℕ) → number_then word line ≡ Some (k, rest) → (t : Bool) → eqb (length rest) 0 ≡ t → cond t (Some k) None ≡ Some n → IsNumbered word n line
+    by_rest : (k : ℕ) (rest : List ℕ) → number_then word line ≡ Some (k, rest) → (t : Bool) → eqb (length rest) 0 ≡ t
+        → cond t (Some k) None ≡ Some n → IsNumbered word n line
     by_rest k [] t true u e =
         let f = number_follows word line k [] t in
         let same : k ≡ n = cc in
@@ -24,7 +25,8 @@ alone_is word n line e = by_number (number_then word line) refl e
 
 pub alone_again : (word : List ℕ) (n : ℕ) (line : List ℕ) → IsNumbered word n line → number_after word line ≡ Some n
 alone_again word n line (digits, is, whole) =
-    let e : number_then word line ≡ Some (n, []) = ap (λ (z : List ℕ). number_then word z) (whole ∙ sym (append-nil (word ++ digits))) ∙ follows_number word digits n [] is tt in
+    let e : number_then word line ≡ Some (n, []) = ap (λ (z : List ℕ). number_then word z)
+    (whole ∙ sym (append-nil (word ++ digits))) ∙ follows_number word digits n [] is tt in
     ap (λ (o : Option (ℕ × List ℕ)). option_and_then if_alone o) e
 
 -- the test that compares the number

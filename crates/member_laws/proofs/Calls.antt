@@ -24,7 +24,8 @@ stops_before y None a b CostRange s h = ((h.0.0, (s h.0.0).0 h.0.1), (λ q k. h.
 stops_before y (Some c) a b CostRange s h = absurd h
 
 -- the law, seen from an earlier value of which the same pends
-pub turned_from : (y : System) (most : Option ℕ) (a b c : List ℕ → Type 0) (r : Result (Option (List ℕ)) Stop) → Stays a b → TurnedMembers y most b c r → TurnedMembers y most a c r
+pub turned_from : (y : System) (most : Option ℕ) (a b c : List ℕ → Type 0) (r : Result (Option (List ℕ)) Stop)
+    → Stays a b → TurnedMembers y most b c r → TurnedMembers y most a c r
 turned_from y most a b c (Ok (Some p)) s g = record {
   pended = (s p).0 g.pended;
   fits = g.fits;
@@ -46,7 +47,8 @@ stops_after y None a b CostRange k h = ((let m = k.members h.0.0 h.0.1 in (m.mem
 stops_after y (Some c) a b CostRange k h = absurd h
 
 -- what ended it is still so afterwards
-pub ended_by : (y : System) (most : Option ℕ) (a b : List ℕ → Type 0) (r : Result (Option (List ℕ)) Stop) → TurnedMembers y most a b r → Ended y most b (last_of r)
+pub ended_by : (y : System) (most : Option ℕ) (a b : List ℕ → Type 0) (r : Result (Option (List ℕ)) Stop)
+    → TurnedMembers y most a b r → Ended y most b (last_of r)
 ended_by y most a b (Ok (Some p)) g = tt
 ended_by y most a b (Ok None) h = none_after y most a b h.1 h.0
 ended_by y most a b (Err stop) h = stops_after y most a b stop h.1 h.0
@@ -66,7 +68,8 @@ memory_stops y (Some c) before = tt
 -- turns that opened no plan took what was opened from `first` to `old`
 module _ (y : System) (most : Option ℕ) (first old : List (List ℕ)) (stays : Stays (PendsNode y first) (PendsNode y old)) where
   -- and one more to `new`, which gives a plan
-  pub call_gives : (new : List (List ℕ)) (p : List ℕ) → GaveMember y most (PendsNode y old) (PendsNode y new) p → TurnedMembers y most (PendsNode y first) (PendsNode y new) (Ok (Some p))
+  pub call_gives : (new : List (List ℕ)) (p : List ℕ) → GaveMember y most (PendsNode y old) (PendsNode y new) p
+      → TurnedMembers y most (PendsNode y first) (PendsNode y new) (Ok (Some p))
   call_gives new p g = turned_from y most (PendsNode y first) (PendsNode y old) (PendsNode y new) (Ok (Some p)) stays g
 
   pub call_ends : NoneLeft y most (PendsNode y old) → TurnedMembers y most (PendsNode y first) (PendsNode y old) (Ok None)

@@ -54,7 +54,14 @@ module _ (old kids new : List (List ℕ)) (e : List ℕ) (taken : Replaced old k
 
 -- each entry stays where e is put back
 put_back : (old new : List (List ℕ)) (e x : List ℕ) → Replaced old (e ∷ []) e new → Listed old x → Listed new x
-put_back old new e x taken l = some_listed x new (omega (arith, listed_some x old l, taken (λ z. ind (are_equal z x)), sum_by-cons (λ z. ind (are_equal z x)) e []))
+put_back old new e x taken l =
+    some_listed x new (omega (
+      arith,
+      listed_some x old l,
+      taken (λ z. ind (are_equal z x)),
+      sum_by-cons
+          (λ z. ind (are_equal z x)) e [],
+    ))
 
 pub listed_cases : (xs : List (List ℕ)) (e x : List ℕ) → Listed (xs ++ e ∷ []) x → Listed xs x ⊎ (e ≡ x)
 listed_cases [] e x (inl i) = inr i
@@ -66,7 +73,8 @@ pub listed_last : (xs : List (List ℕ)) (e : List ℕ) → Listed (xs ++ e ∷ 
 listed_last xs e = in_right xs (e ∷ []) e (inl refl)
 
 -- What was met still is, where what an entry joined is met.
-module _ (y : System) (opened later old new : List (List ℕ)) (more : (x : List ℕ) → Listed opened x → Listed later x) (on : (x : List ℕ) → IsJoined y old x → MetOrNone y later new x) where
+module _ (y : System) (opened later old new : List (List ℕ)) (more : (x : List ℕ) → Listed opened x → Listed later x)
+    (on : (x : List ℕ) → IsJoined y old x → MetOrNone y later new x) where
   met_on : (x : List ℕ) → MetOrNone y opened old x → MetOrNone y later new x
   met_on x (inl (inl j)) = inl (inl (j.0, more j.0 j.1, j.2))
   met_on x (inl (inr j)) = on x j
@@ -81,7 +89,8 @@ module _ (y : System) (opened later old new : List (List ℕ)) (more : (x : List
     steps = λ op inside applies. met_on (e ++ op ∷ []) (c.steps op inside applies);
   }
 
-covers_on : (y : System) (opened old new : List (List ℕ)) → ((x : List ℕ) → IsJoined y old x → MetOrNone y opened new x) → Covers y opened old → Covers y opened new
+covers_on : (y : System) (opened old new : List (List ℕ)) → ((x : List ℕ) → IsJoined y old x → MetOrNone y opened new
+    x) → Covers y opened old → Covers y opened new
 covers_on y opened old new on c = record {
   root = met_on y opened opened old new (λ x l. l) on [] c.root;
   each = λ e l. closed_on y opened opened old new (λ x k. k) on e (c.each e l);
@@ -108,7 +117,8 @@ module _ (y : System) (e : List ℕ) (opened old new : List (List ℕ)) (covers 
   comes_back taken = covers_on y opened old new (λ x j. inl (inr (j.0, put_back old new e j.0 taken j.1, j.2))) covers
 
 -- e is opened
-module _ (y : System) (e : List ℕ) (opened old kids new : List (List ℕ)) (covers : Covers y opened old) (opening : Opening y opened old kids e) (taken : Replaced old kids e new) where
+module _ (y : System) (e : List ℕ) (opened old kids new : List (List ℕ)) (covers : Covers y opened old)
+    (opening : Opening y opened old kids e) (taken : Replaced old kids e new) where
   abbrev later : List (List ℕ)
   later = opened ++ e ∷ []
 
@@ -123,7 +133,8 @@ module _ (y : System) (e : List ℕ) (opened old kids new : List (List ℕ)) (co
 
   child_on : (op : ℕ) → AppliesIn y op opening.end → Listed kids (e ++ op ∷ []) → MetOrNone y later new (e ++ op ∷ [])
   child_on op (t, lead) l =
-      let self : Joins y (e ++ op ∷ []) (e ++ op ∷ []) = joins_self y (e ++ op ∷ []) t (runs_join y e (op ∷ []) y.initial opening.end t opening.runs (t, lead, refl)) in
+      let self : Joins y (e ++ op ∷ []) (e ++ op ∷ []) = joins_self y (e ++ op ∷ []) t
+      (runs_join y e (op ∷ []) y.initial opening.end t opening.runs (t, lead, refl)) in
       elim (child_comes old kids new e taken (e ++ op ∷ []) l) [
         | inl k ↦ inl (inr (e ++ op ∷ [], k, self))
         | inr is ↦ inl (inl (e, listed_last opened e, subst (Joins y (e ++ op ∷ [])) (sym is) self))

@@ -24,7 +24,8 @@ record Next (y : System) (opened queue : List (List ℕ)) (e t : List ℕ) (u : 
 
 module _ (y : System) (opened queue : List (List ℕ)) where
   -- by an operator of the set of e
-  chosen : (e t q : List ℕ) (u : State) (c : IsClosed y opened queue e) → BeginsIn c.set q → Rearranges y c.end u t q → Runs y y.initial (e ++ t) u → Next y opened queue e t u
+  chosen : (e t q : List ℕ) (u : State) (c : IsClosed y opened queue e) → BeginsIn c.set q → Rearranges y c.end u t q
+      → Runs y y.initial (e ++ t) u → Next y opened queue e t u
   chosen e t [] u c inside r run = absurd inside
   chosen e t (op ∷ q) u c inside r run =
       let is : e ++ op ∷ q ≡ (e ++ op ∷ []) ++ q = sym (append_assoc e (op ∷ []) q) in
@@ -65,7 +66,8 @@ module _ (y : System) (opened queue : List (List ℕ)) where
     }
 
     -- by the number of operators that are left
-    carried : (n : ℕ) (x t : List ℕ) (u : State) → length t ≡ n → MetOrNone y opened queue x → Runs y y.initial (x ++ t) u → IsTrue (y.goal u) → ¬ IsJoined y opened (x ++ t) → GoesOn y queue (x ++ t)
+    carried : (n : ℕ) (x t : List ℕ) (u : State) → length t ≡ n → MetOrNone y opened queue x
+        → Runs y y.initial (x ++ t) u → IsTrue (y.goal u) → ¬ IsJoined y opened (x ++ t) → GoesOn y queue (x ++ t)
     carried n x t u size (inr lost) run goal free = absurd (not_lost y x t (u, run, goal) lost)
     carried n x t u size (inl (inr (e, inside, j))) run goal free =
         let long = joined_longer y x e t u j run in
@@ -86,7 +88,8 @@ module _ (y : System) (opened queue : List (List ℕ)) where
         let is : on.end ≡ u = one_end y (x ++ a ∷ t) y.initial on.end u on.runs run in
         let there : Runs y y.initial (next.child ++ next.rest) u = subst (λ (s : State). Runs y y.initial (next.child ++ next.rest) s) is on.other in
         let left : length next.rest ≡ n = omega (arith, next.steps, size) in
-        rejoined (x ++ a ∷ t) (next.child ++ next.rest) on (carried n next.child next.rest u left next.met there goal (λ h. free (h.0, h.1, joins_trans y (x ++ a ∷ t) (next.child ++ next.rest) h.0 on h.2)))
+        rejoined (x ++ a ∷ t) (next.child ++ next.rest) on (carried n next.child next.rest u left next.met there goal
+        (λ h. free (h.0, h.1, joins_trans y (x ++ a ∷ t) (next.child ++ next.rest) h.0 on h.2)))
 
     pub pending_goes_on : (p : List ℕ) → PendsNode y opened p → GoesOn y queue p
     pending_goes_on p h = carried (length p) [] p h.0.0 refl covers.root h.0.1 h.0.2 h.1

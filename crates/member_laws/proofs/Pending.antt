@@ -55,7 +55,8 @@ module _ (y : System) (opened queue : List (List ℕ)) (lists : ListsReached y) 
   dear_leaves c b all dear p h = omega (arith, pending_bounded b all p h, dear)
 
   -- e is a plan in range, and no cheaper one goes on from an entry
-  pub opening_gives : (most : Option ℕ) (b : ℕ) (e : List ℕ) → AllByRecursion (λ x. Bounds y x b) queue → IsPlan y e → ¬ IsJoined y opened e → cost_of y e ≤ b → cost_of y e ≤ top most
+  pub opening_gives : (most : Option ℕ) (b : ℕ) (e : List ℕ) → AllByRecursion (λ x. Bounds y x b) queue → IsPlan y e
+      → ¬ IsJoined y opened e → cost_of y e ≤ b → cost_of y e ≤ top most
       → GaveMember y most (PendsNode y opened) (PendsNode y (opened ++ e ∷ [])) e
   opening_gives most b e all plan free le fits = record {
     pended = (plan, free);

@@ -20,7 +20,8 @@ module _ (y : System) (set : ℕ → Bool) (opened queue : List (List ℕ)) (e :
   reached_none kids op lt = absurd (omega (arith, lt))
 
   -- other children come as well
-  pub reached_wider : (n : ℕ) (kids more : List (List ℕ)) → ReachedBelow y set opened queue e end n kids → ReachedBelow y set opened queue e end n (kids ++ more)
+  pub reached_wider : (n : ℕ) (kids more : List (List ℕ)) → ReachedBelow y set opened queue e end n kids
+      → ReachedBelow y set opened queue e end n (kids ++ more)
   reached_wider n kids more r op lt on applies = elim (r op lt on applies) [
     | inl l ↦ inl (in_left kids more (e ++ op ∷ []) l)
     | inr m ↦ inr m
@@ -36,19 +37,26 @@ module _ (y : System) (set : ℕ → Bool) (opened queue : List (List ℕ)) (e :
   ]
 
   -- the next one is, so the operators below the one after it are
-  next : (n : ℕ) (kids : List (List ℕ)) → ReachedBelow y set opened queue e end n kids → (IsTrue (set n) → AppliesIn y n end → Listed kids (e ++ n ∷ []) ⊎ MetOrNone y opened queue (e ++ n ∷ [])) → ReachedBelow y set opened queue e end (n + 1) kids
-  next n kids r one = reached_past n 1 kids r (λ op ge lt. let is : n ≡ op = omega (arith, ge, lt) in subst (λ (a : ℕ). IsTrue (set a) → AppliesIn y a end → Listed kids (e ++ a ∷ []) ⊎ MetOrNone y opened queue (e ++ a ∷ [])) is one)
+  next : (n : ℕ) (kids : List (List ℕ)) → ReachedBelow y set opened queue e end n kids
+      → (IsTrue (set n) → AppliesIn y n end → Listed kids (e ++ n ∷ []) ⊎ MetOrNone y opened queue (e ++ n ∷ []))
+      → ReachedBelow y set opened queue e end (n + 1) kids
+  next n kids r one = reached_past n 1 kids r (λ op ge lt. let is : n ≡ op = omega (arith, ge, lt) in subst
+      (λ (a : ℕ). IsTrue (set a) → AppliesIn y a end → Listed kids (e ++ a ∷ [])
+      ⊎ MetOrNone y opened queue (e ++ a ∷ [])) is one)
 
   -- the child by the next operator comes
-  pub reached_more : (n : ℕ) (kids : List (List ℕ)) → ReachedBelow y set opened queue e end n kids → ReachedBelow y set opened queue e end (n + 1) (kids ++ (e ++ n ∷ []) ∷ [])
+  pub reached_more : (n : ℕ) (kids : List (List ℕ)) → ReachedBelow y set opened queue e end n kids
+      → ReachedBelow y set opened queue e end (n + 1) (kids ++ (e ++ n ∷ []) ∷ [])
   reached_more n kids r = next n (kids ++ (e ++ n ∷ []) ∷ []) (reached_wider n kids ((e ++ n ∷ []) ∷ []) r) (λ on applies. inl (listed_last kids (e ++ n ∷ [])))
 
   -- it is met, or no plan goes on from it
-  pub reached_met : (n : ℕ) (kids : List (List ℕ)) → ReachedBelow y set opened queue e end n kids → MetOrNone y opened queue (e ++ n ∷ []) → ReachedBelow y set opened queue e end (n + 1) kids
+  pub reached_met : (n : ℕ) (kids : List (List ℕ)) → ReachedBelow y set opened queue e end n kids
+      → MetOrNone y opened queue (e ++ n ∷ []) → ReachedBelow y set opened queue e end (n + 1) kids
   reached_met n kids r m = next n kids r (λ on applies. inr m)
 
   -- the next operator isn't of the set
-  pub reached_away : (n : ℕ) (kids : List (List ℕ)) → ReachedBelow y set opened queue e end n kids → IsFalse (set n) → ReachedBelow y set opened queue e end (n + 1) kids
+  pub reached_away : (n : ℕ) (kids : List (List ℕ)) → ReachedBelow y set opened queue e end n kids → IsFalse (set n)
+      → ReachedBelow y set opened queue e end (n + 1) kids
   reached_away n kids r off = next n kids r (λ on applies. absurd (apart (set n) on off))
     where
       apart : (b : Bool) → IsTrue b → IsFalse b → ⊥
@@ -56,7 +64,8 @@ module _ (y : System) (set : ℕ → Bool) (opened queue : List (List ℕ)) (e :
 
 -- the operators of a set, and then all others
 pub reached_all : (y : System) (set : ℕ → Bool) (opened queue : List (List ℕ)) (e : List ℕ) (end : State) (n : ℕ) (kids : List (List ℕ))
-    → ReachedBelow y set opened queue e end n kids → ReachedBelow y (λ op. not (set op)) opened queue e end n kids → ReachedBelow y (λ op. true) opened queue e end n kids
+    → ReachedBelow y set opened queue e end n kids → ReachedBelow y (λ op. not (set op)) opened queue e end n kids
+    → ReachedBelow y (λ op. true) opened queue e end n kids
 reached_all y set opened queue e end n kids inside outside op lt on applies = elim (on_or_off (set op)) [
   | inl has ↦ inside op lt has applies
   | inr lacks ↦ outside op lt lacks applies

@@ -19,12 +19,15 @@ some_is a b e = cc
 none_some : (a : State) → None ≡ Some a → ⊥
 none_some a e = cc
 
-step_told : (o : Option State) (f : State → Bool) (P : State → Type 0) → ((t : State) → Decides (f t) (P t)) → Decides (on_step o f) ((t : State) × (o ≡ Some t) × P t)
+step_told : (o : Option State) (f : State → Bool) (P : State → Type 0) → ((t : State) → Decides (f t) (P t))
+    → Decides (on_step o f) ((t : State) × (o ≡ Some t) × P t)
 step_told None f P d = ((λ e. cc), (λ h. absurd (none_some h.0 h.1)))
 step_told (Some t) f P d = ((λ e. (t, refl, (d t).0 e)), (λ h. (d t).1 (subst P (sym (some_is t h.0 h.1)) h.2)))
 
 -- the operators lead to a state of which P holds
-leads_told : (y : System) (p : List ℕ) (test : State → Bool) (P : State → Type 0) → ((t : State) → Decides (test t) (P t)) → (s : State) → Decides (leads_to y s p test) ((t : State) × Runs y s p t × P t)
+leads_told : (y : System) (p : List ℕ) (test : State → Bool) (P : State → Type 0)
+    → ((t : State) → Decides (test t) (P t)) → (s : State)
+    → Decides (leads_to y s p test) ((t : State) × Runs y s p t × P t)
 leads_told y [] test P d s = ((λ e. (s, refl, (d s).0 e)), (λ h. (d s).1 (subst P (sym h.1) h.2)))
 leads_told y (op ∷ p) test P d s =
     let next = step_told (y.step op s) (λ t. leads_to y t p test) (λ m. (t : State) × Runs y m p t × P t) (leads_told y p test P d) in
@@ -45,7 +48,8 @@ module _ (y : System) where
 
   joined_told : (es : List (List ℕ)) (x : List ℕ) → Decides (is_joined y es x) (IsJoined y es x)
   joined_told [] x = ((λ e. cc), (λ j. absurd j.1))
-  joined_told (z ∷ es) x = Decides-like (is_joined y (z ∷ es) x) (to es x z) (from es x z) (Decides-or (joins y x z) (is_joined y es x) (joins_told x z) (joined_told es x))
+  joined_told (z ∷ es) x = Decides-like (is_joined y (z ∷ es) x) (to es x z) (from es x z)
+      (Decides-or (joins y x z) (is_joined y es x) (joins_told x z) (joined_told es x))
     where
       to : (es : List (List ℕ)) (x z : List ℕ) → Joins y x z ⊎ IsJoined y es x → IsJoined y (z ∷ es) x
       to es x z (inl j) = (z, inl refl, j)

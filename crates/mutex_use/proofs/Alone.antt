@@ -31,7 +31,8 @@ one_keeper task g s = (
 )
 
 -- a group that stands where it is kept holds by itself
-pub stands_alone : (task : TaskParts) (From : State → Type 0) (g : ℕ) → ((s : State) → From s ↔ IsKeeper task (g ∷ []) s) → StandsFrom task From g → GroupsHold task (g ∷ [])
+pub stands_alone : (task : TaskParts) (From : State → Type 0) (g : ℕ)
+    → ((s : State) → From s ↔ IsKeeper task (g ∷ []) s) → StandsFrom task From g → GroupsHold task (g ∷ [])
 stands_alone task From g from st = record {
   base = λ h m. subst (IsBaseGroup task) (in_one g h m) st.base;
   initial = λ s i h m. subst (Keeps task s) (in_one g h m) (st.initial s i);
@@ -39,7 +40,8 @@ stands_alone task From g from st = record {
 }
 
 -- one group more
-pub one_more : (task : TaskParts) (groups : List ℕ) (g : ℕ) (s : State) → IsKeeper task (groups ++ g ∷ []) s ↔ (IsKeeper task groups s × IsKeeper task (g ∷ []) s)
+pub one_more : (task : TaskParts) (groups : List ℕ) (g : ℕ) (s : State) → IsKeeper task (groups ++ g ∷ []) s
+    ↔ (IsKeeper task groups s × IsKeeper task (g ∷ []) s)
 one_more task groups g s = (
   (λ h. ((h.0, (λ k m. h.1 k (Contains-append_left groups (g ∷ []) k m))), (h.0, (λ k m. h.1 k (Contains-append_right groups (g ∷ []) k m))))),
   (λ h. (h.0.0, (λ k m. elim (Contains-append_cases groups (g ∷ []) k m) [ inl x ↦ h.0.1 k x | inr y ↦ h.1.1 k y ]))),
@@ -67,7 +69,8 @@ keepers_start v task all is every = (
   ),
 )
 
-pub keepers_next : {Set : Type 0} {v w : View Set} (task : TaskParts) (g : ℕ) (kept r : Set) → HasKeepers v task kept → NarrowsHolding v w task kept g r → HasKeepers w task r
+pub keepers_next : {Set : Type 0} {v w : View Set} (task : TaskParts) (g : ℕ) (kept r : Set) → HasKeepers v task kept
+    → NarrowsHolding v w task kept g r → HasKeepers w task r
 keepers_next task g kept r (groups, hold, means) n = elim n.means [
   | inl same ↦ (groups, hold, λ s. ((λ h. (means s).0 ((same s).0 h)), (λ h. (same s).1 ((means s).1 h))))
   | inr one ↦ (
@@ -89,12 +92,24 @@ all_after v w all k valid task every s = (
 
 -- the states that keep one group
 
-module _ {Set : Type 0} (task : TaskParts) (v w : View Set) (all kept : Set) (g : ℕ) (facts : List Fact) (is : v.task ≡ task) (here : facts ≡ group_at task g) (every : HasAll v all) (gives : Gives v w (KeepsIn v all facts) kept) where
+module _ {Set : Type 0} (task : TaskParts) (v w : View Set) (all kept : Set) (g : ℕ) (facts : List Fact)
+    (is : v.task ≡ task) (here : facts ≡ group_at task g) (every : HasAll v all)
+    (gives : Gives v w (KeepsIn v all facts) kept) where
   as_keeper : (s : State) → KeepsIn v all facts s ↔ IsKeeper task (g ∷ []) s
   as_keeper s =
       let one = one_keeper task g s in (
-        (λ m. one.1 (subst (λ (t : TaskParts). IsState t s) is ((every s).0 m.0), subst (λ (z : List Fact). HasAtMostOne task z s) here (subst (λ (t : TaskParts). HasAtMostOne t facts s) is m.1))),
-        (λ h. let m = one.0 h in ((every s).1 (subst (λ (t : TaskParts). IsState t s) (sym is) m.0), subst (λ (t : TaskParts). HasAtMostOne t facts s) (sym is) (subst (λ (z : List Fact). HasAtMostOne task z s) (sym here) m.1))),
+        (λ m. one.1 (
+          subst (λ (t : TaskParts). IsState t s) is ((every s).0 m.0),
+          subst
+              (λ (z : List Fact). HasAtMostOne task z s) here
+              (subst (λ (t : TaskParts). HasAtMostOne t facts s) is m.1),
+        )),
+        (λ h. let m = one.0 h in (
+          (every s).1 (subst (λ (t : TaskParts). IsState t s) (sym is) m.0),
+          subst
+              (λ (t : TaskParts). HasAtMostOne t facts s) (sym is)
+              (subst (λ (z : List Fact). HasAtMostOne task z s) (sym here) m.1),
+        )),
       )
 
   pub alone_means : (s : State) → Has w kept s ↔ IsKeeper task (g ∷ []) s
@@ -108,7 +123,9 @@ module _ {Set : Type 0} (task : TaskParts) (v w : View Set) (all kept : Set) (g 
 
 -- the states of a set that keep one group
 
-module _ {Set : Type 0} (task : TaskParts) (v w x y : View Set) (kept keepers : Set) (g : ℕ) (k : Kept v w) (valid : Valid v kept) (one : MayKeepOne v w task g (Some keepers)) (j : Kept w x) (f : Forgot x y keepers) where
+module _ {Set : Type 0} (task : TaskParts) (v w x y : View Set) (kept keepers : Set) (g : ℕ) (k : Kept v w)
+    (valid : Valid v kept) (one : MayKeepOne v w task g (Some keepers)) (j : Kept w x)
+    (f : Forgot x y keepers) where
   back : NoMore w x → Stays v y
   back n = let z : Stays w x = record { kept = j; only = n } in given_back (kept_trans k j) (gives_stays one.1 z) f
 
@@ -127,17 +144,21 @@ module _ {Set : Type 0} (task : TaskParts) (v w x y : View Set) (kept keepers : 
 
 -- the set takes the place of the one before
 
-pub joined_narrows : {Set : Type 0} (v w x y : View Set) (task : TaskParts) (kept both r : Set) (g : ℕ) → Kept v w → MayKeepMore v w task kept g (Some both) → Valid v kept → Forgot w x kept → r ≡ both → Stays x y → NarrowsHolding v y task kept g r
+pub joined_narrows : {Set : Type 0} (v w x y : View Set) (task : TaskParts) (kept both r : Set) (g : ℕ) → Kept v w
+    → MayKeepMore v w task kept g (Some both) → Valid v kept → Forgot w x kept → r ≡ both → Stays x y
+    → NarrowsHolding v y task kept g r
 joined_narrows v w x y task kept both r g k m valid f e z =
     let n = narrows_tidied v w x y kept both r k m.1 valid f e z in
     record { trades = n.trades; means = inr (m.0, n.means) }
 
-pub stays_narrows : {Set : Type 0} (v w : View Set) (task : TaskParts) (kept r : Set) (g : ℕ) → Valid v kept → Stays v w → r ≡ kept → NarrowsHolding v w task kept g r
+pub stays_narrows : {Set : Type 0} (v w : View Set) (task : TaskParts) (kept r : Set) (g : ℕ) → Valid v kept
+    → Stays v w → r ≡ kept → NarrowsHolding v w task kept g r
 stays_narrows {Set} v w task kept r g valid z e = subst (λ (a : Set). NarrowsHolding v w task kept g a) (sym e) (record {
   trades = trades_stays v w (λ a. a ≡ kept) z (λ a is. subst (λ (x : Set). Valid v x) (sym is) valid);
   means = inl (λ s. ((λ h. sym (z.kept.same kept valid s) ∙ h), (λ h. z.kept.same kept valid s ∙ h)));
 })
 
 -- the set of all states is given back
-pub holding_back : {Set : Type 0} (v w x y : View Set) (task : TaskParts) (all r : Set) {P : State → Type 0} → Kept v w → Gives v w P all → Kept w x → KeepsHolding w x task r → Forgot x y all → KeepsHolding v y task r
+pub holding_back : {Set : Type 0} (v w x y : View Set) (task : TaskParts) (all r : Set) {P : State → Type 0}
+    → Kept v w → Gives v w P all → Kept w x → KeepsHolding w x task r → Forgot x y all → KeepsHolding v y task r
 holding_back v w x y task all r k g j h f = (h.0, h.1, gives_back k g j h.2 f (λ s. ((λ z. z), (λ z. z))))

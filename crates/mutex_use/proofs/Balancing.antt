@@ -24,11 +24,25 @@ module _ (task : TaskParts) (facts : List Fact) (s t : State) (a : ℕ) (base : 
   value_stays f has = by (slice_get task.operators a) refl step.1.values
     where
       by : (o : Option Operator) → slice_get task.operators a ≡ o
-          → IsSomeAnd o (λ operator. (var : ℕ) → IsBase task var → ValueAfter (Fires task s) operator.effects var (get_or s (place task var) 0) (get_or t (place task var) 0))
+          → IsSomeAnd o (λ operator. (var : ℕ) → IsBase task var
+          → ValueAfter (Fires task s) operator.effects var (get_or s (place task var) 0)
+          (get_or t (place task var) 0))
           → get_or t (place task f.var) 0 ≡ get_or s (place task f.var) 0
       by None is h = absurd h
       by (Some operator) is h = elim (h f.var (All-contains (λ (z : Fact). IsBase task z.var) facts f base has)) [
-        | inl (last, on, e) ↦ absurd (idle (f, has, (operator, last, is, subst (λ (z : List Effect). Contains z last) (sym on.here) (Contains-append_right on.before (last ∷ on.later) last (0, omega arith, refl)), on.on)))
+        | inl (last, on, e) ↦ absurd
+            (idle (
+              f,
+              has,
+              (
+                operator,
+                last,
+                is,
+                subst (λ (z : List Effect). Contains z last) (sym on.here)
+                    (Contains-append_right on.before (last ∷ on.later) last (0, omega arith, refl)),
+                on.on,
+              ),
+            ))
         | inr x ↦ x.1
       ]
 
@@ -43,7 +57,8 @@ module _ (task : TaskParts) (facts : List Fact) (s t : State) (a : ℕ) (base : 
 -- What holds after a step was made so by an effect, or held before; a balanced operator takes a fact of the group away, so
 -- none of them that held before is left.
 
-module _ (task : TaskParts) (facts : List Fact) (s t : State) (a : ℕ) (operator : Operator) (base : AreBase task facts) (at : slice_get task.operators a ≡ Some operator) (step : Step task s a t) where
+module _ (task : TaskParts) (facts : List Fact) (s t : State) (a : ℕ) (operator : Operator)
+    (base : AreBase task facts) (at : slice_get task.operators a ≡ Some operator) (step : Step task s a t) where
   abbrev IsMade : Fact → Type 0
   IsMade f = (e : Effect) × Contains operator.effects e × (fact_after e ≡ f)
 
@@ -54,7 +69,8 @@ module _ (task : TaskParts) (facts : List Fact) (s t : State) (a : ℕ) (operato
   applies = subst (λ (o : Option Operator). IsSomeAnd o (λ x. All (Holds task s) x.prevail × All (Allows task s) x.effects)) at step.0
 
   values : (var : ℕ) → IsBase task var → ValueAfter (Fires task s) operator.effects var (get_or s (place task var) 0) (get_or t (place task var) 0)
-  values = subst (λ (o : Option Operator). IsSomeAnd o (λ x. (var : ℕ) → IsBase task var → ValueAfter (Fires task s) x.effects var (get_or s (place task var) 0) (get_or t (place task var) 0))) at step.1.values
+  values = subst (λ (o : Option Operator). IsSomeAnd o (λ x. (var : ℕ) → IsBase task var → ValueAfter (Fires task s)
+      x.effects var (get_or s (place task var) 0) (get_or t (place task var) 0))) at step.1.values
 
   made_as : (e : Effect) (f : Fact) → e.var ≡ f.var → e.post ≡ f.val → fact_after e ≡ f
   made_as e f p q = λ i. record { var = p i; val = q i }
@@ -64,13 +80,20 @@ module _ (task : TaskParts) (facts : List Fact) (s t : State) (a : ℕ) (operato
       let is = All-contains (λ (z : Fact). IsBase task z.var) facts f base has in
       let val = (base_holds task t f is).0 h in
       elim (values f.var is) [
-        | inl (last, on, e) ↦ inl (last, subst (λ (z : List Effect). Contains z last) (sym on.here) (Contains-append_right on.before (last ∷ on.later) last (0, omega arith, refl)), made_as last f on.on (sym e ∙ val))
+        | inl (last, on, e) ↦ inl (
+          last,
+          subst (λ (z : List Effect). Contains z last) (sym on.here)
+              (Contains-append_right on.before (last ∷ on.later) last (0, omega arith, refl)),
+          made_as
+              last f on.on (sym e ∙ val),
+        )
         | inr x ↦ inr (x.0, (base_holds task s f is).1 (sym x.1 ∙ val))
       ]
 
   none_left : Any (Takes facts) operator.effects → HasAtMostOne task facts s → (f : Fact) → Contains facts f → IsLeft f → ⊥
   none_left (k, d, low, at_k, (val, pre, conds, inside)) most f cf (none, holds) =
-      All-contains (λ (e : Effect). e.var ≡ f.var → ¬ Fires task s e) operator.effects d (All-from_recursion (λ (e : Effect). e.var ≡ f.var → ¬ Fires task s e) operator.effects none) has
+      All-contains (λ (e : Effect). e.var ≡ f.var → ¬ Fires task s e) operator.effects d
+      (All-from_recursion (λ (e : Effect). e.var ≡ f.var → ¬ Fires task s e) operator.effects none) has
       (sym (ap (λ (z : Fact). z.var) (most f asked cf inside holds asked_holds))) fires
     where
       has : Contains operator.effects d
@@ -80,7 +103,8 @@ module _ (task : TaskParts) (facts : List Fact) (s t : State) (a : ℕ) (operato
       asked = record { var = d.var; val = val }
 
       asked_holds : Holds task s asked
-      asked_holds = subst (λ (o : Option ℕ). IfSome o (λ v. Holds task s (record { var = d.var; val = v }))) pre (All-contains (Allows task s) operator.effects d applies.1 has)
+      asked_holds = subst (λ (o : Option ℕ). IfSome o (λ v. Holds task s (record { var = d.var; val = v }))) pre
+          (All-contains (Allows task s) operator.effects d applies.1 has)
 
       fires : Fires task s d
       fires = subst (λ (z : List Fact). All (Holds task s) z) (sym conds) (All-nil (Holds task s))
@@ -93,7 +117,8 @@ module _ (task : TaskParts) (facts : List Fact) (s t : State) (a : ℕ) (operato
   unfolding AddsAsAll
   adds_one f h one (d, at_d, is_d) (e, at_e, is_e) cf ch =
       let as_e = All-contains (AddsAsAll facts operator.effects) operator.effects e one at_e (subst (Contains facts) (sym is_e) ch) in
-      sym is_d ∙ All-contains (λ (z : Effect). Adds facts z → fact_after z ≡ fact_after e) operator.effects d as_e at_d (subst (Contains facts) (sym is_d) cf) ∙ is_e
+      sym is_d ∙ All-contains (λ (z : Effect). Adds facts z → fact_after z ≡ fact_after e) operator.effects d as_e
+      at_d (subst (Contains facts) (sym is_d) cf) ∙ is_e
 
   balanced_keeps : IsBalanced facts operator.effects → HasAtMostOne task facts s → HasAtMostOne task facts t
   balanced_keeps (inl none) most f h cf ch hf hh = elim (made_or_left f cf hf) [
@@ -126,7 +151,8 @@ looked_none operators facts among left is = record {
   only = subst (λ (z : List ℕ). All (λ (op : ℕ). op < length operators) z) (sym is) (All-nil (λ (op : ℕ). op < length operators));
 }
 
-module _ (operators : List Operator) (facts : List Fact) (among left : List ℕ) (i x : ℕ) (lt : i < length among) (is : get_or among i x ≡ x) (l : AreLookedAt operators facts among i left) where
+module _ (operators : List Operator) (facts : List Fact) (among left : List ℕ) (i x : ℕ) (lt : i < length among)
+    (is : get_or among i x ≡ x) (l : AreLookedAt operators facts among i left) where
   at_place : (k d : ℕ) → k ≡ i → get_or among k d ≡ x
   at_place k d e = subst (λ (z : ℕ). get_or among z d ≡ x) (sym e) (get_or_default among i d x lt ∙ is)
 
@@ -148,7 +174,8 @@ module _ (operators : List Operator) (facts : List Fact) (among left : List ℕ)
     only = l.only;
   }
 
-pub looked_end : (operators : List Operator) (facts : List Fact) (among left : List ℕ) (i : ℕ) → length among ≤ i → AreLookedAt operators facts among i left → HaveUnbalanced operators facts among left
+pub looked_end : (operators : List Operator) (facts : List Fact) (among left : List ℕ) (i : ℕ) → length among ≤ i
+    → AreLookedAt operators facts among i left → HaveUnbalanced operators facts among left
 looked_end operators facts among left i end l = record {
   all = λ op h. elim (l.all h.0 op (omega (arith, h.1, end))) [
     | inl c ↦ inl (subst (Contains left) h.2 c)
@@ -158,13 +185,16 @@ looked_end operators facts among left i end l = record {
 }
 
 -- of those that have an effect on a variable of the group, the ones that aren't balanced are all that may break it
-pub breaking_end : (task : TaskParts) (facts : List Fact) (among left : List ℕ) → AreBase task facts → HaveTouching task facts among → HaveUnbalanced task.operators facts among left → HaveBreaking task facts left
+pub breaking_end : (task : TaskParts) (facts : List Fact) (among left : List ℕ) → AreBase task facts
+    → HaveTouching task facts among → HaveUnbalanced task.operators facts among left → HaveBreaking task facts left
 breaking_end task facts among left base have u = record { all = all; only = u.only }
   where
     number : (op : ℕ) → Touches task op facts → op < length task.operators
     number op touches = (let writes = touches.2 in slice_get_within task.operators op writes.0 writes.2)
 
-    keeps : (op : ℕ) (s t : State) → HasAtMostOne task facts s → Step task s op t → (o : Option Operator) → slice_get task.operators op ≡ o → IsSomeAnd o (λ operator. IsBalanced facts operator.effects) → HasAtMostOne task facts t
+    keeps : (op : ℕ) (s t : State) → HasAtMostOne task facts s → Step task s op t → (o : Option Operator)
+        → slice_get task.operators op ≡ o → IsSomeAnd o (λ operator. IsBalanced facts operator.effects)
+        → HasAtMostOne task facts t
     keeps op s t most step None at b = absurd b
     keeps op s t most step (Some operator) at b = balanced_keeps task facts s t op operator base at step b most
 

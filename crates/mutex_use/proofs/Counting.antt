@@ -20,7 +20,8 @@ pub new_apart : {Set : Type 0} (u v : View Set) (n : Counts Set) (a b : Set) →
 new_apart u v n a b pair valid is e = valid_clash (subst (λ (z : _). Valid u z) (sym e) valid) (pair.trades.fresh b is (λ z. z))
 
 -- the set of what is counted more was made, and is given back
-module _ {Set : Type 0} (u v w x : View Set) (c n : Counts Set) (here : Set) {P : State → Type 0} (k : Kept u v) (g : Gives u v P here) (vo : Valid u c.once) (vt : Valid u c.twice)
+module _ {Set : Type 0} (u v w x : View Set) (c n : Counts Set) (here : Set) {P : State → Type 0} (k : Kept u v)
+    (g : Gives u v P here) (vo : Valid u c.once) (vt : Valid u c.twice)
     (pair : IsNewPair v w n) (m : CountsMore v w c (Has v here) n) (f : Forgot w x here) where
   same_of : (b : Set) → IsOf n b → (s : State) → x.has b s ≡ w.has b s
   same_of b is s = f.same b (f.valid b (pair.trades.owned b is) (new_apart v w n here b pair g.valid is)) s
@@ -33,8 +34,13 @@ module _ {Set : Type 0} (u v w x : View Set) (c n : Counts Set) (here : Set) {P 
       (λ h. same_of n.once (inl refl) s ∙ (m.once s).1 (elim h [ inl a ↦ inl (k.same c.once vo s ∙ a) | inr p ↦ inr ((g.means s).1 p) ])),
     );
     twice = λ s. (
-      (λ h. elim ((m.twice s).0 (sym (same_of n.twice (inr refl) s) ∙ h)) [ inl a ↦ inl (sym (k.same c.twice vt s) ∙ a) | inr b ↦ inr (sym (k.same c.once vo s) ∙ b.0, (g.means s).0 b.1) ]),
-      (λ h. same_of n.twice (inr refl) s ∙ (m.twice s).1 (elim h [ inl a ↦ inl (k.same c.twice vt s ∙ a) | inr p ↦ inr (k.same c.once vo s ∙ p.0, (g.means s).1 p.1) ])),
+      (λ h. elim ((m.twice s).0 (sym (same_of n.twice (inr refl) s) ∙ h)) [
+        | inl a ↦ inl (sym (k.same c.twice vt s) ∙ a)
+        | inr b ↦ inr
+            (sym (k.same c.once vo s) ∙ b.0, (g.means s).0 b.1)
+      ]),
+      (λ h. same_of n.twice (inr refl) s ∙ (m.twice s).1 (elim h
+          [ inl a ↦ inl (k.same c.twice vt s ∙ a) | inr p ↦ inr (k.same c.once vo s ∙ p.0, (g.means s).1 p.1) ])),
     );
   }
 
@@ -92,10 +98,19 @@ two_more task facts i f s apart lt is = (there, back)
 
     back : HasTwo task (take i facts) s ⊎ (HasOne task (take i facts) s × Holds task s f) → HasTwo task (take (i + 1) facts) s
     back (inl (a, b, ca, cb, ne, ha, hb)) = (a, b, (more facts i f a lt is).1 (inl ca), (more facts i f b lt is).1 (inl cb), ne, ha, hb)
-    back (inr ((a, ca, ha), hf)) = (a, f, (more facts i f a lt is).1 (inl ca), (more facts i f f lt is).1 (inr refl), fresh_at facts i f a apart lt is ca, ha, hf)
+    back (inr ((a, ca, ha), hf)) = (
+      a,
+      f,
+      (more facts i f a lt is).1 (inl ca),
+      (more facts i f f lt is).1 (inr refl),
+      fresh_at facts i f a apart lt is ca,
+      ha,
+      hf,
+    )
 
 -- no fact is looked at yet
-pub counted_start : {Set : Type 0} (u w : View Set) (within : Set) (facts : List Fact) (c : Counts Set) → IsNewPair u w c → IsEmpty w c.once → IsEmpty w c.twice → Counted u w within (take 0 facts) c
+pub counted_start : {Set : Type 0} (u w : View Set) (within : Set) (facts : List Fact) (c : Counts Set)
+    → IsNewPair u w c → IsEmpty w c.once → IsEmpty w c.twice → Counted u w within (take 0 facts) c
 counted_start u w within facts c pair no_once no_twice = record {
   pair = pair;
   once = λ s. ((λ h. absurd (valid_clash h (no_once s))), (λ h. absurd (none facts h.1.0 h.1.1)));
@@ -152,13 +167,15 @@ two_same task facts each s once = (
 )
 
 -- of the two sets the first is given back
-module _ {Set : Type 0} (u w x : View Set) (within : Set) (facts each : List Fact) (c : Counts Set) (once : IsEachOnce facts each) (k : Counted u w within each c) (f : Forgot w x c.once) where
+module _ {Set : Type 0} (u w x : View Set) (within : Set) (facts each : List Fact) (c : Counts Set)
+    (once : IsEachOnce facts each) (k : Counted u w within each c) (f : Forgot w x c.once) where
   twice_valid : Valid w c.twice
   twice_valid = k.pair.trades.owned c.twice (inr refl)
 
   trade : Trades u x (λ a. ⊥) (λ a. a ≡ c.twice)
   trade =
-      let beside = trades_beside (λ (a : Set). a ≡ c.twice) (trades_forgot c.once f) (λ a e. (subst (λ (z : Set). Valid w z) (sym e) twice_valid, (λ o. k.pair.apart (sym o ∙ e)))) in
+      let beside = trades_beside (λ (a : Set). a ≡ c.twice) (trades_forgot c.once f)
+      (λ a e. (subst (λ (z : Set). Valid w z) (sym e) twice_valid, (λ o. k.pair.apart (sym o ∙ e)))) in
       trades_trans k.pair.trades (trades_as beside (λ a. ((λ h. elim h [ inl y ↦ inr y | inr z ↦ inl z ]), (λ h. elim h [ inl y ↦ inr y | inr z ↦ inl z ])))
       (λ a. ((λ h. elim h [ inl y ↦ y | inr z ↦ absurd z ]), (λ h. inl h))))
 

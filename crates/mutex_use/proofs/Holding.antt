@@ -30,13 +30,15 @@ together task xs ys a b = record {
 pub one_greatest : (task : TaskParts) (xs ys : List ℕ) → IsGreatest task xs → IsGreatest task ys → IsStrictlyIncreasing xs → IsStrictlyIncreasing ys → xs ≡ ys
 one_greatest task xs ys a b rx ry = rising_same xs ys rx ry (λ x. ((λ h. b.1 xs a.0 x h), (λ h. a.1 ys b.0 x h)))
 
-runs_keep : (task : TaskParts) (groups p : List ℕ) (s t : State) → Fits task → GroupsHold task groups → IsState task s → KeepsAll task s groups → Runs task s p t → KeepsAll task t groups
+runs_keep : (task : TaskParts) (groups p : List ℕ) (s t : State) → Fits task → GroupsHold task groups → IsState task s
+    → KeepsAll task s groups → Runs task s p t → KeepsAll task t groups
 unfolding Runs
 runs_keep task groups [] s t fits hold state keeps run = subst (λ (u : State). KeepsAll task u groups) run keeps
 runs_keep task groups (a ∷ p) s t fits hold state keeps (next, step, run) =
     runs_keep task groups p next t fits hold (step_state task s a next fits state step) (hold.steps s next a state keeps step) run
 
-pub passed_keep : (task : TaskParts) (groups p : List ℕ) (s t : State) → Fits task → GroupsHold task groups → IsInitial task s → Runs task s p t → KeepsAll task t groups
+pub passed_keep : (task : TaskParts) (groups p : List ℕ) (s t : State) → Fits task → GroupsHold task groups
+    → IsInitial task s → Runs task s p t → KeepsAll task t groups
 passed_keep task groups p s t fits hold i run = runs_keep task groups p s t fits hold i.state (hold.initial s i) run
 
 pub useful_keep : (task : TaskParts) (groups : List ℕ) (s : State) → Fits task → GroupsHold task groups → Useful (system_of task) s → IsKeeper task groups s

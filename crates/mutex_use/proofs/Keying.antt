@@ -50,11 +50,13 @@ seen_none facts keys each no_keys is = record {
     no_key : (g : Fact) → contains pair_cmp keys (key g) ≡ false
     no_key g = subst (λ (z : List (ℕ × ℕ)). contains pair_cmp (record { keys = z }) (key g) ≡ false) (sym no_keys) refl
 
-module _ (facts : List Fact) (i : ℕ) (f : Fact) (keys new : BTreeSet (ℕ × ℕ)) (each : List Fact) (lt : i < length facts) (is : get_or facts i f ≡ f) (s : Seen facts i keys each)
+module _ (facts : List Fact) (i : ℕ) (f : Fact) (keys new : BTreeSet (ℕ × ℕ)) (each : List Fact)
+    (lt : i < length facts) (is : get_or facts i f ≡ f) (s : Seen facts i keys each)
     (updates : (q : ℕ × ℕ) → contains pair_cmp new q ≡ cond (is_eq (pair_cmp (key f) q)) true (contains pair_cmp keys q)) where
   has_now : (g : Fact) → IsTrue (contains pair_cmp new (key g)) ↔ (Contains each g ⊎ (f ≡ g))
   has_now g =
-      let law = insert_law pair_cmp (key f) (key g) (contains pair_cmp keys (key g)) (contains pair_cmp new (key g)) exact (equal_at (key f)) (updates (key g)) in (
+      let law = insert_law pair_cmp (key f) (key g) (contains pair_cmp keys (key g)) (contains pair_cmp new (key g))
+      exact (equal_at (key f)) (updates (key g)) in (
         (λ h. elim (law.0 h) [ inl o ↦ inl ((s.seen g).0 o) | inr e ↦ inr (one_fact f g e) ]),
         (λ h. law.1 (elim h [ inl o ↦ inl ((s.seen g).1 o) | inr e ↦ inr (ap key e) ])),
       )

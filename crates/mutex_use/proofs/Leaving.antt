@@ -16,7 +16,9 @@ use Rattle.mutex_use.proofs.Lists.{rising_push}
 at_or_below : (k n : ℕ) → k < n + 1 → (k < n) ⊎ (k ≡ n)
 at_or_below k n lt = grind arith
 
-module _ (task : TaskParts) (From : State → Type 0) (groups left : List ℕ) (i x : ℕ) (rising : IsStrictlyIncreasing groups) (lt : i < length groups) (is : get_or groups i x ≡ x) (l : AreLeft task From groups i left) where
+module _ (task : TaskParts) (From : State → Type 0) (groups left : List ℕ) (i x : ℕ)
+    (rising : IsStrictlyIncreasing groups) (lt : i < length groups) (is : get_or groups i x ≡ x)
+    (l : AreLeft task From groups i left) where
   at_place : (k d : ℕ) → k ≡ i → get_or groups k d ≡ x
   at_place k d e = subst (λ (z : ℕ). get_or groups z d ≡ x) (sym e) (get_or_default groups i d x lt ∙ is)
 
@@ -34,7 +36,9 @@ module _ (task : TaskParts) (From : State → Type 0) (groups left : List ℕ) (
     ];
     below = λ g k d h le within. elim (Contains-push_cases left x g h) [
       | inl m ↦ l.below g k d m (omega (arith, le)) within
-      | inr e ↦ (let p : get_or groups i d < get_or groups k d = AllPairs-from_increasing groups rising i k d (omega (arith, le)) within in omega (arith, p, at_place i d refl, e))
+      | inr e ↦ (let p : get_or groups i d < get_or groups k d =
+          AllPairs-from_increasing groups rising i k d (omega (arith, le)) within in omega
+          (arith, p, at_place i d refl, e))
     ];
     few = omega (arith, l.few, length-append left (x ∷ []));
     all = λ e k d low. elim (at_or_below k i low) [
@@ -58,7 +62,9 @@ module _ (task : TaskParts) (From : State → Type 0) (groups left : List ℕ) (
   }
 
 -- what is left at the end is a round
-module _ (task : TaskParts) (From : State → Type 0) (groups left : List ℕ) (n : ℕ) (end : length groups ≤ n) (keepers : (s : State) → (From s → IsKeeper task groups s) × (IsKeeper task groups s → From s)) (l : AreLeft task From groups n left) where
+module _ (task : TaskParts) (From : State → Type 0) (groups left : List ℕ) (n : ℕ) (end : length groups ≤ n)
+    (keepers : (s : State) → (From s → IsKeeper task groups s) × (IsKeeper task groups s → From s))
+    (l : AreLeft task From groups n left) where
   stands_as : (g : ℕ) → StandsFrom task From g → Stands task groups g
   stands_as g st = record { base = st.base; initial = st.initial; steps = λ s t a state keeps step. st.steps s t a state ((keepers s).1 (state, keeps)) step }
 
@@ -76,7 +82,8 @@ module _ (task : TaskParts) (From : State → Type 0) (groups left : List ℕ) (
   left_all e g h = subst (Contains left) h.2 (l.all e h.0 g (omega (arith, h.1, end)))
 
 -- the same states, told by calls that keep the sets
-pub from_same : {Set : Type 0} (v w : View Set) (task : TaskParts) (kept : Set) (g : ℕ) → Kept v w → Valid v kept → StandsFrom task (Has w kept) g ↔ StandsFrom task (Has v kept) g
+pub from_same : {Set : Type 0} (v w : View Set) (task : TaskParts) (kept : Set) (g : ℕ) → Kept v w → Valid v kept
+    → StandsFrom task (Has w kept) g ↔ StandsFrom task (Has v kept) g
 from_same v w task kept g k valid = (
   (λ st. record { base = st.base; initial = st.initial; steps = λ s t a state from step. st.steps s t a state (k.same kept valid s ∙ from) step }),
   (λ st. record { base = st.base; initial = st.initial; steps = λ s t a state from step. st.steps s t a state (sym (k.same kept valid s) ∙ from) step }),

@@ -70,10 +70,12 @@ set_of xs = record { keys = xs }
 
 -- rising lists of the same numbers are one
 pub rising_same : (xs ys : List ℕ) → IsStrictlyIncreasing xs → IsStrictlyIncreasing ys → ((x : ℕ) → Contains xs x ↔ Contains ys x) → xs ≡ ys
-rising_same xs ys rx ry same = btree_set_from_contains nat_cmp_total (set_of xs) (set_of ys) (sorted_from_strictly_increasing xs rx) (sorted_from_strictly_increasing ys ry) (λ q. equal (contains nat_cmp (set_of xs) q) (contains nat_cmp (set_of ys) q) (
-  (λ h. (in_set ys q).1 ((same q).0 ((in_set xs q).0 h))),
-  (λ h. (in_set xs q).1 ((same q).1 ((in_set ys q).0 h))),
-)) exact_unsigned
+rising_same xs ys rx ry same = btree_set_from_contains nat_cmp_total (set_of xs) (set_of ys)
+    (sorted_from_strictly_increasing xs rx) (sorted_from_strictly_increasing ys ry)
+    (λ q. equal (contains nat_cmp (set_of xs) q) (contains nat_cmp (set_of ys) q) (
+      (λ h. (in_set ys q).1 ((same q).0 ((in_set xs q).0 h))),
+      (λ h. (in_set xs q).1 ((same q).1 ((in_set ys q).0 h))),
+    )) exact_unsigned
   where
     in_set : (zs : List ℕ) (q : ℕ) → IsTrue (contains nat_cmp (set_of zs) q) ↔ Contains zs q
     in_set zs q = btree_set_contains_iff nat_cmp_total exact_unsigned (set_of zs) q
@@ -96,8 +98,16 @@ in_list xs x = go (contains nat_cmp (set_of xs) x) (btree_set_contains_iff nat_c
 module _ (xs : List ℕ) (x : ℕ) (P : ℕ → Type 0) (found : (g : ℕ) → Contains xs g ↔ ((g < x) × P g)) where
   pub found_more : P x → (g : ℕ) → Contains (xs ++ x ∷ []) g ↔ ((g < x + 1) × P g)
   found_more p g = (
-    (λ h. elim (Contains-push_cases xs x g h) [ inl k ↦ (let f = (found g).0 k in let low = f.0 in (omega (arith, low), f.1)) | inr e ↦ (omega (arith, e), subst P e p) ]),
-    (λ h. elim (at_or_below g h.0) [ inl lt ↦ Contains-append_left xs (x ∷ []) g ((found g).1 (lt, h.1)) | inr e ↦ subst (Contains (xs ++ x ∷ [])) (sym e) (Contains-push xs x) ]),
+    (λ h. elim (Contains-push_cases xs x g h) [
+      | inl k ↦ (let f = (found g).0 k in let low = f.0 in (omega (arith, low), f.1))
+      | inr
+          e ↦ (omega (arith, e), subst P e p)
+    ]),
+    (λ h. elim (at_or_below g h.0) [
+      | inl lt ↦ Contains-append_left xs (x ∷ []) g ((found g).1 (lt, h.1))
+      | inr
+          e ↦ subst (Contains (xs ++ x ∷ [])) (sym e) (Contains-push xs x)
+    ]),
   )
     where
       at_or_below : (k : ℕ) → k < x + 1 → (k < x) ⊎ (k ≡ x)
@@ -114,7 +124,8 @@ module _ (xs : List ℕ) (x : ℕ) (P : ℕ → Type 0) (found : (g : ℕ) → C
 
 -- what is written back into a list of the same length
 pub write_back : {X : Type 0} (xs ys : List X) (n : ℕ) → length ys ≡ n → length xs ≡ length ys → take n (xs ++ drop (length xs) ys) ≡ xs
-write_back xs ys n e f = ap (λ (z : List _). take n (xs ++ z)) (drop_all (length xs) ys (omega (arith, f))) ∙ ap (take n) (append-nil xs) ∙ take_all n xs (omega (arith, e, f))
+write_back xs ys n e f = ap (λ (z : List _). take n (xs ++ z)) (drop_all (length xs) ys (omega (arith, f)))
+    ∙ ap (take n) (append-nil xs) ∙ take_all n xs (omega (arith, e, f))
 
 pub rising_none : (xs : List ℕ) → xs ≡ [] → IsStrictlyIncreasing xs
 rising_none xs is k lt = absurd (omega (arith, lt, ap length is))

@@ -21,7 +21,8 @@ use Rattle.mutex_use.proofs.Holding.{useful_keep}
 use Rattle.mutex_use.proofs.Stable.{at_most_one, not_two}
 
 -- a set is made from one that is given back
-module _ {Set : Type 0} {v w x y : View Set} {P Q : State → Type 0} {b r : Set} (k : Kept v w) (g : Gives v w P b) (j : Kept w x) (h : Gives w x Q r) (f : Forgot x y b) where
+module _ {Set : Type 0} {v w x y : View Set} {P Q : State → Type 0} {b r : Set} (k : Kept v w) (g : Gives v w P b)
+    (j : Kept w x) (h : Gives w x Q r) (f : Forgot x y b) where
   apart : r ≢ b
   apart e = valid_clash (subst (λ (z : Set). Valid w z) (sym e) g.valid) h.fresh
 
@@ -45,14 +46,16 @@ module _ {Set : Type 0} {v w x y : View Set} {P Q : State → Type 0} {b r : Set
     );
   }
 
-pub all_states : {Set : Type 0} (v w : View Set) (all : Set) → v.system ≡ system_of v.task → w.task ≡ v.task → Gives v w (Listed v.system.states) all → HasAll w all
+pub all_states : {Set : Type 0} (v w : View Set) (all : Set) → v.system ≡ system_of v.task → w.task ≡ v.task
+    → Gives v w (Listed v.system.states) all → HasAll w all
 all_states v w all is task g s = (
   (λ h. subst (λ (t : TaskParts). IsState t s) (sym task) ((states_law v.task s).1 (subst (λ (y : System). Listed y.states s) is ((g.means s).0 h)))),
   (λ h. (g.means s).1 (subst (λ (y : System). Listed y.states s) (sym is) ((states_law v.task s).0 (subst (λ (t : TaskParts). IsState t s) task h)))),
 )
 
 -- what a set has without those where two facts hold
-pub without_broken : {Set : Type 0} (v w : View Set) (all kept broken : Set) (facts : List Fact) → Kept v w → Valid v kept → ((s : State) → Has v kept s → Has v all s)
+pub without_broken : {Set : Type 0} (v w : View Set) (all kept broken : Set) (facts : List Fact) → Kept v w
+    → Valid v kept → ((s : State) → Has v kept s → Has v all s)
     → Gives v w (λ s. Has v all s × HasTwo v.task facts s) broken → (s : State) → Lacks w kept broken s ↔ (Has v kept s × HasAtMostOne v.task facts s)
 without_broken v w all kept broken facts k valid inside g s = (
   (λ h. let before = sym (k.same kept valid s) ∙ h.0 in (before, at_most_one v.task facts s (λ two. valid_clash ((g.means s).1 (inside s before, two)) h.1))),
@@ -66,13 +69,15 @@ without_broken v w all kept broken facts k valid inside g s = (
 )
 
 -- the groups so far, and one more
-keeper_more : (task : TaskParts) (groups : List ℕ) (i x : ℕ) (s : State) → i < length groups → get_or groups i x ≡ x → IsKeeper task (take (i + 1) groups) s ↔ (IsKeeper task (take i groups) s × Keeps task s x)
+keeper_more : (task : TaskParts) (groups : List ℕ) (i x : ℕ) (s : State) → i < length groups → get_or groups i x ≡ x
+    → IsKeeper task (take (i + 1) groups) s ↔ (IsKeeper task (take i groups) s × Keeps task s x)
 keeper_more task groups i x s lt is = (
   (λ h. ((h.0, (λ g m. h.1 g ((more groups i x g lt is).1 (inl m)))), h.1 x ((more groups i x x lt is).1 (inr refl)))),
   (λ h. (h.0.0, (λ g m. elim ((more groups i x g lt is).0 m) [ inl k ↦ h.0.1 g k | inr e ↦ subst (Keeps task s) e h.1 ]))),
 )
 
-module _ {Set : Type 0} (task : TaskParts) (v w x : View Set) (all kept left : Set) (groups : List ℕ) (i g : ℕ) (facts : List Fact) (lt : i < length groups) (is : get_or groups i g ≡ g) (here : facts ≡ group_at task g)
+module _ {Set : Type 0} (task : TaskParts) (v w x : View Set) (all kept left : Set) (groups : List ℕ) (i g : ℕ)
+    (facts : List Fact) (lt : i < length groups) (is : get_or groups i g ≡ g) (here : facts ≡ group_at task g)
     (same : w.task ≡ task) (means : (s : State) → Has w kept s ↔ IsKeeper task (take i groups) s) (n : Narrows w x kept (HasAtMostOne w.task facts) left) where
   as_group : (s : State) → HasAtMostOne w.task facts s ↔ Keeps task s g
   as_group s = (
@@ -88,7 +93,8 @@ module _ {Set : Type 0} (task : TaskParts) (v w x : View Set) (all kept left : S
       )
 
 -- no groups are looked at yet
-pub keeper_start : {Set : Type 0} (task : TaskParts) (w : View Set) (all : Set) (groups : List ℕ) → w.task ≡ task → HasAll w all → (s : State) → Has w all s ↔ IsKeeper task (take 0 groups) s
+pub keeper_start : {Set : Type 0} (task : TaskParts) (w : View Set) (all : Set) (groups : List ℕ) → w.task ≡ task
+    → HasAll w all → (s : State) → Has w all s ↔ IsKeeper task (take 0 groups) s
 keeper_start task w all groups is every s = (
   (λ h. (subst (λ (t : TaskParts). IsState t s) is ((every s).0 h), (λ g m. absurd (none groups g m)))),
   (λ h. (every s).1 (subst (λ (t : TaskParts). IsState t s) (sym is) h.0)),
@@ -111,21 +117,33 @@ gives_after {v = v} {r = r} z g = record {
 }
 
 -- each useful state is in a set of those that keep groups that hold
-pub useful_within : {Set : Type 0} (v w : View Set) (task : TaskParts) (a : Set) → v.system ≡ system_of v.task → v.task ≡ task → Fits task → KeepsHolding v w task a → (s : State) → Useful v.system s → Has w a s
+pub useful_within : {Set : Type 0} (v w : View Set) (task : TaskParts) (a : Set) → v.system ≡ system_of v.task
+    → v.task ≡ task → Fits task → KeepsHolding v w task a → (s : State) → Useful v.system s → Has w a s
 useful_within v w task a is same fits (groups, hold, g) s u =
     (g.means s).1 (useful_keep task groups s fits hold (subst (λ (y : System). Useful y s) (is ∙ ap system_of same) u))
 
 -- a new set takes the place of one that is given back
-pub swapped : {Set : Type 0} (v w x : View Set) {P : State → Type 0} (old new : Set) → Kept v w → Gives v w P new → Valid v old → Forgot w x old → Trades v x (λ a. a ≡ old) (λ a. a ≡ new)
+pub swapped : {Set : Type 0} (v w x : View Set) {P : State → Type 0} (old new : Set) → Kept v w → Gives v w P new
+    → Valid v old → Forgot w x old → Trades v x (λ a. a ≡ old) (λ a. a ≡ new)
 swapped {Set} v w x old new k g valid f =
     let first = trades_beside (λ (a : Set). a ≡ old) (trades_gives new k g) (λ a e. (subst (λ (z : Set). Valid v z) (sym e) valid, (λ o. o))) in
-    let second = trades_beside (λ (a : Set). a ≡ new) (trades_forgot old f) (λ a e. (subst (λ (z : Set). Valid w z) (sym e) g.valid, (λ o. valid_clash (subst (λ (z : Set). Valid v z) (sym o ∙ e) valid) g.fresh))) in
-    trades_as (trades_trans first (trades_as second (λ a. ((λ h. elim h [ inl y ↦ inr y | inr z ↦ inl z ]), (λ h. elim h [ inl y ↦ inr y | inr z ↦ inl z ]))) (λ a. ((λ h. h), (λ h. h)))))
+    let second = trades_beside (λ (a : Set). a ≡ new) (trades_forgot old f)
+    (λ a e. (
+      subst (λ (z : Set). Valid w z) (sym e) g.valid,
+      (λ o. valid_clash (subst (λ (z : Set). Valid v z) (sym o ∙ e) valid) g.fresh),
+    )) in
+    trades_as (trades_trans first
+    (trades_as second (λ a. (
+      (λ h. elim h [ inl y ↦ inr y | inr z ↦ inl z ]),
+      (λ h. elim h [ inl y ↦ inr y | inr z ↦ inl z ]),
+    )) (λ a. ((λ h. h), (λ h. h)))))
     (λ a. ((λ h. elim h [ inl y ↦ y | inr z ↦ absurd z ]), (λ h. inl h)))
     (λ a. ((λ h. elim h [ inl y ↦ y | inr z ↦ absurd z ]), (λ h. inl h)))
 
 -- so, and then the space may collect
-pub narrows_tidied : {Set : Type 0} (v w x y : View Set) {Q : State → Type 0} (old new r : Set) → Kept v w → Gives v w (λ s. Has v old s × Q s) new → Valid v old → Forgot w x old → r ≡ new → Stays x y → Narrows v y old Q r
+pub narrows_tidied : {Set : Type 0} (v w x y : View Set) {Q : State → Type 0} (old new r : Set) → Kept v w
+    → Gives v w (λ s. Has v old s × Q s) new → Valid v old → Forgot w x old → r ≡ new
+    → Stays x y → Narrows v y old Q r
 narrows_tidied {Set} v w x y {Q} old new r k g valid f e z = subst (λ (a : Set). Narrows v y old Q a) (sym e) (record {
   trades = stays_after (swapped v w x old new k g valid f) z;
   means = λ s.
@@ -137,4 +155,5 @@ narrows_tidied {Set} v w x y {Q} old new r k g valid f e z = subst (λ (a : Set)
 
 -- nothing new is made, and the old one is given back
 pub only_back : {Set : Type 0} (v w x : View Set) (old : Set) → Kept v w → NoMore v w → Valid v old → Forgot w x old → Trades v x (λ a. a ≡ old) (λ a. ⊥)
-only_back {Set} v w x old k n valid f = trades_trans (trades_stays v w (λ a. a ≡ old) (record { kept = k; only = n }) (λ a e. subst (λ (z : Set). Valid v z) (sym e) valid)) (trades_forgot old f)
+only_back {Set} v w x old k n valid f = trades_trans (trades_stays v w (λ a. a ≡ old) (record { kept = k; only = n })
+    (λ a e. subst (λ (z : Set). Valid v z) (sym e) valid)) (trades_forgot old f)

@@ -27,13 +27,28 @@ use Rattle.mutex_use.proofs.Lists.{more, none, whole}
 
 -- A key more.
 
-pub insert_law : {K : Type 0} (R : K → K → Ordering) (k q : K) (old new : Bool) → CmpEqualImpliesEq R → R k k ≡ Equal → new ≡ cond (is_eq (R k q)) true old → IsTrue new ↔ (IsTrue old ⊎ (k ≡ q))
+pub insert_law : {K : Type 0} (R : K → K → Ordering) (k q : K) (old new : Bool) → CmpEqualImpliesEq R → R k k ≡ Equal
+    → new ≡ cond (is_eq (R k q)) true old → IsTrue new ↔ (IsTrue old ⊎ (k ≡ q))
 insert_law R k q old new exact same is = go (R k q) refl is
   where
     go : (o : Ordering) → R k q ≡ o → new ≡ cond (is_eq o) true old → IsTrue new ↔ (IsTrue old ⊎ (k ≡ q))
     go Equal e n = ((λ h. inr (exact k q e)), (λ h. n))
-    go Less e n = ((λ h. inl (sym n ∙ h)), (λ h. elim h [ inl o ↦ n ∙ o | inr s ↦ (let f : R k q ≡ Equal = subst (λ (z : _). R k z ≡ Equal) s same in absurd (cc)) ]))
-    go Greater e n = ((λ h. inl (sym n ∙ h)), (λ h. elim h [ inl o ↦ n ∙ o | inr s ↦ (let f : R k q ≡ Equal = subst (λ (z : _). R k z ≡ Equal) s same in absurd (cc)) ]))
+    go Less e n = (
+      (λ h. inl (sym n ∙ h)),
+      (λ h. elim h [
+        | inl o ↦ n ∙ o
+        | inr s ↦ (let f : R k q ≡ Equal = subst (λ (z : _). R k z ≡ Equal) s
+            same in absurd (cc))
+      ]),
+    )
+    go Greater e n = (
+      (λ h. inl (sym n ∙ h)),
+      (λ h. elim h [
+        | inl o ↦ n ∙ o
+        | inr s ↦ (let f : R k q ≡ Equal = subst (λ (z : _). R k z ≡ Equal) s
+            same in absurd (cc))
+      ]),
+    )
 
 same_number : (n : ℕ) → nat_cmp n n ≡ Equal
 same_number n = sym (nat_cmp_is n n Equal refl)
@@ -42,7 +57,8 @@ pub number_law : (k q : ℕ) (old new : Bool) → new ≡ cond (is_eq (nat_cmp k
 number_law k q old new is = insert_law nat_cmp k q old new exact_unsigned (same_number k) is
 
 -- the numbers so far are in the set, and one more
-pub inserted_next : (numbers : List ℕ) (i x n : ℕ) (was old new : Bool) → i < length numbers → get_or numbers i x ≡ x → new ≡ cond (is_eq (nat_cmp x n)) true old
+pub inserted_next : (numbers : List ℕ) (i x n : ℕ) (was old new : Bool) → i < length numbers → get_or numbers i x ≡ x
+    → new ≡ cond (is_eq (nat_cmp x n)) true old
     → IsTrue old ↔ (IsTrue was ⊎ Contains (take i numbers) n) → IsTrue new ↔ (IsTrue was ⊎ Contains (take (i + 1) numbers) n)
 inserted_next numbers i x n was old new lt is step h =
     let law = number_law x n old new step in
@@ -52,17 +68,24 @@ inserted_next numbers i x n was old new lt is step h =
     )
 
 -- so the variables of the facts
-pub variable_next : (facts : List Fact) (i : ℕ) (f : Fact) (var : ℕ) (old new : Bool) → i < length facts → get_or facts i f ≡ f → new ≡ cond (is_eq (nat_cmp f.var var)) true old
-    → IsTrue old ↔ ((fact : Fact) × Contains (take i facts) fact × (fact.var ≡ var)) → IsTrue new ↔ ((fact : Fact) × Contains (take (i + 1) facts) fact × (fact.var ≡ var))
+pub variable_next : (facts : List Fact) (i : ℕ) (f : Fact) (var : ℕ) (old new : Bool) → i < length facts
+    → get_or facts i f ≡ f → new ≡ cond (is_eq (nat_cmp f.var var)) true old
+    → IsTrue old ↔ ((fact : Fact) × Contains (take i facts) fact × (fact.var ≡ var)) → IsTrue new
+    ↔ ((fact : Fact) × Contains (take (i + 1) facts) fact × (fact.var ≡ var))
 variable_next facts i f var old new lt is step h =
     let law = number_law f.var var old new step in (
-      (λ a. elim (law.0 a) [ inl o ↦ (let k = h.0 o in (k.0, (more facts i f k.0 lt is).1 (inl k.1), k.2)) | inr e ↦ (f, (more facts i f f lt is).1 (inr refl), e) ]),
+      (λ a. elim (law.0 a) [
+        | inl o ↦ (let k = h.0 o in (k.0, (more facts i f k.0 lt is).1 (inl k.1), k.2))
+        | inr
+            e ↦ (f, (more facts i f f lt is).1 (inr refl), e)
+      ]),
       (λ (fact, has, e). law.1 (elim ((more facts i f fact lt is).0 has) [ inl k ↦ inl (h.1 (fact, k, e)) | inr s ↦ inr (ap (λ (z : Fact). z.var) s ∙ e) ])),
     )
 
 -- An operator is noted for a variable.
 
-at_set : (w : List (List ℕ)) (u var : ℕ) (xs : List ℕ) → u < length w → (var ≡ u) × (writers_at (set w u xs) var ≡ xs) ⊎ (writers_at (set w u xs) var ≡ writers_at w var)
+at_set : (w : List (List ℕ)) (u var : ℕ) (xs : List ℕ) → u < length w → (var ≡ u) × (writers_at (set w u xs) var ≡ xs)
+    ⊎ (writers_at (set w u xs) var ≡ writers_at w var)
 at_set w u var xs lt = elim (cases_eq var u) [
   | inl e ↦ inl (e, subst (λ (z : ℕ). get_or (set w u xs) z [] ≡ xs) (sym e) (get_or-set_same w u xs [] lt))
   | inr ne ↦ inr (get_or-set_other w u var xs [] ne)
@@ -71,7 +94,8 @@ at_set w u var xs lt = elim (cases_eq var u) [
 module _ (w : List (List ℕ)) (u op : ℕ) (lt : u < length w) where
   kept_at : (var x : ℕ) → Contains (writers_at w var) x → Contains (writers_at (set w u (writers_at w u ++ op ∷ [])) var) x
   kept_at var x h = elim (at_set w u var (writers_at w u ++ op ∷ []) lt) [
-    | inl k ↦ subst (λ (z : List ℕ). Contains z x) (sym k.1) (Contains-append_left (writers_at w u) (op ∷ []) x (subst (λ (z : ℕ). Contains (writers_at w z) x) k.0 h))
+    | inl k ↦ subst (λ (z : List ℕ). Contains z x) (sym k.1)
+        (Contains-append_left (writers_at w u) (op ∷ []) x (subst (λ (z : ℕ). Contains (writers_at w z) x) k.0 h))
     | inr e ↦ subst (λ (z : List ℕ). Contains z x) (sym e) h
   ]
 
@@ -95,7 +119,8 @@ notes_start w op effects = record {
   only = λ var x h. inl h;
 }
 
-pub notes_next : (old w new : List (List ℕ)) (op : ℕ) (effects : List Effect) (i : ℕ) (e : Effect) → i < length effects → get_or effects i e ≡ e → e.var < length old
+pub notes_next : (old w new : List (List ℕ)) (op : ℕ) (effects : List Effect) (i : ℕ) (e : Effect)
+    → i < length effects → get_or effects i e ≡ e → e.var < length old
     → new ≡ set w e.var (writers_at w e.var ++ op ∷ []) → Notes old op (take i effects) w → Notes old op (take (i + 1) effects) new
 notes_next old w new op effects i e lt is within step n = subst (Notes old op (take (i + 1) effects)) (sym step) (record {
   each = length-set w e.var (writers_at w e.var ++ op ∷ []) ∙ n.each;
@@ -132,9 +157,13 @@ writers_start task w is = record {
 }
   where
     empty : (op var : ℕ) → Contains (writers_at (replicate (length task.variables) []) var) op → ⊥
-    empty op var h = (let e : writers_at (replicate (length task.variables) []) var ≡ [] = none_at (length task.variables) var in let k : Contains [] op = subst (λ (z : List ℕ). Contains z op) e h in absurd (omega (arith, k.1)))
+    empty op var h = (let e : writers_at (replicate (length task.variables) []) var ≡ [] =
+        none_at (length task.variables) var in
+        let k : Contains [] op = subst (λ (z : List ℕ). Contains z op) e h in absurd (omega (arith, k.1)))
 
-pub writers_next : (task : TaskParts) (i : ℕ) (operator : Operator) (w new : List (List ℕ)) → slice_get task.operators i ≡ Some operator → AreWriters task i w → Notes w i operator.effects new → AreWriters task (i + 1) new
+pub writers_next : (task : TaskParts) (i : ℕ) (operator : Operator) (w new : List (List ℕ))
+    → slice_get task.operators i ≡ Some operator → AreWriters task i w → Notes w i operator.effects new
+    → AreWriters task (i + 1) new
 writers_next task i operator w new at a n = record {
   each = n.each ∙ a.each;
   all = λ op var lt writes. elim (split op lt) [
@@ -149,15 +178,20 @@ writers_next task i operator w new at a n = record {
 
     last : (op var : ℕ) → op ≡ i → Writes task op var → Contains (writers_at new var) op
     last op var e (other, effect, is, has, on) =
-        let same : other ≡ operator = (let k : slice_get task.operators i ≡ Some other = subst (λ (z : ℕ). slice_get task.operators z ≡ Some other) e is in cc) in
+        let same : other ≡ operator = (let k : slice_get task.operators i ≡ Some other = subst
+        (λ (z : ℕ). slice_get task.operators z ≡ Some other) e is in cc) in
         let noted = n.noted effect (subst (λ (z : Operator). Contains z.effects effect) same has) in
         subst (λ (z : ℕ). Contains (writers_at new z) op) on (subst (λ (z : ℕ). Contains (writers_at new effect.var) z) (sym e) noted)
 
 -- the effects of an operator are on variables
-pub effects_within : (task : TaskParts) (i : ℕ) (operator : Operator) (n : ℕ) → Fits task → slice_get task.operators i ≡ Some operator → n ≡ length task.variables → All (λ (e : Effect). e.var < n) operator.effects
+pub effects_within : (task : TaskParts) (i : ℕ) (operator : Operator) (n : ℕ) → Fits task
+    → slice_get task.operators i ≡ Some operator → n ≡ length task.variables
+    → All (λ (e : Effect). e.var < n) operator.effects
 effects_within task i operator n fits at is k d lt =
     let each = (fits_operator task i operator fits at).each k d lt in
-    subst (λ (z : ℕ). (get_or operator.effects k d).var < z) (sym is) (within_some (λ (v : Variable). (v.layer ≡ None) × ((get_or operator.effects k d).post < range v)) task.variables (get_or operator.effects k d).var each.on)
+    subst (λ (z : ℕ). (get_or operator.effects k d).var < z) (sym is)
+    (within_some (λ (v : Variable). (v.layer ≡ None) × ((get_or operator.effects k d).post < range v))
+    task.variables (get_or operator.effects k d).var each.on)
 
 -- What touches a group.
 
@@ -167,17 +201,27 @@ pub touching_next : (variables : List ℕ) (writers : List (List ℕ)) (i var op
     → IsTrue old ↔ ((v : ℕ) × Contains (take i variables) v × Contains (writers_at writers v) op)
     → IsTrue new ↔ ((v : ℕ) × Contains (take (i + 1) variables) v × Contains (writers_at writers v) op)
 touching_next variables writers i var op old new lt is step h = (
-  (λ a. elim (step.0 a) [ inl o ↦ (let k = h.0 o in (k.0, (more variables i var k.0 lt is).1 (inl k.1), k.2)) | inr c ↦ (var, (more variables i var var lt is).1 (inr refl), c) ]),
-  (λ (v, has, c). step.1 (elim ((more variables i var v lt is).0 has) [ inl k ↦ inl (h.1 (v, k, c)) | inr s ↦ inr (subst (λ (z : ℕ). Contains (writers_at writers z) op) (sym s) c) ])),
+  (λ a. elim (step.0 a) [
+    | inl o ↦ (let k = h.0 o in (k.0, (more variables i var k.0 lt is).1 (inl k.1), k.2))
+    | inr
+        c ↦ (var, (more variables i var var lt is).1 (inr refl), c)
+  ]),
+  (λ (v, has, c). step.1 (elim ((more variables i var v lt is).0 has) [
+    | inl k ↦ inl (h.1 (v, k, c))
+    | inr s ↦ inr (subst (λ (z : ℕ). Contains (writers_at writers z) op) (sym s) c)
+  ])),
 )
 
-pub touching_end : (task : TaskParts) (facts : List Fact) (writers : List (List ℕ)) (variables operators : List ℕ) (keys : BTreeSet ℕ) → AreWriters task (length task.operators) writers
+pub touching_end : (task : TaskParts) (facts : List Fact) (writers : List (List ℕ)) (variables operators : List ℕ)
+    (keys : BTreeSet ℕ) → AreWriters task (length task.operators) writers
     → ((var : ℕ) → Contains variables var ↔ ((fact : Fact) × Contains facts fact × (fact.var ≡ var)))
     → ((op : ℕ) → IsTrue (contains nat_cmp keys op) ↔ ((v : ℕ) × Contains variables v × Contains (writers_at writers v) op))
     → operators ≡ keys.keys → HaveTouching task facts operators
 touching_end task facts writers variables operators keys a vars tells is = record {
   all = λ op lt (fact, has, writes). (listed op).0 ((tells op).1 (fact.var, (vars fact.var).1 (fact, has, refl), a.all op fact.var lt writes));
-  only = λ k d lt. (let h = (tells (get_or operators k d)).0 ((listed (get_or operators k d)).1 (k, lt, get_or_default operators k (get_or operators k d) d lt)) in a.only (get_or operators k d) h.0 h.2);
+  only = λ k d lt. (let h = (tells (get_or operators k d)).0
+      ((listed (get_or operators k d)).1 (k, lt, get_or_default operators k (get_or operators k d) d lt)) in a.only
+      (get_or operators k d) h.0 h.2);
 }
   where
     listed : (op : ℕ) → IsTrue (contains nat_cmp keys op) ↔ Contains operators op

@@ -39,14 +39,20 @@ not_two task facts s most (f, h, cf, ch, ne, hf, hh) = ne (most f h cf ch hf hh)
 
 -- The initial state and the operators that may break the group are looked at.
 
-module _ {Set : Type 0} (task : TaskParts) (v w : View Set) (g : ℕ) (facts : List Fact) (operators : List ℕ) (all kept broken : Set) (fits : Fits task) (is : v.task ≡ task) (system : v.system ≡ system_of v.task)
-    (same : facts ≡ group_at task g) (base : IsBaseGroup task g) (breaking : HaveBreaking task facts operators) (every : HasAll v all) (keeps : (s : State) → Has v kept s → IsState task s × Keeps task s g)
+module _ {Set : Type 0} (task : TaskParts) (v w : View Set) (g : ℕ) (facts : List Fact) (operators : List ℕ)
+    (all kept broken : Set) (fits : Fits task) (is : v.task ≡ task) (system : v.system ≡ system_of v.task)
+    (same : facts ≡ group_at task g) (base : IsBaseGroup task g) (breaking : HaveBreaking task facts operators)
+    (every : HasAll v all) (keeps : (s : State) → Has v kept s → IsState task s × Keeps task s g)
     (valid : Valid v kept) (k : Kept v w) (gives : Gives v w (λ s. Has v all s × HasTwo v.task facts s) broken) where
   system_is : w.system ≡ system_of task
   system_is = k.system ∙ system ∙ ap system_of is
 
   breaks : (s : State) → IsState task s → HasTwo task facts s → IsTrue (w.has broken s)
-  breaks s state two = (gives.means s).1 ((every s).1 (subst (λ (z : TaskParts). IsState z s) (sym is) state), subst (λ (z : TaskParts). HasTwo z facts s) (sym is) two)
+  breaks s state two = (gives.means s).1 (
+    (every s).1 (subst (λ (z : TaskParts). IsState z s) (sym is) state),
+    subst
+        (λ (z : TaskParts). HasTwo z facts s) (sym is) two,
+  )
 
   broken_has : (s : State) → IsTrue (w.has broken s) → HasTwo task facts s
   broken_has s h = subst (λ (z : TaskParts). HasTwo z facts s) is ((gives.means s).0 h).1
@@ -65,7 +71,9 @@ module _ {Set : Type 0} (task : TaskParts) (v w : View Set) (g : ℕ) (facts : L
 
   steps_from : IsSafe w operators kept broken → (s t : State) (a : ℕ) → IsState task s → Has v kept s → Step task s a t → Keeps task t g
   steps_from safe s t a state from step = elim (told (w.has broken t)) [
-    | inl m ↦ absurd (valid_clash m (safe.steps a s t (breaking.all a s t most step (λ k. not_two task facts t k (broken_has t m))) (k.same kept valid s ∙ from) leads))
+    | inl m ↦ absurd (valid_clash m
+        (safe.steps a s t (breaking.all a s t most step (λ k. not_two task facts t k (broken_has t m)))
+        (k.same kept valid s ∙ from) leads))
     | inr out ↦ outside t (step_state task s a t fits state step) out
   ]
     where
@@ -93,14 +101,16 @@ module _ {Set : Type 0} (task : TaskParts) (v w : View Set) (g : ℕ) (facts : L
 
 -- Nothing is reached, told by calls that keep the sets.
 
-pub same_preimage : {Set : Type 0} (v w : View Set) (op : ℕ) (to from : Set) (s : State) → Kept v w → Valid v to → Valid v from → Preimage w op to from s ↔ Preimage v op to from s
+pub same_preimage : {Set : Type 0} (v w : View Set) (op : ℕ) (to from : Set) (s : State) → Kept v w → Valid v to
+    → Valid v from → Preimage w op to from s ↔ Preimage v op to from s
 same_preimage v w op to from s k vt vf = (
   (λ h. (sym (k.same from vf s) ∙ h.0, (h.1.0, sym (k.same to vt h.1.0) ∙ h.1.1, subst (λ (y : System). Leads y op s h.1.0) k.system h.1.2))),
   (λ h. (k.same from vf s ∙ h.0, (h.1.0, k.same to vt h.1.0 ∙ h.1.1, subst (λ (y : System). Leads y op s h.1.0) (sym k.system) h.1.2))),
 )
 
 -- one operator more is tried
-pub none_more : {Set : Type 0} (v w : View Set) (operators : List ℕ) (i x : ℕ) (to from : Set) (r : Bool) → i < length operators → get_or operators i x ≡ x → Kept v w → Valid v to → Valid v from
+pub none_more : {Set : Type 0} (v w : View Set) (operators : List ℕ) (i x : ℕ) (to from : Set) (r : Bool)
+    → i < length operators → get_or operators i x ≡ x → Kept v w → Valid v to → Valid v from
     → IsTrue r ↔ ((s : State) × Preimage w x to from s) → r ≡ false → ((op : ℕ) (s : State) → Contains (take i operators) op → ¬ Preimage v op to from s)
     → (op : ℕ) (s : State) → Contains (take (i + 1) operators) op → ¬ Preimage v op to from s
 none_more v w operators i x to from r lt is k vt vf tells fails before op s has pre = elim ((more operators i x op lt is).0 has) [

@@ -23,7 +23,8 @@ range_front xs ys from to up le =
 range_back : {X : Type 0} (xs ys : List X) (from to : ℕ) → from ≡ length xs → to ≡ length (xs ++ ys) → slice_range (xs ++ ys) from to ≡ ys
 range_back {X} xs ys from to e f =
     let count : to - from ≡ length ys = (let g = length-append xs ys in omega (arith, e, f, g)) in
-    ap (λ (n : ℕ). take n (drop from (xs ++ ys))) count ∙ ap (λ (n : ℕ). take (length ys) (drop n (xs ++ ys))) e ∙ ap (take (length ys)) (drop-append_seam xs ys) ∙ take-length ys
+    ap (λ (n : ℕ). take n (drop from (xs ++ ys))) count ∙ ap (λ (n : ℕ). take (length ys) (drop n (xs ++ ys))) e
+    ∙ ap (take (length ys)) (drop-append_seam xs ys) ∙ take-length ys
 
 -- nothing is joined yet
 pub joined_none : (task : TaskParts) (o : Layout) (nodes : List Node) (costs : List ℕ) → AreJoined task o nodes costs 0 (0 ∷ []) []
@@ -84,7 +85,8 @@ module _ (task : TaskParts) (o : Layout) (nodes : List Node) (costs : List ℕ) 
   ]
 
   -- what holds of the relations of each cost holds still, and of those that are added
-  pub parts : (Right : ℕ → List Relation → Type 0) → ((i : ℕ) → i < n → Right i (slice_range joined (get_or starts i 0) (get_or starts (i + 1) 0))) → Right n part
+  pub parts : (Right : ℕ → List Relation → Type 0) → ((i : ℕ) → i < n → Right i
+      (slice_range joined (get_or starts i 0) (get_or starts (i + 1) 0))) → Right n part
       → (i : ℕ) → i < n + 1 → Right i (slice_range (joined ++ part) (get_or after i 0) (get_or after (i + 1) 0))
   parts Right each added i lt = elim (below_or_at i n lt) [
     | inl less ↦ (

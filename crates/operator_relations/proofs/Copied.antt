@@ -20,7 +20,9 @@ pub copies_none : (single : List Relation) → AreCopies single [] []
 copies_none single = record { count = refl; each = λ k d lt. absurd (omega (arith, lt)) }
 
 -- one copy more
-copies_and : (single members : List Relation) (operators : List ℕ) (n : ℕ) (r q : Relation) → n < length single → r ≡ get_or single n r → IsCopy r q → AreCopies single operators members → AreCopies single (operators ++ n ∷ []) (members ++ q ∷ [])
+copies_and : (single members : List Relation) (operators : List ℕ) (n : ℕ) (r q : Relation) → n < length single
+    → r ≡ get_or single n r → IsCopy r q → AreCopies single operators members
+    → AreCopies single (operators ++ n ∷ []) (members ++ q ∷ [])
 copies_and single members operators n r q less is copy old =
     let count = old.count in
     record {
@@ -33,7 +35,9 @@ copies_and single members operators n r q less is copy old =
             (subst (λ (x : Relation). IsCopy (get_or single (get_or operators k 0) d) x) (sym there) (old.each k d early)))
         | inr e ↦ (
             let at : get_or (operators ++ n ∷ []) k 0 ≡ n = ap (λ (j : ℕ). get_or (operators ++ n ∷ []) j 0) e ∙ get_or-append_seam operators n [] 0 in
-            let there : get_or (members ++ q ∷ []) k d ≡ q = ap (λ (j : ℕ). get_or (members ++ q ∷ []) j d) (e ∙ sym count) ∙ get_or-append_seam members q [] d in
+            let there : get_or (members ++ q ∷ []) k d ≡ q =
+            ap (λ (j : ℕ). get_or (members ++ q ∷ []) j d) (e ∙ sym count)
+            ∙ get_or-append_seam members q [] d in
             let own : r ≡ get_or single n d = is ∙ get_or_default single n r d less in
             subst (λ (x : ℕ). IsCopy (get_or single x d) (get_or (members ++ q ∷ []) k d)) (sym at)
             (subst (λ (x : Relation). IsCopy (get_or single n d) x) (sym there) (subst (λ (x : Relation). IsCopy x q) own copy)))
@@ -41,23 +45,28 @@ copies_and single members operators n r q less is copy old =
     }
 
 -- one operator more
-pub copies_more : (task : TaskParts) (cost n : ℕ) (single old new : List Relation) (r : Relation) → n < length single → r ≡ get_or single n r → TakesTurn task n cost r old new
+pub copies_more : (task : TaskParts) (cost n : ℕ) (single old new : List Relation) (r : Relation) → n < length single
+    → r ≡ get_or single n r → TakesTurn task n cost r old new
     → AreCopies single (operators_below task cost n) old → AreCopies single (operators_below task cost (n + 1)) new
 copies_more task cost n single old new r less is turn copies =
     let has : ℕ → Bool = λ op. cost_at task op == cost in
     elim turn [
       | inl (same, (q, copy, e)) ↦ subst (AreCopies single (operators_below task cost (n + 1))) (sym e)
-          (subst (λ (ops : List ℕ). AreCopies single ops (old ++ q ∷ [])) (kept_next has n (operators_below task cost n) refl (eq-eqb (cost_at task n) cost same))
+          (subst (λ (ops : List ℕ). AreCopies single ops (old ++ q ∷ []))
+          (kept_next has n (operators_below task cost n) refl (eq-eqb (cost_at task n) cost same))
           (copies_and single old (operators_below task cost n) n r q less is copy copies))
       | inr (other, e) ↦ subst (AreCopies single (operators_below task cost (n + 1))) (sym e)
           (subst (λ (ops : List ℕ). AreCopies single ops old) (left_next has n (operators_below task cost n) refl (ne_eqb (cost_at task n) cost other)) copies)
     ]
 
 -- copies are known where the operators' own relations are
-pub copies_are : (task : TaskParts) (o : Layout) (nodes : List Node) (single : List Relation) (cost : ℕ) (members : List Relation) → AreSingle task o nodes single → AreCopies single (operators_of task cost) members → All (IsRelation o nodes) members
+pub copies_are : (task : TaskParts) (o : Layout) (nodes : List Node) (single : List Relation) (cost : ℕ)
+    (members : List Relation) → AreSingle task o nodes single → AreCopies single (operators_of task cost) members
+    → All (IsRelation o nodes) members
 copies_are task o nodes single cost members is copies k d lt =
     let less : k < length (operators_of task cost) = (let e = copies.count in omega (arith, e, lt)) in
     let op = get_or (operators_of task cost) k 0 in
     let there = filter_below (λ op. cost_at task op == cost) (length task.operators) 0 k 0 less in
-    let copy = copy_has o nodes (λ s t. Step task s op t) (get_or single op d) (get_or members k d) (copies.each k d less) (is.each op d (omega (arith, there))) in
+    let copy = copy_has o nodes (λ s t. Step task s op t) (get_or single op d) (get_or members k d)
+    (copies.each k d less) (is.each op d (omega (arith, there))) in
     copy.relation

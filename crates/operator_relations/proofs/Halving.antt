@@ -11,7 +11,8 @@ use Rattle.operator_relations.specs.Gathered.{AreSingle}
 use Rattle.operator_relations.specs.Halves.{AreHalvedOf, AreHalved}
 use Rattle.operator_relations.proofs.Copied.{copies_are}
 
-module _ (o : Layout) (bound : ℕ) (old new : List Node) (ro : IsReduced old) (rn : IsReduced new) (k : Keeps old new) (task : TaskParts) (single : List Relation) (is : AreSingle task o old single) where
+module _ (o : Layout) (bound : ℕ) (old new : List Node) (ro : IsReduced old) (rn : IsReduced new) (k : Keeps old new)
+    (task : TaskParts) (single : List Relation) (is : AreSingle task o old single) where
   cost_kept : (cost : ℕ) (results : List Relation) → AreHalvedOf task o bound old single cost results → AreHalvedOf task o bound new single cost results
   cost_kept cost results h = record {
     members = h.members;
@@ -20,5 +21,7 @@ module _ (o : Layout) (bound : ℕ) (old new : List Node) (ro : IsReduced old) (
   }
 
   -- so those of several costs
-  pub halved_kept : (costs : List ℕ) (n : ℕ) (starts : List ℕ) (joined : List Relation) → AreHalved task o bound old single costs n starts joined → AreHalved task o bound new single costs n starts joined
+  pub halved_kept : (costs : List ℕ) (n : ℕ) (starts : List ℕ) (joined : List Relation)
+      → AreHalved task o bound old single costs n starts joined
+      → AreHalved task o bound new single costs n starts joined
   halved_kept costs n starts joined h i lt = cost_kept (get_or costs i 0) (slice_range joined (get_or starts i 0) (get_or starts (i + 1) 0)) (h i lt)

@@ -25,10 +25,12 @@ module _ (task : TaskParts) (o : Layout) (old new : List Node) where
       let number = is.operators in
       record {
         operators = omega (arith, count, number);
-        each = λ op d lt. has_moved old new o (λ s t. Step task s op t) (get_or rs op d) (get_or qs op d) (moved_at old new rs qs op d d m (omega (arith, number, lt))) (is.each op d lt);
+        each = λ op d lt. has_moved old new o (λ s t. Step task s op t) (get_or rs op d) (get_or qs op d)
+            (moved_at old new rs qs op d d m (omega (arith, number, lt))) (is.each op d lt);
       }
 
-  pub joined_moved : (costs : List ℕ) (n : ℕ) (starts : List ℕ) (rs qs : List Relation) → AllMoved old new rs qs → AreJoined task o old costs n starts rs → AreJoined task o new costs n starts qs
+  pub joined_moved : (costs : List ℕ) (n : ℕ) (starts : List ℕ) (rs qs : List Relation) → AllMoved old new rs qs
+      → AreJoined task o old costs n starts rs → AreJoined task o new costs n starts qs
   joined_moved costs n starts rs qs m is =
       let count = moved_length old new rs qs m in
       record {
@@ -37,11 +39,15 @@ module _ (task : TaskParts) (o : Layout) (old new : List Node) where
         within = λ i le. (let w = is.within i le in omega (arith, w, count));
         last = (let e = is.last in omega (arith, e, count));
         all = all_moved old new o rs qs m is.all;
-        each = λ i lt. have_moved old new o (StepOfCost task (get_or costs i 0)) (slice_range rs (get_or starts i 0) (get_or starts (i + 1) 0)) (slice_range qs (get_or starts i 0) (get_or starts (i + 1) 0))
+        each = λ i lt. have_moved old new o (StepOfCost task (get_or costs i 0))
+            (slice_range rs (get_or starts i 0) (get_or starts (i + 1) 0))
+            (slice_range qs (get_or starts i 0) (get_or starts (i + 1) 0))
             (moved_range old new (get_or starts i 0) (get_or starts (i + 1) 0) rs qs m) (is.each i lt);
       }
 
-  pub relations_moved : (r q : OperatorRelations) → AllMoved old new r.single.items q.single.items → AllMoved old new r.joined.items q.joined.items → AreRelationsOf task o old r → AreRelationsOf task o new (with_relations r q)
+  pub relations_moved : (r q : OperatorRelations) → AllMoved old new r.single.items q.single.items
+      → AllMoved old new r.joined.items q.joined.items → AreRelationsOf task o old r
+      → AreRelationsOf task o new (with_relations r q)
   relations_moved r q single joined is = record {
     order = is.order;
     costs = is.costs;
@@ -56,9 +62,11 @@ module _ (task : TaskParts) (o : Layout) (old new : List Node) where
   pub single_kept : (rs : List Relation) → Keeps old new → AreSingle task o old rs → AreSingle task o new rs
   single_kept rs k is = single_moved rs rs (kept_moved old new o rs k (single_relations rs is)) is
 
-  pub joined_kept : (costs : List ℕ) (n : ℕ) (starts : List ℕ) (rs : List Relation) → Keeps old new → AreJoined task o old costs n starts rs → AreJoined task o new costs n starts rs
+  pub joined_kept : (costs : List ℕ) (n : ℕ) (starts : List ℕ) (rs : List Relation) → Keeps old new
+      → AreJoined task o old costs n starts rs → AreJoined task o new costs n starts rs
   joined_kept costs n starts rs k is = joined_moved costs n starts rs rs (kept_moved old new o rs k is.all) is
 
   -- the table grew
   pub relations_kept : (r : OperatorRelations) → Keeps old new → AreRelationsOf task o old r → AreRelationsOf task o new r
-  relations_kept r k is = relations_moved r r (kept_moved old new o r.single.items k (single_relations r.single.items is.single)) (kept_moved old new o r.joined.items k is.joined.all) is
+  relations_kept r k is = relations_moved r r (kept_moved old new o r.single.items k
+      (single_relations r.single.items is.single)) (kept_moved old new o r.joined.items k is.joined.all) is

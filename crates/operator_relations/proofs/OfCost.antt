@@ -22,7 +22,8 @@ use Rattle.operator_relations.specs.Gathered.{AreSingle}
 use Rattle.operator_relations.specs.Copies.{IsCopy, TakesTurn}
 use Rattle.operator_relations.proofs.Moving.{has_kept}
 
-some_append : (o : Layout) (nodes : List Node) (s t : List ℕ) (xs ys : List Relation) → SomeLeads o nodes s t (xs ++ ys) ↔ (SomeLeads o nodes s t xs ⊎ SomeLeads o nodes s t ys)
+some_append : (o : Layout) (nodes : List Node) (s t : List ℕ) (xs ys : List Relation)
+    → SomeLeads o nodes s t (xs ++ ys) ↔ (SomeLeads o nodes s t xs ⊎ SomeLeads o nodes s t ys)
 some_append o nodes s t [] ys = ((λ h. inr h), (λ h. elim h [ inl x ↦ absurd x | inr y ↦ y ]))
 some_append o nodes s t (x ∷ xs) ys =
     let rest = some_append o nodes s t xs ys in (
@@ -40,9 +41,12 @@ copy_has o nodes R r q copy is = record {
   relation = record {
     known = (let k = is.relation.known in let e = copy.root in omega (arith, k, e));
     ready = copy.ready;
-    steps = subst (λ (x : ℕ). IsStepSet o q.touched.items (means nodes x)) (sym copy.root) (subst (λ (xs : List ℕ). IsStepSet o xs (means nodes r.root)) (sym copy.touched) is.relation.steps);
+    steps = subst (λ (x : ℕ). IsStepSet o q.touched.items (means nodes x)) (sym copy.root)
+        (subst (λ (xs : List ℕ). IsStepSet o xs (means nodes r.root)) (sym copy.touched) is.relation.steps);
   };
-  leads = λ s t ss st. subst (λ (x : ℕ). Connects o q.touched.items (means nodes x) s t ↔ R s t) (sym copy.root) (subst (λ (xs : List ℕ). Connects o xs (means nodes r.root) s t ↔ R s t) (sym copy.touched) (is.leads s t ss st));
+  leads = λ s t ss st. subst (λ (x : ℕ). Connects o q.touched.items (means nodes x) s t ↔ R s t) (sym copy.root)
+      (subst (λ (xs : List ℕ). Connects o xs (means nodes r.root) s t ↔ R s t)
+      (sym copy.touched) (is.leads s t ss st));
 }
 
 -- the steps of the operators before this number that have the cost
@@ -59,7 +63,8 @@ module _ (task : TaskParts) (o : Layout) (nodes : List Node) (cost : ℕ) where
     leads = λ s t ss st. ((λ h. absurd h), (λ (op, lt, c, step). absurd (omega (arith, lt))));
   }
 
-  below_copy : (n : ℕ) (r q : Relation) (old : List Relation) → HasSteps o nodes (λ s t. Step task s n t) r → cost_at task n ≡ cost → IsCopy r q → HaveSteps o nodes (StepBelow task cost n) old
+  below_copy : (n : ℕ) (r q : Relation) (old : List Relation) → HasSteps o nodes (λ s t. Step task s n t) r
+      → cost_at task n ≡ cost → IsCopy r q → HaveSteps o nodes (StepBelow task cost n) old
       → HaveSteps o nodes (StepBelow task cost (n + 1)) (old ++ q ∷ [])
   below_copy n r q old has same copy have =
       let one = copy_has o nodes (λ s t. Step task s n t) r q copy has in
@@ -80,7 +85,8 @@ module _ (task : TaskParts) (o : Layout) (nodes : List Node) (cost : ℕ) where
             );
       }
 
-  below_other : (n : ℕ) (old : List Relation) → cost_at task n ≢ cost → HaveSteps o nodes (StepBelow task cost n) old → HaveSteps o nodes (StepBelow task cost (n + 1)) old
+  below_other : (n : ℕ) (old : List Relation) → cost_at task n ≢ cost → HaveSteps o nodes (StepBelow task cost n) old
+      → HaveSteps o nodes (StepBelow task cost (n + 1)) old
   below_other n old other have = record {
     relations = have.relations;
     leads = λ s t ss st.
@@ -94,7 +100,9 @@ module _ (task : TaskParts) (o : Layout) (nodes : List Node) (cost : ℕ) where
   }
 
   -- one operator more
-  pub below_more : (n : ℕ) (r : Relation) (old new : List Relation) → HasSteps o nodes (λ s t. Step task s n t) r → TakesTurn task n cost r old new → HaveSteps o nodes (StepBelow task cost n) old → HaveSteps o nodes (StepBelow task cost (n + 1)) new
+  pub below_more : (n : ℕ) (r : Relation) (old new : List Relation) → HasSteps o nodes (λ s t. Step task s n t) r
+      → TakesTurn task n cost r old new → HaveSteps o nodes (StepBelow task cost n) old
+      → HaveSteps o nodes (StepBelow task cost (n + 1)) new
   below_more n r old new has turn have = elim turn [
     | inl (same, (q, copy, e)) ↦ subst (HaveSteps o nodes (StepBelow task cost (n + 1))) (sym e) (below_copy n r q old has same copy have)
     | inr (other, e) ↦ subst (HaveSteps o nodes (StepBelow task cost (n + 1))) (sym e) (below_other n old other have)
@@ -102,7 +110,9 @@ module _ (task : TaskParts) (o : Layout) (nodes : List Node) (cost : ℕ) where
 
 -- merged relations have the steps of their members
 module _ (o : Layout) (bound : ℕ) (start : List Node) where
-  merged_leads : (members : List Relation) (now : List Node) (results : List Relation) → Merges o bound start members now results → (s t : List ℕ) → IsStateOf o s → IsStateOf o t → SomeLeads o now s t results ↔ SomeLeads o start s t members
+  merged_leads : (members : List Relation) (now : List Node) (results : List Relation)
+      → Merges o bound start members now results → (s t : List ℕ) → IsStateOf o s → IsStateOf o t
+      → SomeLeads o now s t results ↔ SomeLeads o start s t members
   merged_leads _ now _ (none _) s t ss st = ((λ h. h), (λ h. h))
   merged_leads _ now _ (more members part results _ r before is) s t ss st =
       let rest = merged_leads members now results before s t ss st in
@@ -113,10 +123,13 @@ module _ (o : Layout) (bound : ℕ) (start : List Node) where
         (λ h. elim (whole.0 h) [ inl a ↦ after.1 (inl (rest.1 a)) | inr b ↦ after.1 (inr (inl (one.1 b))) ]),
       )
 
-  pub merged_have : (R : List ℕ → List ℕ → Type 0) (members : List Relation) (now : List Node) (results : List Relation) → Merges o bound start members now results → HaveSteps o start R members → HaveSteps o now R results
+  pub merged_have : (R : List ℕ → List ℕ → Type 0) (members : List Relation) (now : List Node)
+      (results : List Relation) → Merges o bound start members now results → HaveSteps o start R members
+      → HaveSteps o now R results
   merged_have R members now results merges have = record {
     relations = all_merged o bound start members now results merges;
-    leads = λ s t ss st. (let same = merged_leads members now results merges s t ss st in let was = have.leads s t ss st in ((λ h. was.0 (same.0 h)), (λ h. same.1 (was.1 h))));
+    leads = λ s t ss st. (let same = merged_leads members now results merges s t ss st in
+        let was = have.leads s t ss st in ((λ h. was.0 (same.0 h)), (λ h. same.1 (was.1 h))));
   }
 
 -- the operators' own relations, one more
@@ -124,7 +137,9 @@ pub record SingleBelow (task : TaskParts) (o : Layout) (nodes : List Node) (n : 
   pub count : length rs ≡ n
   pub each : (op : ℕ) (d : Relation) → op < n → HasSteps o nodes (λ s t. Step task s op t) (get_or rs op d)
 
-pub related : (task : TaskParts) (o : Layout) (nodes : List Node) (op : ℕ) (r : Relation) → r.root < length nodes → IsReady r → Relates o r.touched.items (λ s t. Step task s op t) (means nodes r.root) → HasSteps o nodes (λ s t. Step task s op t) r
+pub related : (task : TaskParts) (o : Layout) (nodes : List Node) (op : ℕ) (r : Relation) → r.root < length nodes
+    → IsReady r → Relates o r.touched.items (λ s t. Step task s op t) (means nodes r.root)
+    → HasSteps o nodes (λ s t. Step task s op t) r
 related task o nodes op r known ready relates = record {
   relation = record { known = known; ready = ready; steps = steps_of_relates o r.touched.items (λ s t. Step task s op t) (means nodes r.root) relates };
   leads = λ s t ss st. connects_related o r.touched.items (λ s t. Step task s op t) (means nodes r.root) s t relates ss st;
@@ -133,7 +148,9 @@ related task o nodes op r known ready relates = record {
 pub single_none : (task : TaskParts) (o : Layout) (nodes : List Node) → SingleBelow task o nodes 0 []
 single_none task o nodes = record { count = refl; each = λ op d lt. absurd (omega (arith, lt)) }
 
-pub single_more : (task : TaskParts) (o : Layout) (old new : List Node) (n : ℕ) (rs : List Relation) (r : Relation) → Keeps old new → SingleBelow task o old n rs → HasSteps o new (λ s t. Step task s n t) r → SingleBelow task o new (n + 1) (rs ++ r ∷ [])
+pub single_more : (task : TaskParts) (o : Layout) (old new : List Node) (n : ℕ) (rs : List Relation) (r : Relation)
+    → Keeps old new → SingleBelow task o old n rs → HasSteps o new (λ s t. Step task s n t) r
+    → SingleBelow task o new (n + 1) (rs ++ r ∷ [])
 single_more task o old new n rs r kept is has = record {
   count = (let e = length-append rs (r ∷ []) in let c = is.count in omega (arith, e, c));
   each = λ op d lt. elim (below_or_at op n lt) [
@@ -145,7 +162,8 @@ single_more task o old new n rs r kept is has = record {
   ];
 }
 
-pub single_all : (task : TaskParts) (o : Layout) (nodes : List Node) (n : ℕ) (rs : List Relation) → n ≡ length task.operators → SingleBelow task o nodes n rs → AreSingle task o nodes rs
+pub single_all : (task : TaskParts) (o : Layout) (nodes : List Node) (n : ℕ) (rs : List Relation)
+    → n ≡ length task.operators → SingleBelow task o nodes n rs → AreSingle task o nodes rs
 single_all task o nodes n rs e is = record {
   operators = is.count ∙ e;
   each = λ op d lt. is.each op d (omega (arith, e, lt));

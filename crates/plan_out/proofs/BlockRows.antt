@@ -34,7 +34,12 @@ plan_is i small = record {
   shaped = λ x. refl;
   reads = λ l x e. (tt, numbered_is (codes "; plan ") i l (cond_some (is_numbered (codes "; plan ") i l) tt x e).0);
   again = λ l x f h. (let t = numbered_again (codes "; plan ") i l h in rw t refl);
-  sample = (codes "; plan " ++ decimal i, tt, (let t = numbered_again (codes "; plan ") i (codes "; plan " ++ decimal i) (decimal i, decimal_number i small, refl) in rw t refl));
+  sample = (
+    codes "; plan " ++ decimal i,
+    tt,
+    (let t = numbered_again (codes "; plan ") i
+        (codes "; plan " ++ decimal i) (decimal i, decimal_number i small, refl) in rw t refl),
+  );
 }
 
 -- The operators.
@@ -52,19 +57,27 @@ spaced_is most [] p e = (let same : [] ≡ p = cc in subst (λ (z : List ℕ). A
 spaced_is zero (b ∷ bytes) p e = cc
 spaced_is (suc most) (b ∷ bytes) p e = by_operator (operator_then (b ∷ bytes)) refl (λ rest q. spaced_is most rest q) e
   where
-    by_others : (op : ℕ) (rest : List ℕ) → operator_then (b ∷ bytes) ≡ Some (op, rest) → (o : Option (List ℕ)) → ((q : List ℕ) → o ≡ Some q → All IsSmall q × AreSpaced q rest) → option_map (λ (q : List ℕ). op ∷ q) o ≡ Some p → All IsSmall p × AreSpaced p (b ∷ bytes)
+    by_others : (op : ℕ) (rest : List ℕ) → operator_then (b ∷ bytes) ≡ Some (op, rest) → (o : Option (List ℕ))
+        → ((q : List ℕ) → o ≡ Some q → All IsSmall q × AreSpaced q rest)
+        → option_map (λ (q : List ℕ). op ∷ q) o ≡ Some p → All IsSmall p × AreSpaced p (b ∷ bytes)
     by_others op rest t None ih e = cc
     by_others op rest t (Some q) ih e =
         let k = operator_is (b ∷ bytes) op rest t in
         let h = ih q refl in
         let same : op ∷ q ≡ p = cc in
-        subst (λ (z : List ℕ). All IsSmall z × AreSpaced z (b ∷ bytes)) same (All-cons IsSmall op q k.small h.0, (k.follows.digits, rest, k.follows.number, h.1, k.follows.whole))
+        subst (λ (z : List ℕ). All IsSmall z × AreSpaced z (b ∷ bytes)) same
+        (All-cons IsSmall op q k.small h.0, (k.follows.digits, rest, k.follows.number, h.1, k.follows.whole))
 
-    by_operator : (o : Option (ℕ × List ℕ)) → operator_then (b ∷ bytes) ≡ o → ((rest q : List ℕ) → spaced_in most rest ≡ Some q → All IsSmall q × AreSpaced q rest) → option_and_then (λ x. option_map (λ (q : List ℕ). x.0 ∷ q) (spaced_in most x.1)) o ≡ Some p → All IsSmall p × AreSpaced p (b ∷ bytes)
+    by_operator : (o : Option (ℕ × List ℕ)) → operator_then (b ∷ bytes) ≡ o
+        → ((rest q : List ℕ) → spaced_in most rest ≡ Some q → All IsSmall q × AreSpaced q rest)
+        → option_and_then (λ x. option_map (λ (q : List ℕ). x.0 ∷ q) (spaced_in most x.1)) o ≡ Some p
+        → All IsSmall p × AreSpaced p (b ∷ bytes)
     by_operator None t ih e = cc
     by_operator (Some (op, rest)) t ih e = by_others op rest t (spaced_in most rest) (ih rest) e
 
-one_more : (most : ℕ) (bytes : List ℕ) (op : ℕ) (rest p : List ℕ) → operator_then bytes ≡ Some (op, rest) → length bytes ≤ most → (length rest < length bytes → (less : ℕ) → length rest ≤ less → spaced_in less rest ≡ Some p) → 1 ≤ length bytes → spaced_in most bytes ≡ Some (op ∷ p)
+one_more : (most : ℕ) (bytes : List ℕ) (op : ℕ) (rest p : List ℕ) → operator_then bytes ≡ Some (op, rest)
+    → length bytes ≤ most → (length rest < length bytes → (less : ℕ) → length rest ≤ less
+    → spaced_in less rest ≡ Some p) → 1 ≤ length bytes → spaced_in most bytes ≡ Some (op ∷ p)
 unfolding spaced_in
 one_more most [] op rest p e enough others some = absurd (omega arith)
 one_more zero (b ∷ bytes) op rest p e enough others some = absurd (omega arith)
@@ -82,18 +95,29 @@ spaced_again [] bytes most h small enough = ap (λ (z : List ℕ). spaced_in mos
 spaced_again (op ∷ p) bytes most h small enough =
     let digits = h.0 in
     let rest = h.1 in
-    let e : operator_then bytes ≡ Some (op, rest) = ap operator_then h.4 ∙ operator_again digits op rest h.2 (no_digit p rest h.3) (All-head IsSmall op p small) in
-    one_more most bytes op rest p e enough (λ short less fits. spaced_again p rest less h.3 (All-tail IsSmall op p small) fits) (omega (arith, operator_shorter bytes op rest (sym e)))
+    let e : operator_then bytes ≡ Some (op, rest) = ap operator_then h.4
+    ∙ operator_again digits op rest h.2 (no_digit p rest h.3) (All-head IsSmall op p small) in
+    one_more most bytes op rest p e enough (λ short less fits. spaced_again p rest less h.3
+    (All-tail IsSmall op p small) fits) (omega (arith, operator_shorter bytes op rest (sym e)))
 
 pub ops_is : RowIs ops_in ops (All IsSmall)
 ops_is = record {
   shaped = λ x. refl;
   reads = λ l p e. by_after l p (after (codes "; ops") l) refl e;
-  again = λ l p f h. ap ops_in h.2 ∙ ap (λ (o : Option (List ℕ)). option_and_then (λ (spaced : List ℕ). spaced_in (length spaced) spaced) o) (after_again (codes "; ops") h.0) ∙ spaced_again p h.0 (length h.0) h.1 f (omega arith);
-  sample = (codes "; ops", [], ap (λ (o : Option (List ℕ)). option_and_then (λ (spaced : List ℕ). spaced_in (length spaced) spaced) o) (after_again (codes "; ops") []) ∙ nothing 0);
+  again = λ l p f h. ap ops_in h.2 ∙ ap (λ (o : Option (List ℕ)). option_and_then
+      (λ (spaced : List ℕ). spaced_in (length spaced) spaced) o) (after_again (codes "; ops") h.0)
+      ∙ spaced_again p h.0 (length h.0) h.1 f (omega arith);
+  sample = (
+    codes "; ops",
+    [],
+    ap (λ (o : Option (List ℕ)). option_and_then
+        (λ (spaced : List ℕ). spaced_in (length spaced) spaced) o) (after_again (codes "; ops") []) ∙ nothing 0,
+  );
 }
   where
-    by_after : (l p : List ℕ) (o : Option (List ℕ)) → after (codes "; ops") l ≡ o → option_and_then (λ (spaced : List ℕ). spaced_in (length spaced) spaced) o ≡ Some p → All IsSmall p × IsSpelled (ops p) l
+    by_after : (l p : List ℕ) (o : Option (List ℕ)) → after (codes "; ops") l ≡ o
+        → option_and_then (λ (spaced : List ℕ). spaced_in (length spaced) spaced) o ≡ Some p
+        → All IsSmall p × IsSpelled (ops p) l
     by_after l p None t e = cc
     by_after l p (Some spaced) t e = (let h = spaced_is (length spaced) spaced p e in (h.0, (spaced, h.1, after_is (codes "; ops") l spaced t)))
 
@@ -119,7 +143,8 @@ name_between l name e =
     long : (n : ℕ) → nat_le 2 n ≡ true → 2 ≤ n
     long n e = grind (arith, nat_tests)
 
-    parted : (l : List ℕ) → 2 ≤ length l → get_or l 0 0 ≡ 40 → get_or l (length l - 1) 0 ≡ 41 → take (length l - 2) (drop 1 l) ≡ name → l ≡ 40 ∷ (name ++ 41 ∷ [])
+    parted : (l : List ℕ) → 2 ≤ length l → get_or l 0 0 ≡ 40 → get_or l (length l - 1) 0 ≡ 41
+        → take (length l - 2) (drop 1 l) ≡ name → l ≡ 40 ∷ (name ++ 41 ∷ [])
     parted [] long first last is = absurd (omega arith)
     parted (b ∷ []) long first last is = absurd (omega arith)
     parted (b ∷ c ∷ bytes) long first last is =
@@ -128,7 +153,9 @@ name_between l name e =
         let m : length (b ∷ rest) - 1 ≡ suc (length rest - 1) = omega arith in
         let front : take (length rest - 1) rest ≡ name = ap (λ (k : ℕ). take k rest) (sym n) ∙ is in
         let end : get_or rest (length rest - 1) 0 ≡ 41 = ap (λ (k : ℕ). get_or (b ∷ rest) k 0) (sym m) ∙ last in
-        let tail : rest ≡ name ++ 41 ∷ [] = last_apart rest (omega arith) ∙ ap (λ (z : List ℕ). z ++ get_or rest (length rest - 1) 0 ∷ []) front ∙ ap (λ (z : ℕ). name ++ z ∷ []) end in
+        let tail : rest ≡ name ++ 41 ∷ [] = last_apart rest (omega arith)
+        ∙ ap (λ (z : List ℕ). z ++ get_or rest (length rest - 1) 0 ∷ []) front
+        ∙ ap (λ (z : ℕ). name ++ z ∷ []) end in
         ap (λ (z : ℕ). z ∷ rest) first ∙ ap (λ (z : List ℕ). 40 ∷ z) tail
 
 between_name : (name : List ℕ) → step_in (40 ∷ (name ++ 41 ∷ [])) ≡ Some name
@@ -156,16 +183,27 @@ step_is = record {
 cost_read : (l : List ℕ) (x : ℕ × Bool) → cost_in l ≡ Some x → IsSpelled (cost x.0 x.1) l
 cost_read l x e = by_number (number_then (codes "; cost = ") l) refl e
   where
-    by_word : (c : ℕ) (word : List ℕ) → number_then (codes "; cost = ") l ≡ Some (c, word) → (t u : Bool) → bytes_eq word (codes " (unit cost)") ≡ t → bytes_eq word (codes " (general cost)") ≡ u
+    by_word : (c : ℕ) (word : List ℕ) → number_then (codes "; cost = ") l ≡ Some (c, word) → (t u : Bool)
+        → bytes_eq word (codes " (unit cost)") ≡ t → bytes_eq word (codes " (general cost)") ≡ u
         → cond t (Some (c, true)) (cond u (Some (c, false)) None) ≡ Some x → IsSpelled (cost x.0 x.1) l
     by_word c word n true u t1 t2 e =
         let same : (c, true) ≡ x = cc in
         let f = number_follows (codes "; cost = ") l c word n in
-        subst (λ (z : ℕ × Bool). IsSpelled (cost z.0 z.1) l) same (f.digits, f.number, f.whole ∙ ap (λ (z : List ℕ). codes "; cost = " ++ f.digits ++ z) ((bytes_eq-Decides word (codes " (unit cost)")).0 t1))
+        subst (λ (z : ℕ × Bool). IsSpelled (cost z.0 z.1) l) same (
+          f.digits,
+          f.number,
+          f.whole ∙ ap (λ (z : List ℕ). codes "; cost = " ++ f.digits ++ z)
+              ((bytes_eq-Decides word (codes " (unit cost)")).0 t1),
+        )
     by_word c word n false true t1 t2 e =
         let same : (c, false) ≡ x = cc in
         let f = number_follows (codes "; cost = ") l c word n in
-        subst (λ (z : ℕ × Bool). IsSpelled (cost z.0 z.1) l) same (f.digits, f.number, f.whole ∙ ap (λ (z : List ℕ). codes "; cost = " ++ f.digits ++ z) ((bytes_eq-Decides word (codes " (general cost)")).0 t2))
+        subst (λ (z : ℕ × Bool). IsSpelled (cost z.0 z.1) l) same (
+          f.digits,
+          f.number,
+          f.whole ∙ ap (λ (z : List ℕ). codes "; cost = " ++ f.digits ++ z)
+              ((bytes_eq-Decides word (codes " (general cost)")).0 t2),
+        )
     by_word c word n false false t1 t2 e = cc
 
     by_number : (o : Option (ℕ × List ℕ)) → number_then (codes "; cost = ") l ≡ o → option_and_then with_word o ≡ Some x → IsSpelled (cost x.0 x.1) l
@@ -174,7 +212,8 @@ cost_read l x e = by_number (number_then (codes "; cost = ") l) refl e
 
 cost_again : (l : List ℕ) (c : ℕ) (unit : Bool) → IsSpelled (cost c unit) l → cost_in l ≡ Some (c, unit)
 cost_again l c unit (digits, is, whole) =
-    ap cost_in whole ∙ ap (λ (o : Option (ℕ × List ℕ)). option_and_then with_word o) (follows_number (codes "; cost = ") digits c (cost_word unit) is (no_digit_first unit)) ∙ by_unit unit
+    ap cost_in whole ∙ ap (λ (o : Option (ℕ × List ℕ)). option_and_then with_word o)
+    (follows_number (codes "; cost = ") digits c (cost_word unit) is (no_digit_first unit)) ∙ by_unit unit
   where
     no_digit_first : (unit : Bool) → NoDigit (cost_word unit)
     no_digit_first true = refl

@@ -31,7 +31,9 @@ pub none_more : (task : TaskParts) (mode : Mode) (blocks : List ReadBlock) (i : 
     → NoneBelow task mode blocks i → Passes task mode (take i blocks) b → NoneBelow task mode blocks (i + 1)
 none_more task mode blocks i b fits lt is none passes k why below fails = elim (cases_eq k i) [
   | inl e ↦ (let at : Fails task mode blocks i why = subst (λ (n : ℕ). Fails task mode blocks n why) e fails in
-      let one : IsFirstReason task mode (take i blocks) b why = subst (λ (o : Option ReadBlock). IsSomeAnd o (λ x. IsFirstReason task mode (take i blocks) x why)) (here blocks i b lt is) at in
+      let one : IsFirstReason task mode (take i blocks) b why =
+      subst (λ (o : Option ReadBlock). IsSomeAnd o (λ x. IsFirstReason task mode (take i blocks) x why))
+      (here blocks i b lt is) at in
       passes_clear task mode (take i blocks) b fits passes why one.0)
   | inr ne ↦ none k why (omega (arith, below, ne)) fails
 ]
@@ -40,10 +42,12 @@ pub found_bad : (task : TaskParts) (mode : Mode) (blocks : List ReadBlock) (i : 
     → NoneBelow task mode blocks i → IsFirstReason task mode (take i blocks) b why → Finds task mode blocks (Bad (i + 1) why)
 found_bad task mode blocks i b why lt is none reason =
     let place : i ≡ i + 1 - 1 = omega arith in
-    let at : Fails task mode blocks i why = subst (λ (o : Option ReadBlock). IsSomeAnd o (λ x. IsFirstReason task mode (take i blocks) x why)) (sym (here blocks i b lt is)) reason in
+    let at : Fails task mode blocks i why = subst (λ (o : Option ReadBlock). IsSomeAnd o
+    (λ x. IsFirstReason task mode (take i blocks) x why)) (sym (here blocks i b lt is)) reason in
     (omega arith, subst (λ (n : ℕ). Fails task mode blocks n why) place at, (λ k other below fails. none k other (omega (arith, below)) fails))
 
-pub found_good : (task : TaskParts) (mode : Mode) (blocks : List ReadBlock) (i : ℕ) → length blocks ≤ i → NoneBelow task mode blocks i → Finds task mode blocks (Good (length blocks))
+pub found_good : (task : TaskParts) (mode : Mode) (blocks : List ReadBlock) (i : ℕ) → length blocks ≤ i
+    → NoneBelow task mode blocks i → Finds task mode blocks (Good (length blocks))
 found_good task mode blocks i all none = (refl, good)
   where
     good : (k : ℕ) (why : Why) → ¬ Fails task mode blocks k why

@@ -61,9 +61,13 @@ layer_is (Some v) layer = by v.layer
 
 raises : (task : TaskParts) (layer : ℕ) (values : List ℕ) (rule : Rule) → Either (Raises task layer values rule)
 raises task layer values rule =
-    by (cases_eq rule.new (get_or task.initial rule.var 0)) (layer_is (slice_get task.variables rule.var) layer) (cases_eq (get_or values rule.var 0) (get_or task.initial rule.var 0)) (each (HasValue values) (has_value values) rule.conds)
+    by (cases_eq rule.new (get_or task.initial rule.var 0)) (layer_is (slice_get task.variables rule.var) layer)
+    (cases_eq (get_or values rule.var 0) (get_or task.initial rule.var 0))
+    (each (HasValue values) (has_value values) rule.conds)
   where
-    by : Either (rule.new ≡ get_or task.initial rule.var 0) → Either (HasLayer task rule.var layer) → Either (get_or values rule.var 0 ≡ get_or task.initial rule.var 0) → Either (All (HasValue values) rule.conds) → Either (Raises task layer values rule)
+    by : Either (rule.new ≡ get_or task.initial rule.var 0) → Either (HasLayer task rule.var layer)
+        → Either (get_or values rule.var 0 ≡ get_or task.initial rule.var 0)
+        → Either (All (HasValue values) rule.conds) → Either (Raises task layer values rule)
     by (inl e) on low conds = inr (λ r. r.opened.own.counts e)
     by (inr ne) (inr n) low conds = inr (λ r. n r.opened.own.on)
     by (inr ne) (inl on) (inr n) conds = inr (λ r. n r.opened.unraised)
@@ -71,18 +75,24 @@ raises task layer values rule =
     by (inr ne) (inl on) (inl low) (inl conds) = inl (record { opened = record { own = record { counts = ne; on = on }; unraised = low }; conds = conds })
 
 -- one that raises its variable, or none
-raising : (task : TaskParts) (layer : ℕ) (values : List ℕ) (rules : List Rule) → ((rule : Rule) × Contains rules rule × Raises task layer values rule) ⊎ All (λ rule. ¬ Raises task layer values rule) rules
+raising : (task : TaskParts) (layer : ℕ) (values : List ℕ) (rules : List Rule)
+    → ((rule : Rule) × Contains rules rule × Raises task layer values rule)
+    ⊎ All (λ rule. ¬ Raises task layer values rule) rules
 raising task layer values [] = inr (All-nil (λ rule. ¬ Raises task layer values rule))
 raising task layer values (rule ∷ rules) = choose (raises task layer values rule) (raising task layer values rules)
   where
-    choose : Either (Raises task layer values rule) → (((other : Rule) × Contains rules other × Raises task layer values other) ⊎ All (λ rule. ¬ Raises task layer values rule) rules)
+    choose : Either (Raises task layer values rule)
+        → (((other : Rule) × Contains rules other × Raises task layer values other)
+        ⊎ All (λ rule. ¬ Raises task layer values rule) rules)
         → ((other : Rule) × Contains (rule ∷ rules) other × Raises task layer values other) ⊎ All (λ rule. ¬ Raises task layer values rule) (rule ∷ rules)
     choose (inl r) rest = inl (rule, (0, omega arith, refl), r)
     choose (inr n) (inl (other, at, r)) = inl (other, (suc at.0, (let lt = at.1 in omega arith), at.2), r)
     choose (inr n) (inr none) = inr (All-cons (λ rule. ¬ Raises task layer values rule) rule rules n none)
 
 -- the values after a rule that raises its variable
-falls : (task : TaskParts) (layer : ℕ) (values : List ℕ) (rule : Rule) → Fits task → length values ≡ length task.variables → Raises task layer values rule → at_default task.initial (set values rule.var rule.new) < at_default task.initial values
+falls : (task : TaskParts) (layer : ℕ) (values : List ℕ) (rule : Rule) → Fits task
+    → length values ≡ length task.variables → Raises task layer values rule
+    → at_default task.initial (set values rule.var rule.new) < at_default task.initial values
 falls task layer values rule fits size r =
     let lt : rule.var < length task.variables = within_some (λ v. v.layer ≡ Some layer) task.variables rule.var r.opened.own.on in
     let initial : length task.initial ≡ length task.variables = fits.initial in
@@ -94,10 +104,12 @@ record Grown (task : TaskParts) (layer : ℕ) (values : List ℕ) : Type 0 where
   stuck : IsStuck task layer new
 
 -- rules of a layer are used until none is left
-grown : (task : TaskParts) (layer : ℕ) → Fits task → (most : ℕ) (values : List ℕ) → at_default task.initial values ≤ most → length values ≡ length task.variables → Grown task layer values
+grown : (task : TaskParts) (layer : ℕ) → Fits task → (most : ℕ) (values : List ℕ)
+    → at_default task.initial values ≤ most → length values ≡ length task.variables → Grown task layer values
 grown task layer fits zero values enough size = by_rule (raising task layer values task.rules)
   where
-    by_rule : (((rule : Rule) × Contains task.rules rule × Raises task layer values rule) ⊎ All (λ rule. ¬ Raises task layer values rule) task.rules) → Grown task layer values
+    by_rule : (((rule : Rule) × Contains task.rules rule × Raises task layer values rule)
+        ⊎ All (λ rule. ¬ Raises task layer values rule) task.rules) → Grown task layer values
     by_rule (inl h) = absurd (omega (arith, falls task layer values h.0 fits size h.2))
     by_rule (inr none) = record { new = values; grows = done values; stuck = none }
 grown task layer fits (suc most) values enough size = by_rule (raising task layer values task.rules) (λ more few same. grown task layer fits most more few same)
@@ -162,20 +174,35 @@ record Written (values : List ℕ) (effects : List Effect) : Type 0 where
   after : (var : ℕ) → ValueAfter (FiresBy values) effects var (get_or values var 0) (get_or next var 0)
 
 -- the effects that are left, after those that are done
-rest_written : (values : List ℕ) (before rest : List Effect) (next : List ℕ) → length next ≡ length values → ((var : ℕ) → ValueAfter (FiresBy values) before var (get_or values var 0) (get_or next var 0)) → All (IsOn (length values)) rest → Written values (before ++ rest)
-rest_written values before [] next size h on = record { next = next; size = size; after = λ var. subst (λ (z : List Effect). ValueAfter (FiresBy values) z var (get_or values var 0) (get_or next var 0)) (sym (append-nil before)) (h var) }
+rest_written : (values : List ℕ) (before rest : List Effect) (next : List ℕ) → length next ≡ length values
+    → ((var : ℕ) → ValueAfter (FiresBy values) before var (get_or values var 0) (get_or next var 0))
+    → All (IsOn (length values)) rest → Written values (before ++ rest)
+rest_written values before [] next size h on = record {
+  next = next;
+  size = size;
+  after = λ var. subst
+      (λ (z : List Effect). ValueAfter (FiresBy values) z var (get_or values var 0) (get_or next var 0))
+      (sym (append-nil before)) (h var);
+}
 rest_written values before (e ∷ rest) next size h on =
-    subst (Written values) (append_assoc before (e ∷ []) rest) (by (each (HasValue values) (has_value values) e.conds) (λ more same k. rest_written values (before ++ e ∷ []) rest more same k (All-tail (IsOn (length values)) e rest on)))
+    subst (Written values) (append_assoc before (e ∷ []) rest)
+    (by (each (HasValue values) (has_value values) e.conds)
+    (λ more same k. rest_written values (before ++ e ∷ []) rest more same k
+    (All-tail (IsOn (length values)) e rest on)))
   where
-    by : Either (FiresBy values e) → ((more : List ℕ) → length more ≡ length values → ((var : ℕ) → ValueAfter (FiresBy values) (before ++ e ∷ []) var (get_or values var 0) (get_or more var 0)) → Written values ((before ++ e ∷ []) ++ rest)) → Written values ((before ++ e ∷ []) ++ rest)
+    by : Either (FiresBy values e) → ((more : List ℕ) → length more ≡ length values
+        → ((var : ℕ) → ValueAfter (FiresBy values) (before ++ e ∷ []) var (get_or values var 0) (get_or more var 0))
+        → Written values ((before ++ e ∷ []) ++ rest)) → Written values ((before ++ e ∷ []) ++ rest)
     by (inl fires) go =
         let here = All-head (IsOn (length values)) e rest on in
         let lt : e.var < length next = (let var : e.var < length values = here.var in omega arith) in
-        go (set next e.var e.post) (length-set next e.var e.post ∙ size) (λ var. written (FiresBy values) before e var (get_or values var 0) next fires lt (h var))
+        go (set next e.var e.post) (length-set next e.var e.post ∙ size)
+        (λ var. written (FiresBy values) before e var (get_or values var 0) next fires lt (h var))
     by (inr idle) go = go next size (λ var. unchanged (FiresBy values) before e var (get_or values var 0) (get_or next var 0) (λ _ f. idle f) (h var))
 
 -- an operator that applies leads to a state
-leads : (task : TaskParts) (s values : List ℕ) (a : ℕ) → Fits task → IsState task s → Valued task s values → Applies task s a → a < length task.operators → (t : List ℕ) × Step task s a t
+leads : (task : TaskParts) (s values : List ℕ) (a : ℕ) → Fits task → IsState task s → Valued task s values
+    → Applies task s a → a < length task.operators → (t : List ℕ) × Step task s a t
 leads task s values a fits state v h lt =
     let k = known task.operators a lt in
     let fit = fits_operator task a k.0 fits k.1 in
@@ -194,13 +221,16 @@ comes task [] s fits state ops = inl (s, refl)
 comes task (a ∷ p) s fits state ops =
     let v = all_values task s fits in
     let lt = All-head (λ op. op < length task.operators) a p ops in
-    by (applies task s v.0 a fits v.1 lt) (λ h. leads task s v.0 a fits state v.1 h lt) (λ next step. comes task p next fits (step_state task s a next fits state step) (All-tail (λ op. op < length task.operators) a p ops))
+    by (applies task s v.0 a fits v.1 lt) (λ h. leads task s v.0 a fits state v.1 h lt)
+    (λ next step. comes task p next fits (step_state task s a next fits state step)
+    (All-tail (λ op. op < length task.operators) a p ops))
   where
     on : (next : List ℕ) → Step task s a next → Comes task next p → Comes task s (a ∷ p)
     on next step (inl (t, runs)) = inl (t, (next, step, runs))
     on next step (inr (i, t, lt, runs, stuck)) = inr (suc i, t, omega arith, (next, step, runs), stuck)
 
-    by : Either (Applies task s a) → (Applies task s a → (t : List ℕ) × Step task s a t) → ((next : List ℕ) → Step task s a next → Comes task next p) → Comes task s (a ∷ p)
+    by : Either (Applies task s a) → (Applies task s a → (t : List ℕ) × Step task s a t)
+        → ((next : List ℕ) → Step task s a next → Comes task next p) → Comes task s (a ∷ p)
     by (inr n) go ih = inr (0, s, omega arith, refl, n)
     by (inl h) go ih = (let step = go h in on step.0 step.1 (ih step.0 step.1))
 
@@ -220,10 +250,24 @@ one_of_three task p fits ops =
     let initial = start_law task fits in
     by s initial (comes task p s fits initial.state ops)
   where
-    at_end : (s t : List ℕ) → IsInitial task s → Runs task s p t → Either (All (Holds task t) task.goal) → IsPlan task p ⊎ (((i : ℕ) × Stops task p i) ⊎ Misses task p)
+    at_end : (s t : List ℕ) → IsInitial task s → Runs task s p t → Either (All (Holds task t) task.goal)
+        → IsPlan task p ⊎ (((i : ℕ) × Stops task p i) ⊎ Misses task p)
     at_end s t initial runs (inl h) = inl (s, t, initial, runs, h)
     at_end s t initial runs (inr n) = inr (inr (record { s = s; t = t; initial = initial; runs = runs; missed = n }))
 
     by : (s : List ℕ) → IsInitial task s → Comes task s p → IsPlan task p ⊎ (((i : ℕ) × Stops task p i) ⊎ Misses task p)
     by s initial (inl (t, runs)) = at_end s t initial runs (goal_holds task t fits)
-    by s initial (inr (i, t, lt, runs, stuck)) = inr (inl (i, record { operators = ops; within = lt; s = s; t = t; initial = initial; runs = runs; stuck = stuck }))
+    by s initial (inr (i, t, lt, runs, stuck)) =
+        inr (inl (
+          i,
+          record {
+            operators = ops;
+            within = lt;
+            s = s;
+            t = t;
+            initial = initial;
+            runs =
+                runs;
+            stuck = stuck;
+          },
+        ))

@@ -29,11 +29,15 @@ use Rattle.plan_out.proofs.Deciding.{Either, one_of_three}
 
 -- No reason is true of a block that does not fail.
 
-clear_to : (task : TaskParts) (mode : Mode) (before : List ReadBlock) (b : ReadBlock) → ((why : Why) → ¬ IsFirstReason task mode before b why) → (n : ℕ) → IsClear task mode before b n
+clear_to : (task : TaskParts) (mode : Mode) (before : List ReadBlock) (b : ReadBlock)
+    → ((why : Why) → ¬ IsFirstReason task mode before b why) → (n : ℕ) → IsClear task mode before b n
 clear_to task mode before b none zero = λ other lt says. omega (arith, lt)
-clear_to task mode before b none (suc n) = next task mode before b n (suc n) (omega arith) (clear_to task mode before b none n) (λ other e says. none other (says, subst (IsClear task mode before b) (sym e) (clear_to task mode before b none n)))
+clear_to task mode before b none (suc n) = next task mode before b n (suc n) (omega arith)
+    (clear_to task mode before b none n) (λ other e says. none other
+    (says, subst (IsClear task mode before b) (sym e) (clear_to task mode before b none n)))
 
-nothing_said : (task : TaskParts) (mode : Mode) (before : List ReadBlock) (b : ReadBlock) → ((why : Why) → ¬ IsFirstReason task mode before b why) → (why : Why) → ¬ Says task mode before b why
+nothing_said : (task : TaskParts) (mode : Mode) (before : List ReadBlock) (b : ReadBlock)
+    → ((why : Why) → ¬ IsFirstReason task mode before b why) → (why : Why) → ¬ Says task mode before b why
 nothing_said task mode before b none why says = clear_to task mode before b none 8 why (below_all why) says
 
 -- what holds at a place if it does at all before it, holds at each
@@ -63,14 +67,21 @@ same_bool false true = inr (λ e. cc)
 one_less : (i : ℕ) → (i + 1) - 1 ≡ i
 one_less i = omega arith
 
-module _ (task : TaskParts) (mode : Mode) (before : List ReadBlock) (b : ReadBlock) (fits : Fits task) (none : (why : Why) → ¬ Says task mode before b why) where
+module _ (task : TaskParts) (mode : Mode) (before : List ReadBlock) (b : ReadBlock) (fits : Fits task)
+    (none : (why : Why) → ¬ Says task mode before b why) where
   operators : AreOperators task b.ops
-  operators i d lt = subst (λ (z : ℕ). z < length task.operators) (get_or_default b.ops i 0 d lt) (each_place (λ k. get_or b.ops k 0 < length task.operators) (length b.ops) at i lt)
+  operators i d lt = subst (λ (z : ℕ). z < length task.operators) (get_or_default b.ops i 0 d lt)
+      (each_place (λ k. get_or b.ops k 0 < length task.operators) (length b.ops) at i lt)
     where
       at : (i : ℕ) → i < length b.ops → ((k : ℕ) → k < i → get_or b.ops k 0 < length task.operators) → get_or b.ops i 0 < length task.operators
       at i lt low = elim (cases_lt (get_or b.ops i 0) (length task.operators)) [
         | inl h ↦ h
-        | inr h ↦ absurd (none (NoSuchOperator (i + 1)) (omega arith, subst (λ (z : ℕ). IsTooLarge (length task.operators) b.ops z) (sym (one_less i)) (record { within = lt; here = h; before = low })))
+        | inr h ↦ absurd (none (NoSuchOperator (i + 1)) (
+          omega arith,
+          subst
+              (λ (z : ℕ). IsTooLarge (length task.operators) b.ops z) (sym (one_less i))
+              (record { within = lt; here = h; before = low }),
+        ))
       ]
 
   names : AreNamed task b
@@ -79,7 +90,12 @@ module _ (task : TaskParts) (mode : Mode) (before : List ReadBlock) (b : ReadBlo
       at : (i : ℕ) → i < length b.ops → ((k : ℕ) → k < i → IsNamed task.operators b.ops b.names k) → IsNamed task.operators b.ops b.names i
       at i lt named = elim (same_list (get_or b.names i []) (name_of task.operators (get_or b.ops i 0))) [
         | inl h ↦ h
-        | inr h ↦ absurd (none (WrongName (i + 1)) (omega arith, subst (λ (z : ℕ). IsMisnamed task.operators b.ops b.names z) (sym (one_less i)) (record { within = lt; here = h; before = named })))
+        | inr h ↦ absurd (none (WrongName (i + 1)) (
+          omega arith,
+          subst
+              (λ (z : ℕ). IsMisnamed task.operators b.ops b.names z) (sym (one_less i))
+              (record { within = lt; here = h; before = named }),
+        ))
       ]
 
   plan : IsPlan task b.ops
@@ -102,17 +118,21 @@ module _ (task : TaskParts) (mode : Mode) (before : List ReadBlock) (b : ReadBlo
   once : All (λ earlier. ¬ Same mode earlier.ops b.ops) before
   once i d lt = each_place (λ k. (d : ReadBlock) → ¬ Same mode (get_or before k d).ops b.ops) (length before) at i lt d
     where
-      at : (i : ℕ) → i < length before → ((k : ℕ) → k < i → (d : ReadBlock) → ¬ Same mode (get_or before k d).ops b.ops) → (d : ReadBlock) → ¬ Same mode (get_or before i d).ops b.ops
+      at : (i : ℕ) → i < length before → ((k : ℕ) → k < i → (d : ReadBlock) → ¬ Same mode (get_or before k d).ops
+          b.ops) → (d : ReadBlock) → ¬ Same mode (get_or before i d).ops b.ops
       at i lt earlier d same = none (Repeats (i + 1)) (
         omega arith,
         subst (λ (z : ℕ). IsFirstSame mode before b.ops z) (sym (one_less i)) (record {
           here = subst (λ (o : Option ReadBlock). IsSomeAnd o (λ x. Same mode x.ops b.ops)) (sym (slice_get-get_or before i d lt)) same;
-          before = λ k e low. (let short : k < i = omega (arith, length-take-le i before (omega arith)) in subst (λ (x : ReadBlock). ¬ Same mode x.ops b.ops) (sym (get_or-take i before k e short)) (earlier k short e));
+          before = λ k e low. (let short : k < i = omega (arith, length-take-le i before (omega arith)) in subst
+              (λ (x : ReadBlock). ¬ Same mode x.ops b.ops)
+              (sym (get_or-take i before k e short)) (earlier k short e));
         }),
       )
 
   fresh_from : (s : List ℕ) (passed : List (List ℕ)) → ((i : ℕ) → ¬ IsFirstReturn passed i) → AreFresh passed
-  fresh_from s passed never = each_place (λ k. ¬ Recurs passed k) (length passed) (λ i lt before there. never i (record { within = lt; here = there; before = before }))
+  fresh_from s passed never = each_place (λ k. ¬ Recurs passed k) (length passed)
+      (λ i lt before there. never i (record { within = lt; here = there; before = before }))
 
   back : WalksBack task mode b.ops None
   back = by mode refl
@@ -147,10 +167,15 @@ plan_of_mode task Loopless p is (s, passed, initial, trace, fresh) = (is, s, pas
 
 -- The list.
 
-at_each : (task : TaskParts) (mode : Mode) (blocks : List ReadBlock) (n : ℕ) → Fits task → Finds task mode blocks (Good n) → (i : ℕ) (d : ReadBlock) → i < length blocks → Passes task mode (take i blocks) (get_or blocks i d)
+at_each : (task : TaskParts) (mode : Mode) (blocks : List ReadBlock) (n : ℕ) → Fits task
+    → Finds task mode blocks (Good n) → (i : ℕ) (d : ReadBlock) → i < length blocks
+    → Passes task mode (take i blocks) (get_or blocks i d)
 at_each task mode blocks n fits found i d lt =
     let b = get_or blocks i d in
-    passes task mode (take i blocks) b fits (nothing_said task mode (take i blocks) b (λ why first. found.1 i why (subst (λ (o : Option ReadBlock). IsSomeAnd o (λ x. IsFirstReason task mode (take i blocks) x why)) (sym (slice_get-get_or blocks i d lt)) first)))
+    passes task mode (take i blocks) b fits (nothing_said task mode (take i blocks) b
+    (λ why first. found.1 i why
+    (subst (λ (o : Option ReadBlock). IsSomeAnd o (λ x. IsFirstReason task mode (take i blocks) x why))
+    (sym (slice_get-get_or blocks i d lt)) first)))
 
 some_block : (blocks : List ReadBlock) → 1 ≤ length blocks → ReadBlock
 some_block [] h = absurd (omega arith)
@@ -159,8 +184,12 @@ some_block (b ∷ blocks) h = b
 not_lower : (a b : ℕ) → ¬ (a < b) → b ≤ a
 not_lower a b n = elim (cases_lt a b) [ inl h ↦ absurd (n h) | inr h ↦ h ]
 
-module _ (task : TaskParts) (mode : Mode) (blocks : List ReadBlock) (passed : (i : ℕ) (d : ReadBlock) → i < length blocks → Passes task mode (take i blocks) (get_or blocks i d)) where
-  two_differ : (i j : ℕ) → i < j → j < length blocks → (o u : Option ReadBlock) → slice_get blocks i ≡ o → slice_get blocks j ≡ u → IfSome (option_map (λ b. b.ops) o) (λ p. IfSome (option_map (λ b. b.ops) u) (λ q. ¬ Same mode p q))
+module _ (task : TaskParts) (mode : Mode) (blocks : List ReadBlock)
+    (passed : (i : ℕ) (d : ReadBlock) → i < length blocks → Passes task mode (take i blocks)
+    (get_or blocks i d)) where
+  two_differ : (i j : ℕ) → i < j → j < length blocks → (o u : Option ReadBlock) → slice_get blocks i ≡ o
+      → slice_get blocks j ≡ u → IfSome (option_map (λ b. b.ops) o)
+      (λ p. IfSome (option_map (λ b. b.ops) u) (λ q. ¬ Same mode p q))
   two_differ i j low lt None u e f = tt
   two_differ i j low lt (Some x) None e f = tt
   two_differ i j low lt (Some x) (Some y) e f =
@@ -178,8 +207,12 @@ module _ (task : TaskParts) (mode : Mode) (blocks : List ReadBlock) (passed : (i
       let front = take (k + 1) blocks in
       let size : length front ≡ k + 1 = length-take-le (k + 1) blocks (omega arith) in
       let place : length front - 1 ≡ k = omega arith in
-      let here : slice_get front (length front - 1) ≡ Some last = ap (slice_get front) place ∙ slice_get-get_or front k d (omega arith) ∙ ap (λ (z : ReadBlock). Some z) (get_or-take (k + 1) blocks k d (omega arith)) in
-      let low : last.cost ≤ b.cost = not_lower b.cost last.cost (λ cheap. (passed (k + 1) d lt).rising (subst (λ (o : Option ReadBlock). IsSomeAnd o (λ x. b.cost < x.cost)) (sym here) cheap)) in
+      let here : slice_get front (length front - 1) ≡ Some last = ap (slice_get front) place
+      ∙ slice_get-get_or front k d (omega arith) ∙ ap (λ (z : ReadBlock). Some z)
+      (get_or-take (k + 1) blocks k d (omega arith)) in
+      let low : last.cost ≤ b.cost = not_lower b.cost last.cost
+      (λ cheap. (passed (k + 1) d lt).rising
+      (subst (λ (o : Option ReadBlock). IsSomeAnd o (λ x. b.cost < x.cost)) (sym here) cheap)) in
       let one : b.cost ≡ cost_of task b.ops = (passed (k + 1) d lt).cost.0 in
       let other : last.cost ≡ cost_of task last.ops = (passed k d (omega arith)).cost.0 in
       omega arith
@@ -192,7 +225,8 @@ module _ (task : TaskParts) (mode : Mode) (blocks : List ReadBlock) (passed : (i
       let within : k < length (plans_of blocks) = omega (arith, length-map blocks (λ (b : ReadBlock). b.ops)) in
       get_or-map (cost_of task) (plans_of blocks) k d.ops e within ∙ ap (cost_of task) (get_or-map (λ (b : ReadBlock). b.ops) blocks k d d.ops lt)
 
-  never_fall : (k e : ℕ) → k + 1 < length (map (cost_of task) (plans_of blocks)) → get_or (map (cost_of task) (plans_of blocks)) k e ≤ get_or (map (cost_of task) (plans_of blocks)) (k + 1) e
+  never_fall : (k e : ℕ) → k + 1 < length (map (cost_of task) (plans_of blocks))
+      → get_or (map (cost_of task) (plans_of blocks)) k e ≤ get_or (map (cost_of task) (plans_of blocks)) (k + 1) e
   never_fall k e lt =
       let within : k + 1 < length blocks = omega (arith, size) in
       let d = some_block blocks (omega arith) in
@@ -202,8 +236,14 @@ module _ (task : TaskParts) (mode : Mode) (blocks : List ReadBlock) (passed : (i
 
   pub good_list : IsGoodList task mode blocks
   good_list = record {
-    each = All-map (IsPlanOf task mode) (λ (b : ReadBlock). b.ops) blocks (λ i d lt. plan_of_mode task mode (get_or blocks i d).ops (passed i d lt).plan (passed i d lt).back);
-    different = λ i j low lt. rw (slice_get-map (λ (b : ReadBlock). b.ops) blocks i, slice_get-map (λ (b : ReadBlock). b.ops) blocks j) (two_differ i j low lt (slice_get blocks i) (slice_get blocks j) refl refl);
+    each = All-map (IsPlanOf task mode) (λ (b : ReadBlock). b.ops) blocks
+        (λ i d lt. plan_of_mode task mode (get_or blocks i d).ops (passed i d lt).plan (passed i d lt).back);
+    different = λ i j low lt. rw (
+      slice_get-map (λ (b : ReadBlock). b.ops) blocks i,
+      slice_get-map
+          (λ (b : ReadBlock). b.ops) blocks j,
+    ) (two_differ i j low lt (slice_get blocks i) (slice_get blocks j) refl
+        refl);
     costs = IsNonDecreasingBy-from_all_adjacent (λ n. n) (map (cost_of task) (plans_of blocks)) never_fall;
     names = λ i d lt. (passed i d lt).names;
     cost_lines = λ i d lt. (passed i d lt).cost;

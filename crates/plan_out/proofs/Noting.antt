@@ -46,9 +46,11 @@ some_within P (x ∷ xs) zero h = omega arith
 some_within P (x ∷ xs) (suc i) h = (let lt = some_within P xs i h in omega (arith, lt))
 
 pub get_push : (xs : List ReadBlock) (x : ReadBlock) (i : ℕ) → length xs ≡ i → slice_get (xs ++ x ∷ []) i ≡ Some x
-get_push xs x i e = slice_get-get_or (xs ++ x ∷ []) i x (let l = length_push xs x in omega (arith, l, e)) ∙ ap (λ (y : ReadBlock). Some y) (get_or_push xs x x i e)
+get_push xs x i e = slice_get-get_or (xs ++ x ∷ []) i x (let l = length_push xs x in omega (arith, l, e))
+    ∙ ap (λ (y : ReadBlock). Some y) (get_or_push xs x x i e)
 
-first_longer : (mode : Mode) (blocks : List ReadBlock) (b : ReadBlock) (p : List ℕ) (i : ℕ) → IsFirstSame mode blocks p i → IsFirstSame mode (blocks ++ b ∷ []) p i
+first_longer : (mode : Mode) (blocks : List ReadBlock) (b : ReadBlock) (p : List ℕ) (i : ℕ)
+    → IsFirstSame mode blocks p i → IsFirstSame mode (blocks ++ b ∷ []) p i
 first_longer mode blocks b p i h =
     let lt = some_within (λ x. Same mode x.ops p) blocks i h.here in
     record {
@@ -56,7 +58,8 @@ first_longer mode blocks b p i h =
       before = All-same (λ x. ¬ Same mode x.ops p) (take i (blocks ++ b ∷ [])) (take i blocks) (take-append-le i blocks (b ∷ []) (omega (arith, lt))) h.before;
     }
 
-first_here : (mode : Mode) (blocks : List ReadBlock) (b : ReadBlock) (p : List ℕ) (i : ℕ) → length blocks ≡ i → Same mode b.ops p → All (λ x. ¬ Same mode x.ops p) blocks → IsFirstSame mode (blocks ++ b ∷ []) p i
+first_here : (mode : Mode) (blocks : List ReadBlock) (b : ReadBlock) (p : List ℕ) (i : ℕ) → length blocks ≡ i
+    → Same mode b.ops p → All (λ x. ¬ Same mode x.ops p) blocks → IsFirstSame mode (blocks ++ b ∷ []) p i
 first_here mode blocks b p i e same none = record {
   here = subst (λ (o : Option ReadBlock). IsSomeAnd o (λ x. Same mode x.ops p)) (sym (get_push blocks b i e)) same;
   before = All-same (λ x. ¬ Same mode x.ops p) (take i (blocks ++ b ∷ [])) blocks (take_at blocks (b ∷ []) i e) none;
@@ -65,14 +68,17 @@ first_here mode blocks b p i e same none = record {
 abbrev Says : Mode → List ReadBlock → List ℕ → Option ℕ → Type 0
 Says mode blocks p o = MatchOption o (All (λ b. ¬ Same mode b.ops p) blocks) (λ number. (1 ≤ number) × IsFirstSame mode blocks p (number - 1))
 
-says_longer : (mode : Mode) (blocks : List ReadBlock) (b : ReadBlock) (p : List ℕ) (o : Option ℕ) → ¬ Same mode b.ops p → Says mode blocks p o → Says mode (blocks ++ b ∷ []) p o
+says_longer : (mode : Mode) (blocks : List ReadBlock) (b : ReadBlock) (p : List ℕ) (o : Option ℕ)
+    → ¬ Same mode b.ops p → Says mode blocks p o → Says mode (blocks ++ b ∷ []) p o
 says_longer mode blocks b p None other h = All-push (λ x. ¬ Same mode x.ops p) blocks b h other
 says_longer mode blocks b p (Some number) other h = (h.0, first_longer mode blocks b p (number - 1) h.1)
 
 -- what is said of a key after one block more
-first_more : (mode : Mode) (blocks : List ReadBlock) (b : ReadBlock) (key : List ℕ) (number : ℕ) (old : Option ℕ) → IsKey mode b.ops key → number ≡ length blocks + 1
+first_more : (mode : Mode) (blocks : List ReadBlock) (b : ReadBlock) (key : List ℕ) (number : ℕ) (old : Option ℕ)
+    → IsKey mode b.ops key → number ≡ length blocks + 1
     → ((p : List ℕ) → IsKey mode p key → All (λ x. ¬ Same mode x.ops p) blocks)
-    → (p k : List ℕ) → IsKey mode p k → Says mode blocks p old → (same : Bool) → pointwise ◌==◌ key k ≡ same → Says mode (blocks ++ b ∷ []) p (cond same (Some number) old)
+    → (p k : List ℕ) → IsKey mode p k → Says mode blocks p old → (same : Bool) → pointwise ◌==◌ key k ≡ same
+    → Says mode (blocks ++ b ∷ []) p (cond same (Some number) old)
 first_more mode blocks b key number old is e none p k has h true t =
     let same : key ≡ k = (same_key key k).0 t in
     let here : IsKey mode p key = subst (λ (x : List ℕ). IsKey mode p x) (sym same) has in
@@ -81,7 +87,8 @@ first_more mode blocks b key number old is e none p k has h false t =
     says_longer mode blocks b p old (λ s. false≢true (sym t ∙ (same_key key k).1 (key_from_same mode b.ops p key k is has s))) h
 
 -- the next block is noted
-pub seen_more : (mode : Mode) (blocks : List ReadBlock) (b : ReadBlock) (key : List ℕ) (number : ℕ) (old noted new : Seen) → IsSeen mode blocks old → IsKey mode b.ops key → first_of old key ≡ None
+pub seen_more : (mode : Mode) (blocks : List ReadBlock) (b : ReadBlock) (key : List ℕ) (number : ℕ)
+    (old noted new : Seen) → IsSeen mode blocks old → IsKey mode b.ops key → first_of old key ≡ None
     → IsNoted old noted key number → number ≡ length blocks + 1 → new.first ≡ noted.first → new.cost ≡ b.cost → IsSeen mode (blocks ++ b ∷ []) new
 seen_more mode blocks b key number old noted new seen is absent adds e same cost = record {
   first = (λ p k has.
@@ -89,7 +96,8 @@ seen_more mode blocks b key number old noted new seen is absent adds e same cost
       let now : first_of new k ≡ cond (pointwise ◌==◌ key k) (Some number) o = first_at k ∙ adds.0 k in
       subst (λ (x : Option ℕ). Says mode (blocks ++ b ∷ []) p x) (sym now)
       (first_more mode blocks b key number o is e none p k has (seen.first p k has) (pointwise ◌==◌ key k) refl));
-  cost = cost ∙ sym (ap (λ (x : Option ReadBlock). option_map_or (λ y. y.cost) x 0) (get_push blocks b (length (blocks ++ b ∷ []) - 1) (let l = length_push blocks b in omega (arith, l))));
+  cost = cost ∙ sym (ap (λ (x : Option ReadBlock). option_map_or (λ y. y.cost) x 0)
+      (get_push blocks b (length (blocks ++ b ∷ []) - 1) (let l = length_push blocks b in omega (arith, l))));
 }
   where
     none : (p : List ℕ) → IsKey mode p key → All (λ x. ¬ Same mode x.ops p) blocks
@@ -106,8 +114,12 @@ below_cost : (o : Option ReadBlock) (cost mine : ℕ) → cost ≡ option_map_or
 below_cost None cost mine e h = absurd h
 below_cost (Some last) cost mine e h = omega (arith, e, h)
 
-pub cheaper : (blocks : List ReadBlock) (b : ReadBlock) (cost : ℕ) → cost ≡ option_map_or (λ b. b.cost) (slice_get blocks (length blocks - 1)) 0 → b.cost < cost → IsCheaper blocks b
+pub cheaper : (blocks : List ReadBlock) (b : ReadBlock) (cost : ℕ)
+    → cost ≡ option_map_or (λ b. b.cost) (slice_get blocks (length blocks - 1)) 0
+    → b.cost < cost → IsCheaper blocks b
 cheaper blocks b cost e lt = cost_below (slice_get blocks (length blocks - 1)) cost b.cost e lt
 
-pub not_cheaper : (blocks : List ReadBlock) (b : ReadBlock) (cost : ℕ) → cost ≡ option_map_or (λ b. b.cost) (slice_get blocks (length blocks - 1)) 0 → ¬ (b.cost < cost) → ¬ IsCheaper blocks b
+pub not_cheaper : (blocks : List ReadBlock) (b : ReadBlock) (cost : ℕ)
+    → cost ≡ option_map_or (λ b. b.cost) (slice_get blocks (length blocks - 1)) 0
+    → ¬ (b.cost < cost) → ¬ IsCheaper blocks b
 not_cheaper blocks b cost e least h = least (below_cost (slice_get blocks (length blocks - 1)) cost b.cost e h)

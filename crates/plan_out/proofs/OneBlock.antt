@@ -42,7 +42,9 @@ parts_rows x = ops x.0 ∷ [] ++ ending_rows x.1
 
 exact_parts : Exact (both_at (row_at tt ops_in) (λ p. both_at (steps_at (length p)) (λ _. row_at tt cost_in))) parts_rows PartsFit
 exact_parts =
-    joining.exact_both shape_of IsSpelled (row_at tt ops_in) (λ p. both_at (steps_at (length p)) (λ _. row_at tt cost_in)) (λ p. ops p ∷ []) (All IsSmall) (λ _. ending_rows) (λ p x. StepsFit (length p) x.0 × Unit {0})
+    joining.exact_both shape_of IsSpelled (row_at tt ops_in)
+    (λ p. both_at (steps_at (length p)) (λ _. row_at tt cost_in)) (λ p. ops p ∷ []) (All IsSmall)
+    (λ _. ending_rows) (λ p x. StepsFit (length p) x.0 × Unit {0})
     (grammar.exact_row shape_of IsSpelled tt ops_in ops (All IsSmall) ops_is) (λ p _. exact_ending (length p))
 
 abbrev parts_of : ReadBlock → List ℕ × (List (List ℕ) × (ℕ × Bool))

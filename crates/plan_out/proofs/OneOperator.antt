@@ -8,7 +8,8 @@ use Rattle.line_fields.specs.Fields.{number_then}
 use Rattle.line_fields.proofs.Fronts.{NoDigit, Follows, number_follows, follows_number}
 use Rattle.plan_out.specs.Reading.{if_operator, operator_then}
 
-pub operator_found : (bytes : List ℕ) (n : ℕ) (rest : List ℕ) → Some (n, rest) ≡ number_then (codes " ") bytes → n < 2 ^ 32 → Some (n, rest) ≡ operator_then bytes
+pub operator_found : (bytes : List ℕ) (n : ℕ) (rest : List ℕ) → Some (n, rest) ≡ number_then (codes " ") bytes
+    → n < 2 ^ 32 → Some (n, rest) ≡ operator_then bytes
 unfolding operator_then
 operator_found bytes n rest e small = (let t : nat_lt n (2 ^ 32) ≡ true = grind (arith, nat_tests) in rw (← e, t) refl)
 
@@ -36,9 +37,14 @@ operator_is bytes n rest e = by_number (number_then (codes " ") bytes) refl e
         let test : nat_lt x.0 (2 ^ 32) ≡ true = k.0 in
         let small : x.0 < 2 ^ 32 = grind (arith, nat_tests) in
         let first : x.0 ≡ n = ap (λ (z : ℕ × List ℕ). z.0) k.1 in
-        record { follows = number_follows (codes " ") bytes n rest (t ∙ ap (λ (z : ℕ × List ℕ). Some z) k.1); small = subst (λ (z : ℕ). z < 2 ^ 32) first small }
+        record {
+          follows = number_follows (codes " ") bytes n rest (t ∙ ap (λ (z : ℕ × List ℕ). Some z) k.1);
+          small =
+              subst (λ (z : ℕ). z < 2 ^ 32) first small;
+        }
 
-pub operator_again : (digits : List ℕ) (n : ℕ) (rest : List ℕ) → IsNumber digits n → NoDigit rest → n < 2 ^ 32 → operator_then (codes " " ++ digits ++ rest) ≡ Some (n, rest)
+pub operator_again : (digits : List ℕ) (n : ℕ) (rest : List ℕ) → IsNumber digits n → NoDigit rest → n < 2 ^ 32
+    → operator_then (codes " " ++ digits ++ rest) ≡ Some (n, rest)
 unfolding operator_then
 operator_again digits n rest is none small =
     let t : nat_lt n (2 ^ 32) ≡ true = grind (arith, nat_tests) in

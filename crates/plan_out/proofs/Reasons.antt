@@ -20,7 +20,9 @@ abbrev pub IsClear : TaskParts → Mode → List ReadBlock → ReadBlock → ℕ
 IsClear task mode blocks b n = (other : Why) → rank other < n → ¬ Says task mode blocks b other
 
 -- one reason more
-pub next : (task : TaskParts) (mode : Mode) (blocks : List ReadBlock) (b : ReadBlock) (n m : ℕ) → m ≡ n + 1 → IsClear task mode blocks b n → ((other : Why) → rank other ≡ n → ¬ Says task mode blocks b other) → IsClear task mode blocks b m
+pub next : (task : TaskParts) (mode : Mode) (blocks : List ReadBlock) (b : ReadBlock) (n m : ℕ) → m ≡ n + 1
+    → IsClear task mode blocks b n → ((other : Why) → rank other ≡ n → ¬ Says task mode blocks b other)
+    → IsClear task mode blocks b m
 next task mode blocks b n m is clear here other lt says = elim (cases_eq (rank other) n) [
   | inl e ↦ here other e says
   | inr ne ↦ clear other (omega (arith, lt, ne, is)) says
@@ -31,28 +33,32 @@ clear_operators task mode blocks b ops (NoSuchOperator step) lt says =
     let large = says.1 in let low = ops (step - 1) 0 large.within in let high = large.here in omega (arith, low, high)
 clear_operators task mode blocks b ops other lt says = omega (arith, lt)
 
-pub clear_names : (task : TaskParts) (mode : Mode) (blocks : List ReadBlock) (b : ReadBlock) → IsClear task mode blocks b 1 → AreNamed task b → IsClear task mode blocks b 2
+pub clear_names : (task : TaskParts) (mode : Mode) (blocks : List ReadBlock) (b : ReadBlock)
+    → IsClear task mode blocks b 1 → AreNamed task b → IsClear task mode blocks b 2
 clear_names task mode blocks b clear names = next task mode blocks b 1 2 refl clear here
   where
     here : (other : Why) → rank other ≡ 1 → ¬ Says task mode blocks b other
     here (WrongName step) e says = (let m = says.1 in m.here (names (step - 1) m.within))
     here other e says = omega (arith, e)
 
-pub clear_steps : (task : TaskParts) (mode : Mode) (blocks : List ReadBlock) (b : ReadBlock) → IsClear task mode blocks b 2 → ((i : ℕ) → ¬ Stops task b.ops i) → IsClear task mode blocks b 3
+pub clear_steps : (task : TaskParts) (mode : Mode) (blocks : List ReadBlock) (b : ReadBlock)
+    → IsClear task mode blocks b 2 → ((i : ℕ) → ¬ Stops task b.ops i) → IsClear task mode blocks b 3
 clear_steps task mode blocks b clear never = next task mode blocks b 2 3 refl clear here
   where
     here : (other : Why) → rank other ≡ 2 → ¬ Says task mode blocks b other
     here (StopsAt step) e says = never (step - 1) says.1
     here other e says = omega (arith, e)
 
-pub clear_goal : (task : TaskParts) (mode : Mode) (blocks : List ReadBlock) (b : ReadBlock) → IsClear task mode blocks b 3 → ¬ Misses task b.ops → IsClear task mode blocks b 4
+pub clear_goal : (task : TaskParts) (mode : Mode) (blocks : List ReadBlock) (b : ReadBlock)
+    → IsClear task mode blocks b 3 → ¬ Misses task b.ops → IsClear task mode blocks b 4
 clear_goal task mode blocks b clear never = next task mode blocks b 3 4 refl clear here
   where
     here : (other : Why) → rank other ≡ 3 → ¬ Says task mode blocks b other
     here MissesGoal e says = never says
     here other e says = omega (arith, e)
 
-pub clear_cost : (task : TaskParts) (mode : Mode) (blocks : List ReadBlock) (b : ReadBlock) → IsClear task mode blocks b 4 → IsCostLine task b (cost_of task b.ops) → IsClear task mode blocks b 5
+pub clear_cost : (task : TaskParts) (mode : Mode) (blocks : List ReadBlock) (b : ReadBlock)
+    → IsClear task mode blocks b 4 → IsCostLine task b (cost_of task b.ops) → IsClear task mode blocks b 5
 clear_cost task mode blocks b clear line = next task mode blocks b 4 5 refl clear here
   where
     here : (other : Why) → rank other ≡ 4 → ¬ Says task mode blocks b other
@@ -66,21 +72,25 @@ none_same mode blocks p i none first = at (slice_get blocks i) refl first.here
     at None e h = h
     at (Some b) e h = none i b (slice_get_within blocks i b e) (subst (λ (x : ReadBlock). Same mode x.ops p) (sym (get_or_from_slice_get blocks i b b e)) h)
 
-pub clear_repeats : (task : TaskParts) (mode : Mode) (blocks : List ReadBlock) (b : ReadBlock) → IsClear task mode blocks b 5 → All (λ earlier. ¬ Same mode earlier.ops b.ops) blocks → IsClear task mode blocks b 6
+pub clear_repeats : (task : TaskParts) (mode : Mode) (blocks : List ReadBlock) (b : ReadBlock)
+    → IsClear task mode blocks b 5 → All (λ earlier. ¬ Same mode earlier.ops b.ops) blocks
+    → IsClear task mode blocks b 6
 clear_repeats task mode blocks b clear none = next task mode blocks b 5 6 refl clear here
   where
     here : (other : Why) → rank other ≡ 5 → ¬ Says task mode blocks b other
     here (Repeats earlier) e says = none_same mode blocks b.ops (earlier - 1) none says.1
     here other e says = omega (arith, e)
 
-pub clear_rising : (task : TaskParts) (mode : Mode) (blocks : List ReadBlock) (b : ReadBlock) → IsClear task mode blocks b 6 → ¬ IsCheaper blocks b → IsClear task mode blocks b 7
+pub clear_rising : (task : TaskParts) (mode : Mode) (blocks : List ReadBlock) (b : ReadBlock)
+    → IsClear task mode blocks b 6 → ¬ IsCheaper blocks b → IsClear task mode blocks b 7
 clear_rising task mode blocks b clear never = next task mode blocks b 6 7 refl clear here
   where
     here : (other : Why) → rank other ≡ 6 → ¬ Says task mode blocks b other
     here Cheaper e says = never says
     here other e says = omega (arith, e)
 
-clear_back : (task : TaskParts) (mode : Mode) (blocks : List ReadBlock) (b : ReadBlock) → Fits task → IsClear task mode blocks b 7 → WalksBack task mode b.ops None → IsClear task mode blocks b 8
+clear_back : (task : TaskParts) (mode : Mode) (blocks : List ReadBlock) (b : ReadBlock) → Fits task
+    → IsClear task mode blocks b 7 → WalksBack task mode b.ops None → IsClear task mode blocks b 8
 clear_back task mode blocks b fits clear back = next task mode blocks b 7 8 refl clear here
   where
     here : (other : Why) → rank other ≡ 7 → ¬ Says task mode blocks b other
@@ -88,7 +98,8 @@ clear_back task mode blocks b fits clear back = next task mode blocks b 7 8 refl
     here other e says = omega (arith, e)
 
 -- nothing is said of the spelling, and the operators make a plan
-pub clear_plan : (task : TaskParts) (mode : Mode) (blocks : List ReadBlock) (b : ReadBlock) → Fits task → AreOperators task b.ops × AreNamed task b → IsPlan task b.ops → IsClear task mode blocks b 4
+pub clear_plan : (task : TaskParts) (mode : Mode) (blocks : List ReadBlock) (b : ReadBlock) → Fits task
+    → AreOperators task b.ops × AreNamed task b → IsPlan task b.ops → IsClear task mode blocks b 4
 clear_plan task mode blocks b fits (ops, names) plan =
     clear_goal task mode blocks b
     (clear_steps task mode blocks b (clear_names task mode blocks b (clear_operators task mode blocks b ops) names) (plan_no_stop task b.ops fits plan))
@@ -105,9 +116,11 @@ below_all Cheaper = omega arith
 below_all (Loops step) = omega arith
 
 -- no reason is true of a block that passes
-pub passes_clear : (task : TaskParts) (mode : Mode) (blocks : List ReadBlock) (b : ReadBlock) → Fits task → Passes task mode blocks b → (why : Why) → ¬ Says task mode blocks b why
+pub passes_clear : (task : TaskParts) (mode : Mode) (blocks : List ReadBlock) (b : ReadBlock) → Fits task
+    → Passes task mode blocks b → (why : Why) → ¬ Says task mode blocks b why
 passes_clear task mode blocks b fits h why says =
     clear_back task mode blocks b fits
     (clear_rising task mode blocks b
-    (clear_repeats task mode blocks b (clear_cost task mode blocks b (clear_plan task mode blocks b fits (h.operators, h.names) h.plan) h.cost) h.once) h.rising)
+    (clear_repeats task mode blocks b (clear_cost task mode blocks b
+    (clear_plan task mode blocks b fits (h.operators, h.names) h.plan) h.cost) h.once) h.rising)
     h.back why (below_all why) says

@@ -69,7 +69,8 @@ abbrev Adds : BTreeSet (List ℕ) → BTreeSet (List ℕ) → List ℕ → Type 
 Adds old new x = (q : List ℕ) → contains (slice_cmp nat_cmp) new q ≡ cond (is_eq (slice_cmp nat_cmp x q)) true (contains (slice_cmp nat_cmp) old q)
 
 member_more : (old new : BTreeSet (List ℕ)) (xs : List (List ℕ)) (x q : List ℕ) → AreMembers old xs → (b : Bool) → is_eq (slice_cmp nat_cmp x q) ≡ b
-    → contains (slice_cmp nat_cmp) new q ≡ cond b true (contains (slice_cmp nat_cmp) old q) → IsTrue (contains (slice_cmp nat_cmp) new q) ↔ Contains (xs ++ x ∷ []) q
+    → contains (slice_cmp nat_cmp) new q ≡ cond b true (contains (slice_cmp nat_cmp) old q)
+    → IsTrue (contains (slice_cmp nat_cmp) new q) ↔ Contains (xs ++ x ∷ []) q
 member_more old new xs x q h true is e = (
   (λ t. subst (λ (z : List ℕ). Contains (xs ++ x ∷ []) z) ((same_state x q).0 is) (Contains-push xs x)),
   (λ k. e),
@@ -86,7 +87,8 @@ members_more old new xs x h adds q = member_more old new xs x q h (is_eq (slice_
 abbrev Noted : Option ℕ → BTreeSet (List ℕ) → List (List ℕ) → List ℕ → Type 0
 Noted back set left state = MatchOption back (AreMembers set left × AreFresh (left ++ state ∷ [])) (IsFirstReturn (left ++ state ∷ []))
 
-pub note_kept : (back : Option ℕ) (old new : BTreeSet (List ℕ)) (left : List (List ℕ)) (from to : List ℕ) → is_some back ≡ true → Noted back old left from → Noted back new (left ++ from ∷ []) to
+pub note_kept : (back : Option ℕ) (old new : BTreeSet (List ℕ)) (left : List (List ℕ)) (from to : List ℕ)
+    → is_some back ≡ true → Noted back old left from → Noted back new (left ++ from ∷ []) to
 note_kept None old new left from to some h = absurd (false≢true some)
 note_kept (Some n) old new left from to some h = return_longer (left ++ from ∷ []) (to ∷ []) n h
 

@@ -25,11 +25,14 @@ begun spaced = record { most = length spaced; enough = omega arith; so_far = sam
     same None = refl
     same (Some ops) = refl
 
-regroup : (plan : List ℕ) (op : ℕ) (o : Option (List ℕ)) → option_map (λ (ops : List ℕ). plan ++ ops) (option_map (λ (ops : List ℕ). op ∷ ops) o) ≡ option_map (λ (ops : List ℕ). (plan ++ op ∷ []) ++ ops) o
+regroup : (plan : List ℕ) (op : ℕ) (o : Option (List ℕ)) → option_map (λ (ops : List ℕ). plan ++ ops)
+    (option_map (λ (ops : List ℕ). op ∷ ops) o) ≡ option_map (λ (ops : List ℕ). (plan ++ op ∷ []) ++ ops) o
 regroup plan op None = refl
 regroup plan op (Some ops) = ap (λ (z : List ℕ). Some z) (sym (append_assoc plan (op ∷ []) ops))
 
-one : (most : ℕ) (bytes : List ℕ) (op : ℕ) (after : List ℕ) → 1 ≤ length bytes → operator_then bytes ≡ Some (op, after) → spaced_in (suc most) bytes ≡ option_map (λ (ops : List ℕ). op ∷ ops) (spaced_in most after)
+one : (most : ℕ) (bytes : List ℕ) (op : ℕ) (after : List ℕ) → 1 ≤ length bytes
+    → operator_then bytes ≡ Some (op, after) → spaced_in (suc most) bytes ≡ option_map (λ (ops : List ℕ). op ∷ ops)
+    (spaced_in most after)
 unfolding spaced_in
 one most [] op after some e = absurd (omega arith)
 one most (b ∷ bytes) op after some e = rw e refl
@@ -43,7 +46,8 @@ nothing : (most : ℕ) → spaced_in most [] ≡ Some []
 unfolding spaced_in
 nothing most = refl
 
-pub goes_on : (total : Option (List ℕ)) (plan rest : List ℕ) (op : ℕ) (after : List ℕ) → 1 ≤ length rest → Some (op, after) ≡ operator_then rest → Left total plan rest → Left total (plan ++ op ∷ []) after
+pub goes_on : (total : Option (List ℕ)) (plan rest : List ℕ) (op : ℕ) (after : List ℕ) → 1 ≤ length rest
+    → Some (op, after) ≡ operator_then rest → Left total plan rest → Left total (plan ++ op ∷ []) after
 goes_on total plan rest op after some e left = by_most left.most left.enough left.so_far
   where
     by_most : (most : ℕ) → length rest ≤ most → option_map (λ (ops : List ℕ). plan ++ ops) (spaced_in most rest) ≡ total → Left total (plan ++ op ∷ []) after
@@ -53,7 +57,9 @@ goes_on total plan rest op after some e left = by_most left.most left.enough lef
         record {
           most = most;
           enough = omega arith;
-          so_far = sym (regroup plan op (spaced_in most after)) ∙ ap (λ (o : Option (List ℕ)). option_map (λ (ops : List ℕ). plan ++ ops) o) (sym (one most rest op after some (sym e))) ∙ so_far;
+          so_far = sym (regroup plan op (spaced_in most after))
+              ∙ ap (λ (o : Option (List ℕ)). option_map (λ (ops : List ℕ). plan ++ ops) o)
+              (sym (one most rest op after some (sym e))) ∙ so_far;
         }
 
 pub breaks_off : (total : Option (List ℕ)) (plan rest : List ℕ) → 1 ≤ length rest → None ≡ operator_then rest → Left total plan rest → None ≡ total

@@ -62,8 +62,10 @@ all_again n line e = by_first (says_enough n line || says_all n line) _ (by_seco
 pub is_end_again : (n : ℕ) (line : List ℕ) → IsEndLine n line → is_end n line ≡ true
 is_end_again n line (inl h) = enough_again n line (by_first (is_numbered (codes "; reached ") n line) _ (numbered_again (codes "; reached ") n line h))
 is_end_again n line (inr (inl h)) = all_again n line (by_first (is_numbered (codes "; exhausted ") n line) _ (numbered_again (codes "; exhausted ") n line h))
-is_end_again n line (inr (inr (inl h))) = enough_again n line (by_second (is_numbered (codes "; reached ") n line) _ (numbered_again (codes "; more ") n line h))
-is_end_again n line (inr (inr (inr (inl h)))) = all_again n line (by_second (is_numbered (codes "; exhausted ") n line) _ (numbered_again (codes "; bounded ") n line h))
+is_end_again n line (inr (inr (inl h))) = enough_again n line
+    (by_second (is_numbered (codes "; reached ") n line) _ (numbered_again (codes "; more ") n line h))
+is_end_again n line (inr (inr (inr (inl h)))) = all_again n line
+    (by_second (is_numbered (codes "; exhausted ") n line) _ (numbered_again (codes "; bounded ") n line h))
 is_end_again n line (inr (inr (inr (inr h)))) = by_second (says_enough n line || says_all n line) _ ((bytes_eq-Decides line (codes "; cost range")).1 h)
 
 -- the third bytes of two lines
@@ -90,11 +92,21 @@ record From (n : ℕ) (lines : Lines) (blocks : List ReadBlock) : Type 0 where
   each : All IsBlock blocks
 
 whole_from : (lines : Lines) (blocks : List ReadBlock) → IsPlansOf lines blocks → From 0 lines blocks
-whole_from lines blocks h = record { main = h.main; ending = h.ending; whole = h.whole; spelled = h.spelled; ends = subst (λ (k : ℕ). IsEnding k h.ending) (sym (zero-add (length blocks))) h.ends; each = h.each }
+whole_from lines blocks h = record {
+  main = h.main;
+  ending = h.ending;
+  whole = h.whole;
+  spelled = h.spelled;
+  ends =
+      subst (λ (k : ℕ). IsEnding k h.ending) (sym (zero-add (length blocks))) h.ends;
+  each = h.each;
+}
 
 -- nothing but an ending
 nothing_more : (n : ℕ) (lines : Lines) → From n lines [] → IsEnding n lines
-nothing_more n lines h = (let same : lines ≡ h.ending = h.whole ∙ ap (λ (z : Lines). z ++ h.ending) (none h.main h.spelled) in subst (IsEnding n) (sym same) (let k : n + 0 ≡ n = omega arith in subst (λ (z : ℕ). IsEnding z h.ending) k h.ends))
+nothing_more n lines h = (let same : lines ≡ h.ending = h.whole
+    ∙ ap (λ (z : Lines). z ++ h.ending) (none h.main h.spelled) in subst (IsEnding n) (sym same)
+    (let k : n + 0 ≡ n = omega arith in subst (λ (z : ℕ). IsEnding z h.ending) k h.ends))
   where
     none : (main : Lines) → Spells IsSpelled [] main → main ≡ []
     none [] s = refl
@@ -118,12 +130,21 @@ first_of : (n : ℕ) (lines : Lines) (b : ReadBlock) (blocks : List ReadBlock) �
 first_of n lines b blocks h =
     let small = number_small (n + 1) b (rows_from (n + 1 + 1) blocks) h.main h.spelled in
     let parts = grammar.spells_split shape_of IsSpelled (block_rows (n + 1) b) (rows_from (n + 1 + 1) blocks) h.main h.spelled in
-    let there : lines ≡ parts.one ++ (parts.two ++ h.ending) = h.whole ∙ ap (λ (z : Lines). z ++ h.ending) parts.whole ∙ append_assoc parts.one parts.two h.ending in
+    let there : lines ≡ parts.one ++ (parts.two ++ h.ending) = h.whole ∙ ap (λ (z : Lines). z ++ h.ending) parts.whole
+    ∙ append_assoc parts.one parts.two h.ending in
     let count : n + length (b ∷ blocks) ≡ (n + 1) + length blocks = omega arith in
     record {
       left = parts.two ++ h.ending;
       read = ap (block_at (n + 1)) there ∙ again (n + 1) b parts.one (parts.two ++ h.ending) small (All-head IsBlock b blocks h.each) parts.first;
-      others = record { main = parts.two; ending = h.ending; whole = refl; spelled = parts.second; ends = subst (λ (k : ℕ). IsEnding k h.ending) count h.ends; each = All-tail IsBlock b blocks h.each };
+      others = record {
+        main = parts.two;
+        ending = h.ending;
+        whole = refl;
+        spelled = parts.second;
+        ends =
+            subst (λ (k : ℕ). IsEnding k h.ending) count h.ends;
+        each = All-tail IsBlock b blocks h.each;
+      };
     }
 
 -- lines that begin with a block are no ending
@@ -139,7 +160,8 @@ record Known (n : ℕ) (list : List ReadBlock) (rest : Lines) (blocks : List Rea
   left : From n rest others
 
 -- a block that comes first is the first of the blocks
-first_known : (n : ℕ) (b : ReadBlock) (f rest : Lines) (blocks : List ReadBlock) → IsBlock b → Spells IsSpelled (block_rows (n + 1) b) f → From n (f ++ rest) blocks → Known (n + 1) (b ∷ []) rest blocks
+first_known : (n : ℕ) (b : ReadBlock) (f rest : Lines) (blocks : List ReadBlock) → IsBlock b
+    → Spells IsSpelled (block_rows (n + 1) b) f → From n (f ++ rest) blocks → Known (n + 1) (b ∷ []) rest blocks
 first_known n b f rest [] is h text = absurd (no_ending n (n + 1) b f rest h (nothing_more n (f ++ rest) text))
 first_known n b f rest (c ∷ blocks) is h text =
     let first = first_of n (f ++ rest) c blocks text in
@@ -150,13 +172,21 @@ first_known n b f rest (c ∷ blocks) is h text =
 behind : (b : ReadBlock) (blocks rest list others : List ReadBlock) → blocks ≡ b ∷ rest → rest ≡ list ++ others → blocks ≡ b ∷ list ++ others
 behind b blocks rest list others e f = cc
 
-all_known : (n m : ℕ) (list : List ReadBlock) (front rest : Lines) (blocks : List ReadBlock) → m ≡ n + length list → All IsBlock list → Spells IsSpelled (rows_from (n + 1) list) front → From n (front ++ rest) blocks → Known m list rest blocks
-all_known n m [] [] rest blocks count each h text = record { others = blocks; same = refl; left = (let k : n ≡ m = omega arith in subst (λ (z : ℕ). From z rest blocks) k text) }
+all_known : (n m : ℕ) (list : List ReadBlock) (front rest : Lines) (blocks : List ReadBlock) → m ≡ n + length list
+    → All IsBlock list → Spells IsSpelled (rows_from (n + 1) list) front → From n (front ++ rest) blocks
+    → Known m list rest blocks
+all_known n m [] [] rest blocks count each h text = record {
+  others = blocks;
+  same = refl;
+  left =
+      (let k : n ≡ m = omega arith in subst (λ (z : ℕ). From z rest blocks) k text);
+}
 all_known n m [] (l ∷ front) rest blocks count each h text = absurd h
 all_known n m (b ∷ list) front rest blocks count each h text =
     let parts = grammar.spells_split shape_of IsSpelled (block_rows (n + 1) b) (rows_from (n + 1 + 1) list) front h in
     let there : front ++ rest ≡ parts.one ++ (parts.two ++ rest) = ap (λ (z : Lines). z ++ rest) parts.whole ∙ append_assoc parts.one parts.two rest in
-    let one = first_known n b parts.one (parts.two ++ rest) blocks (All-head IsBlock b list each) parts.first (subst (λ (z : Lines). From n z blocks) there text) in
+    let one = first_known n b parts.one (parts.two ++ rest) blocks (All-head IsBlock b list each) parts.first
+    (subst (λ (z : Lines). From n z blocks) there text) in
     let more = all_known (n + 1) m list parts.two rest one.others (omega arith) (All-tail IsBlock b list each) parts.second one.left in
     record { others = more.others; same = behind b blocks one.others list more.others one.same more.same; left = more.left }
 
@@ -169,20 +199,29 @@ pub record Begun (lines : Lines) (list : List ReadBlock) (rest : Lines) : Type 0
   pub each : All IsBlock list
 
 -- in a text that begins so, what is left goes on after these blocks
-known : (list : List ReadBlock) (front rest : Lines) (blocks : List ReadBlock) → All IsBlock list → Spells IsSpelled (rows_from 1 list) front → IsPlansOf (front ++ rest) blocks → Known (length list) list rest blocks
-known list front rest blocks each h text = all_known 0 (length list) list front rest blocks (sym (zero-add (length list))) each h (whole_from (front ++ rest) blocks text)
+known : (list : List ReadBlock) (front rest : Lines) (blocks : List ReadBlock) → All IsBlock list
+    → Spells IsSpelled (rows_from 1 list) front → IsPlansOf (front ++ rest) blocks
+    → Known (length list) list rest blocks
+known list front rest blocks each h text = all_known 0 (length list) list front rest blocks
+    (sym (zero-add (length list))) each h (whole_from (front ++ rest) blocks text)
 
 rows_push : (i m : ℕ) (list : List ReadBlock) (b : ReadBlock) → m ≡ i + length list → rows_from i (list ++ b ∷ []) ≡ rows_from i list ++ block_rows m b
 rows_push i m [] b count = (let k : i ≡ m = omega arith in append-nil (block_rows i b) ∙ ap (λ (z : ℕ). block_rows z b) k)
-rows_push i m (c ∷ list) b count = ap (λ (rows : List Row). block_rows i c ++ rows) (rows_push (i + 1) m list b (omega arith)) ∙ sym (append_assoc (block_rows i c) (rows_from (i + 1) list) (block_rows m b))
+rows_push i m (c ∷ list) b count = ap (λ (rows : List Row). block_rows i c ++ rows)
+    (rows_push (i + 1) m list b (omega arith)) ∙ sym (append_assoc (block_rows i c) (rows_from (i + 1) list)
+    (block_rows m b))
 
 -- one block more is spelled
-spelled_more : (list : List ReadBlock) (b : ReadBlock) (front more : Lines) → Spells IsSpelled (rows_from 1 list) front → Spells IsSpelled (block_rows (length list + 1) b) more → Spells IsSpelled (rows_from 1 (list ++ b ∷ [])) (front ++ more)
+spelled_more : (list : List ReadBlock) (b : ReadBlock) (front more : Lines)
+    → Spells IsSpelled (rows_from 1 list) front → Spells IsSpelled (block_rows (length list + 1) b) more
+    → Spells IsSpelled (rows_from 1 (list ++ b ∷ [])) (front ++ more)
 spelled_more list b front more h k =
     subst (λ (rows : List Row). Spells IsSpelled rows (front ++ more)) (sym (rows_push 1 (length list + 1) list b (omega arith)))
     (grammar.spells_append shape_of IsSpelled (rows_from 1 list) (block_rows (length list + 1) b) front more h k)
 
-pub begun_more : (lines : Lines) (list : List ReadBlock) (rest : Lines) (b : ReadBlock) (after : Lines) → length list + 1 < 2 ^ 64 → block_at (length list + 1) rest ≡ Ok (b, after) → Begun lines list rest → Begun lines (list ++ b ∷ []) after
+pub begun_more : (lines : Lines) (list : List ReadBlock) (rest : Lines) (b : ReadBlock) (after : Lines)
+    → length list + 1 < 2 ^ 64 → block_at (length list + 1) rest ≡ Ok (b, after) → Begun lines list rest
+    → Begun lines (list ++ b ∷ []) after
 begun_more lines list rest b after small e so_far =
     let t = (exact_block (length list + 1) small).takes rest b after e in
     record {
@@ -204,12 +243,15 @@ block_shorter i rest b after small e =
     spelled_some (l ∷ front) h = omega arith
 
 -- the front with its end line is a whole text
-with_end : (list : List ReadBlock) (front : Lines) (line : List ℕ) → All IsBlock list → Spells IsSpelled (rows_from 1 list) front → IsEndLine (length list) line → IsPlansOf (front ++ line ∷ []) list
+with_end : (list : List ReadBlock) (front : Lines) (line : List ℕ) → All IsBlock list
+    → Spells IsSpelled (rows_from 1 list) front → IsEndLine (length list) line → IsPlansOf (front ++ line ∷ []) list
 with_end list front line each h is = record { main = front; ending = line ∷ []; whole = refl; spelled = h; ends = is; each = each }
 
-pub end_read : (lines : Lines) (list : List ReadBlock) (rest : Lines) → begins_with_end (length list) rest ≡ true → length rest ≡ 1 → Begun lines list rest → IsPlansOf lines list
+pub end_read : (lines : Lines) (list : List ReadBlock) (rest : Lines) → begins_with_end (length list) rest ≡ true
+    → length rest ≡ 1 → Begun lines list rest → IsPlansOf lines list
 end_read lines list [] t one so_far = absurd (omega arith)
-end_read lines list (line ∷ []) t one so_far = subst (λ (z : Lines). IsPlansOf z list) (sym so_far.whole) (with_end list so_far.front line so_far.each so_far.spelled (end_is (length list) line t))
+end_read lines list (line ∷ []) t one so_far = subst (λ (z : Lines). IsPlansOf z list) (sym so_far.whole)
+    (with_end list so_far.front line so_far.each so_far.spelled (end_is (length list) line t))
 end_read lines list (line ∷ next ∷ rest) t one so_far = absurd (omega arith)
 
 -- Where the lines stop being those of a plan text.
@@ -224,10 +266,12 @@ record Stops (lines : Lines) (left : ℕ) : Type 0 where
   dead : (l : List ℕ) (r : Lines) → rest ≡ l ∷ r → IsFront IsPlansOf (front ++ l ∷ []) → ⊥
 
 abbrev Stuck : Lines → ℕ → Type 0
-Stuck lines n = ((n ≤ length lines) × (IsFront IsPlansOf (take n lines) → ⊥)) ⊎ ((n ≡ length lines + 1) × ((blocks : List ReadBlock) → IsPlansOf lines blocks → ⊥))
+Stuck lines n = ((n ≤ length lines) × (IsFront IsPlansOf (take n lines) → ⊥))
+    ⊎ ((n ≡ length lines + 1) × ((blocks : List ReadBlock) → IsPlansOf lines blocks → ⊥))
 
 stuck_there : (lines front rest : Lines) (n : ℕ) → lines ≡ front ++ rest → n ≡ length front + 1
-    → (rest ≡ [] → (blocks : List ReadBlock) → IsPlansOf front blocks → ⊥) → ((l : List ℕ) (r : Lines) → rest ≡ l ∷ r → IsFront IsPlansOf (front ++ l ∷ []) → ⊥) → Stuck lines n
+    → (rest ≡ [] → (blocks : List ReadBlock) → IsPlansOf front blocks → ⊥)
+    → ((l : List ℕ) (r : Lines) → rest ≡ l ∷ r → IsFront IsPlansOf (front ++ l ∷ []) → ⊥) → Stuck lines n
 stuck_there lines front [] n whole place ends dead =
     let same : lines ≡ front = whole ∙ append-nil front in
     inr (place ∙ ap (λ (z : Lines). length z + 1) (sym same), λ blocks h. ends refl blocks (subst (λ (z : Lines). IsPlansOf z blocks) same h))
@@ -251,20 +295,23 @@ offends lines left st =
     )
 
 -- after n blocks neither an end line nor a block is read from these lines
-no_text : (n : ℕ) (lines : Lines) (o : Offence (Unit {0})) → ((line : List ℕ) → lines ≡ line ∷ [] → IsEndLine n line → ⊥) → 1 ≤ length lines → block_at (n + 1) lines ≡ Err o → (blocks : List ReadBlock) → From n lines blocks → ⊥
+no_text : (n : ℕ) (lines : Lines) (o : Offence (Unit {0})) → ((line : List ℕ) → lines ≡ line ∷ [] → IsEndLine n line
+    → ⊥) → 1 ≤ length lines → block_at (n + 1) lines ≡ Err o → (blocks : List ReadBlock) → From n lines blocks → ⊥
 no_text n lines o no_end some e [] text = at lines some (nothing_more n lines text) (λ line same. no_end line same)
   where
     at : (lines : Lines) → 1 ≤ length lines → IsEnding n lines → ((line : List ℕ) → lines ≡ line ∷ [] → IsEndLine n line → ⊥) → ⊥
     at [] some h none = absurd (omega arith)
     at (line ∷ []) some h none = none line refl h
     at (line ∷ next ∷ lines) some h none = h
-no_text n lines o no_end some e (b ∷ blocks) text = (let first = first_of n lines b blocks text in let r : block_at (n + 1) lines ≡ Ok (b, first.left) = first.read in cc)
+no_text n lines o no_end some e (b ∷ blocks) text = (let first = first_of n lines b blocks text in
+    let r : block_at (n + 1) lines ≡ Ok (b, first.left) = first.read in cc)
 
 regrouped : (front more : Lines) (l : List ℕ) (tail : Lines) → ((front ++ more) ++ l ∷ []) ++ tail ≡ front ++ (more ++ l ∷ tail)
 regrouped front more l tail = append_assoc (front ++ more) (l ∷ []) tail ∙ append_assoc front more (l ∷ tail)
 
 -- the line that comes first is no end line, and stays so however the lines go on
-first_stays : (n : ℕ) (rest front tail : Lines) (line : List ℕ) → begins_with_end n rest ≡ false → (l : List ℕ) (r : Lines) → rest ≡ front ++ l ∷ r → front ++ l ∷ tail ≡ line ∷ [] → IsEndLine n line → ⊥
+first_stays : (n : ℕ) (rest front tail : Lines) (line : List ℕ) → begins_with_end n rest ≡ false
+    → (l : List ℕ) (r : Lines) → rest ≡ front ++ l ∷ r → front ++ l ∷ tail ≡ line ∷ [] → IsEndLine n line → ⊥
 first_stays n rest [] tail line t l r whole same is =
     let heads : l ≡ line = cc in
     let good : is_end n l ≡ true = ap (is_end n) heads ∙ is_end_again n line is in
@@ -276,7 +323,9 @@ first_stays n rest (f ∷ front) tail line t l r whole same is =
     let bad : is_end n f ≡ false = sym (ap (begins_with_end n) whole) ∙ t in
     cc
 
-pub stops_in_block : (lines : Lines) (list : List ReadBlock) (rest : Lines) (o : Offence (Unit {0})) → length list + 1 < 2 ^ 64 → 1 ≤ length rest → begins_with_end (length list) rest ≡ false → block_at (length list + 1) rest ≡ Err o → Begun lines list rest
+pub stops_in_block : (lines : Lines) (list : List ReadBlock) (rest : Lines) (o : Offence (Unit {0}))
+    → length list + 1 < 2 ^ 64 → 1 ≤ length rest → begins_with_end (length list) rest ≡ false
+    → block_at (length list + 1) rest ≡ Err o → Begun lines list rest
     → (o.left ≤ length lines) × Offends IsPlansOf lines (length lines - o.left + 1)
 stops_in_block lines list rest o small some no_end e so_far =
     let n = length list in
@@ -301,17 +350,21 @@ stops_in_block lines list rest o small some no_end e so_far =
       ends = λ none blocks text. (
           let all : rest ≡ st.front = st.whole ∙ ap (λ (z : Lines). st.front ++ z) none ∙ append-nil st.front in
           let k = known list so_far.front st.front blocks so_far.each so_far.spelled text in
-          no_text n st.front (grammar.offence shape_of IsSpelled o.wanted 0) (λ line same is. only rest line no_end (all ∙ same) is) (subst (λ (z : Lines). 1 ≤ length z) all some) st.ends k.others k.left);
+          no_text n st.front (grammar.offence shape_of IsSpelled o.wanted 0)
+          (λ line same is. only rest line no_end (all ∙ same) is) (subst (λ (z : Lines). 1 ≤ length z) all some)
+          st.ends k.others k.left);
       dead = λ l r same m. (
           let more = m.0 in
-          let k = known list so_far.front (st.front ++ l ∷ more) m.1 so_far.each so_far.spelled (subst (λ (z : Lines). IsPlansOf z m.1) (regrouped so_far.front st.front l more) m.2) in
+          let k = known list so_far.front (st.front ++ l ∷ more) m.1 so_far.each so_far.spelled
+          (subst (λ (z : Lines). IsPlansOf z m.1) (regrouped so_far.front st.front l more) m.2) in
           no_text n (st.front ++ l ∷ more) (grammar.offence shape_of IsSpelled o.wanted (suc (length more)))
           (λ line alone is. first_stays n rest st.front more line no_end l r (st.whole ∙ ap (λ (z : Lines). st.front ++ z) same) alone is)
           (omega (arith, length-append st.front (l ∷ more))) (st.dead l r more same) k.others k.left);
     })
   where
     only : (rest : Lines) (line : List ℕ) → begins_with_end (length list) rest ≡ false → rest ≡ line ∷ [] → IsEndLine (length list) line → ⊥
-    only rest line t same is = (let good : is_end (length list) line ≡ true = is_end_again (length list) line is in let bad : is_end (length list) line ≡ false = sym (ap (begins_with_end (length list)) same) ∙ t in cc)
+    only rest line t same is = (let good : is_end (length list) line ≡ true = is_end_again (length list) line is in
+        let bad : is_end (length list) line ≡ false = sym (ap (begins_with_end (length list)) same) ∙ t in cc)
 
 -- nothing goes on after the end line
 no_more : (n : ℕ) (line : List ℕ) (next : List ℕ) (tail : Lines) → IsEndLine n line → (blocks : List ReadBlock) → From n (line ∷ next ∷ tail) blocks → ⊥
@@ -322,7 +375,8 @@ no_more n line next tail is (b ∷ blocks) text = at text.main text.whole text.s
     at [] whole h = absurd h
     at (l ∷ main) whole h = (let same : line ≡ l = cc in no_block_there n (n + 1) l (subst (λ (z : List ℕ). IsEndLine n z) same is) h.0)
 
-pub stops_after_end : (lines : Lines) (list : List ReadBlock) (rest : Lines) (left : ℕ) → begins_with_end (length list) rest ≡ true → 1 ≤ left → length rest ≡ left + 1 → Begun lines list rest
+pub stops_after_end : (lines : Lines) (list : List ReadBlock) (rest : Lines) (left : ℕ)
+    → begins_with_end (length list) rest ≡ true → 1 ≤ left → length rest ≡ left + 1 → Begun lines list rest
     → (left ≤ length lines) × Offends IsPlansOf lines (length lines - left + 1)
 stops_after_end lines list [] left t some count so_far = absurd (omega arith)
 stops_after_end lines list (line ∷ rest) left t some count so_far =
@@ -333,11 +387,17 @@ stops_after_end lines list (line ∷ rest) left t some count so_far =
       rest = rest;
       whole = so_far.whole ∙ sym (append_assoc so_far.front (line ∷ []) rest);
       place = omega arith;
-      begins = ([], list, subst (λ (z : Lines). IsPlansOf z list) (sym (append-nil (so_far.front ++ line ∷ []))) (with_end list so_far.front line so_far.each so_far.spelled is));
+      begins = (
+        [],
+        list,
+        subst (λ (z : Lines). IsPlansOf z list) (sym (append-nil (so_far.front ++ line ∷ [])))
+            (with_end list so_far.front line so_far.each so_far.spelled is),
+      );
       ends = λ none blocks text. absurd (omega (arith, ap (λ (z : Lines). length z) none));
       dead = λ l r same m. (
           let more = m.0 in
-          let k = known list so_far.front (line ∷ l ∷ more) m.1 so_far.each so_far.spelled (subst (λ (z : Lines). IsPlansOf z m.1) (regrouped so_far.front (line ∷ []) l more) m.2) in
+          let k = known list so_far.front (line ∷ l ∷ more) m.1 so_far.each so_far.spelled
+          (subst (λ (z : Lines). IsPlansOf z m.1) (regrouped so_far.front (line ∷ []) l more) m.2) in
           no_more n line l more is k.others k.left);
     })
 
@@ -346,7 +406,8 @@ stops_after_end lines list (line ∷ rest) left t some count so_far =
 no_blocks : (n : ℕ) (lines : Lines) (b : ReadBlock) (blocks : List ReadBlock) → From n lines [] → From n lines (b ∷ blocks) → ⊥
 no_blocks n lines b blocks none some =
     let parts = grammar.spells_split shape_of IsSpelled (block_rows (n + 1) b) (rows_from (n + 1 + 1) blocks) some.main some.spelled in
-    let there : lines ≡ parts.one ++ (parts.two ++ some.ending) = some.whole ∙ ap (λ (z : Lines). z ++ some.ending) parts.whole ∙ append_assoc parts.one parts.two some.ending in
+    let there : lines ≡ parts.one ++ (parts.two ++ some.ending) = some.whole
+    ∙ ap (λ (z : Lines). z ++ some.ending) parts.whole ∙ append_assoc parts.one parts.two some.ending in
     no_ending n (n + 1) b parts.one (parts.two ++ some.ending) parts.first (subst (IsEnding n) there (nothing_more n lines none))
 
 one_list_from : (n : ℕ) (lines : Lines) (one other : List ReadBlock) → From n lines one → From n lines other → one ≡ other
@@ -365,15 +426,23 @@ one_list lines one other h k = one_list_from 0 lines one other (whole_from lines
 
 -- What the loop over the blocks gives.
 
-pub ended_plans : (lines : Lines) (list : List ReadBlock) (rest : Lines) (r : Result (List ReadBlock) (Stopped (Unit {0}))) → MatchResult r (λ blocks. (blocks ≡ list) × (length rest ≡ 1)) (IsAfterEnd rest) → begins_with_end (length list) rest ≡ true → Begun lines list rest → IfOk r (IsPlansOf lines)
+pub ended_plans : (lines : Lines) (list : List ReadBlock) (rest : Lines)
+    (r : Result (List ReadBlock) (Stopped (Unit {0}))) → MatchResult r
+    (λ blocks. (blocks ≡ list) × (length rest ≡ 1)) (IsAfterEnd rest) → begins_with_end (length list) rest ≡ true
+    → Begun lines list rest → IfOk r (IsPlansOf lines)
 ended_plans lines list rest (Ok blocks) h t so_far = subst (IsPlansOf lines) (sym h.0) (end_read lines list rest t h.1 so_far)
 ended_plans lines list rest (Err e) h t so_far = tt
 
-pub ended_refuses : (lines : Lines) (list : List ReadBlock) (rest : Lines) (r : Result (List ReadBlock) (Stopped (Unit {0}))) → MatchResult r (λ blocks. (blocks ≡ list) × (length rest ≡ 1)) (IsAfterEnd rest) → begins_with_end (length list) rest ≡ true → Begun lines list rest → IfErr r (Refuses lines)
+pub ended_refuses : (lines : Lines) (list : List ReadBlock) (rest : Lines)
+    (r : Result (List ReadBlock) (Stopped (Unit {0}))) → MatchResult r
+    (λ blocks. (blocks ≡ list) × (length rest ≡ 1)) (IsAfterEnd rest) → begins_with_end (length list) rest ≡ true
+    → Begun lines list rest → IfErr r (Refuses lines)
 ended_refuses lines list rest (Ok blocks) h t so_far = tt
 ended_refuses lines list rest (Err stopped.Memory) h t so_far = tt
 ended_refuses lines list rest (Err (stopped.Offence o)) h t so_far = stops_after_end lines list rest o.left t h.0 h.1 so_far
 
-pub block_refuses : (lines : Lines) (list : List ReadBlock) (rest : Lines) (e : Stopped (Unit {0})) → length list + 1 < 2 ^ 64 → 1 ≤ length rest → begins_with_end (length list) rest ≡ false → Fails e (block_at (length list + 1) rest) → Begun lines list rest → Refuses lines e
+pub block_refuses : (lines : Lines) (list : List ReadBlock) (rest : Lines) (e : Stopped (Unit {0}))
+    → length list + 1 < 2 ^ 64 → 1 ≤ length rest → begins_with_end (length list) rest ≡ false
+    → Fails e (block_at (length list + 1) rest) → Begun lines list rest → Refuses lines e
 block_refuses lines list rest stopped.Memory small some t fails so_far = tt
 block_refuses lines list rest (stopped.Offence o) small some t fails so_far = stops_in_block lines list rest o small some t fails so_far

@@ -12,14 +12,18 @@ weight_sum : (y : System) (es : List (List ℕ)) → weight y es ≡ sum_by (dep
 weight_sum y [] = refl
 weight_sum y (e ∷ es) = ap (λ (n : ℕ). depth_left y e + n) (weight_sum y es) ∙ sym (sum_by-cons (depth_left y) e es)
 
-weight_replaced : (y : System) (old kids new : List (List ℕ)) (e : List ℕ) → Replaced old kids e new → weight y old + weight y kids ≡ depth_left y e + weight y new
+weight_replaced : (y : System) (old kids new : List (List ℕ)) (e : List ℕ) → Replaced old kids e new
+    → weight y old + weight y kids ≡ depth_left y e + weight y new
 weight_replaced y old kids new e r = omega (arith, r (depth_left y), weight_sum y old, weight_sum y kids, weight_sum y new)
 
-kids_weight : (y : System) (e : List ℕ) (kids : List (List ℕ)) → AllByRecursion (λ k. length k ≡ length e + 1) kids → weight y kids + length kids ≡ sum_ops (length kids) (λ op. 1 + tree y.operators (length y.states - suc (length e)))
+kids_weight : (y : System) (e : List ℕ) (kids : List (List ℕ)) → AllByRecursion (λ k. length k ≡ length e + 1) kids
+    → weight y kids + length kids ≡ sum_ops (length kids) (λ op. 1 + tree y.operators
+    (length y.states - suc (length e)))
 kids_weight y e [] all = refl
 kids_weight y e (k ∷ ks) all =
     let long : length k ≡ suc (length e) = omega (arith, all.0) in
-    let one : tree y.operators (length y.states - length k) ≡ tree y.operators (length y.states - suc (length e)) = ap (λ (n : ℕ). tree y.operators (length y.states - n)) long in
+    let one : tree y.operators (length y.states - length k) ≡ tree y.operators (length y.states - suc (length e)) =
+    ap (λ (n : ℕ). tree y.operators (length y.states - n)) long in
     omega (arith, one, kids_weight y e ks all.1)
 
 sum_up : (k n w : ℕ) → k ≤ n → sum_ops k (λ op. 1 + w) ≤ sum_ops n (λ op. 1 + w)
@@ -34,7 +38,8 @@ tree_at : (n depth k : ℕ) → k < depth → tree n (depth - k) ≡ 1 + sum_ops
 tree_at n depth k b = ap (tree n) (less_suc depth k b)
 
 -- e goes and its children come
-pub falls : (y : System) (e : List ℕ) (old kids new : List (List ℕ)) → Good y Loopless e → Replaced old kids e new → AreLonger y e kids → weight y new + length kids < weight y old
+pub falls : (y : System) (e : List ℕ) (old kids new : List (List ℕ)) → Good y Loopless e → Replaced old kids e new
+    → AreLonger y e kids → weight y new + length kids < weight y old
 falls y e old kids new good taken children =
     let o = weight_replaced y old kids new e taken in
     let s = short y e good in

@@ -21,7 +21,8 @@ module _ (y : System) (m : Mode) (e : List ℕ) where
   children_skip n kids c lost p i = omega (arith, sum_next n (λ op. ind (prefix (e ++ op ∷ []) p)), c p i, lost p i)
 
   -- nor by any of the next so many
-  pub children_past : (n k : ℕ) (kids : List (List ℕ)) → ChildrenBelow y m e n kids → ((op : ℕ) → n ≤ op → op < n + k → Hopeless y m (e ++ op ∷ [])) → ChildrenBelow y m e (n + k) kids
+  pub children_past : (n k : ℕ) (kids : List (List ℕ)) → ChildrenBelow y m e n kids
+      → ((op : ℕ) → n ≤ op → op < n + k → Hopeless y m (e ++ op ∷ [])) → ChildrenBelow y m e (n + k) kids
   children_past n zero kids c lost = let same : n ≡ n + 0 = omega arith in subst (λ (w : ℕ). ChildrenBelow y m e w kids) same c
   children_past n (suc k) kids c lost =
       let same : n + k + 1 ≡ n + suc k = omega arith in

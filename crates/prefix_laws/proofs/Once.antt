@@ -40,7 +40,8 @@ different_front [] ys d = tt
 different_front (x ∷ xs) ys d = ((λ l. d.0 (unlisted_left xs ys x l)), different_front xs ys d.1)
 
 -- a prefix of a loopless plan runs and passes no state twice
-front_different : (y : System) (e p : List ℕ) → IsPlanOf y Loopless p → prefix e p ≡ true → (s : State) × Runs y y.initial e s × AllDifferent (trace y y.initial e)
+front_different : (y : System) (e p : List ℕ) → IsPlanOf y Loopless p → prefix e p ≡ true → (s : State)
+    × Runs y y.initial e s × AllDifferent (trace y y.initial e)
 front_different y e p i h =
     let r = front_runs y e p i.0 h in
     let run = subst (λ (z : List ℕ). Runs y y.initial z i.0.0) r.2 i.0.1 in
@@ -68,13 +69,16 @@ different_more [] t d n = ((λ l. l), tt)
 different_more (x ∷ xs) t d n = (last_apart xs x t d.0 (λ e. n (inl e)), different_more xs t d.1 (λ l. n (inr l)))
 
 -- the child by an operator that leads to a state not passed is as the mode asks
-pub allowed_child : (y : System) (e : List ℕ) (op : ℕ) (t : State) (g : Good y Loopless e) → Leads y op g.end t → ¬ Listed (trace y y.initial e) t → IsAllowed y Loopless (e ++ op ∷ [])
+pub allowed_child : (y : System) (e : List ℕ) (op : ℕ) (t : State) (g : Good y Loopless e) → Leads y op g.end t
+    → ¬ Listed (trace y y.initial e) t → IsAllowed y Loopless (e ++ op ∷ [])
 allowed_child y e op t g l off =
     let more = trace_more y e op y.initial g.end t g.runs l in
-    subst AllDifferent (sym more) (different_of (trace y y.initial e ++ t ∷ []) (different_more (trace y y.initial e) t (apart_of (trace y y.initial e) g.allowed) off))
+    subst AllDifferent (sym more) (different_of (trace y y.initial e ++ t ∷ [])
+    (different_more (trace y y.initial e) t (apart_of (trace y y.initial e) g.allowed) off))
 
 -- where the operator leads to a state already passed, no loopless plan goes on so
-pub passed_before : (y : System) (e : List ℕ) (op : ℕ) (end : State) → Runs y y.initial e end → ((t : State) → Leads y op end t → Listed (trace y y.initial e) t) → Hopeless y Loopless (e ++ op ∷ [])
+pub passed_before : (y : System) (e : List ℕ) (op : ℕ) (end : State) → Runs y y.initial e end
+    → ((t : State) → Leads y op end t → Listed (trace y y.initial e) t) → Hopeless y Loopless (e ++ op ∷ [])
 passed_before y e op end run on p i = never (prefix (e ++ op ∷ []) p) (λ h.
     let f = front_different y (e ++ op ∷ []) p i h in
     let c = runs_cut y e (op ∷ []) y.initial f.0 f.1 in
@@ -84,14 +88,17 @@ passed_before y e op end run on p i = never (prefix (e ++ op ∷ []) p) (λ h.
     listed_not (trace y y.initial e) c.2.0 (apart_of (trace y y.initial e ++ c.2.0 ∷ []) (subst AllDifferent more f.2)) (on c.2.0 lead))
 
 -- at most as many different states as there are
-without : (ys : List State) (s : State) → Listed ys s → (zs : List State) × (length ys ≡ suc (length zs)) × ((t : State) → Listed ys t → (s ≡ t → ⊥) → Listed zs t)
+without : (ys : List State) (s : State) → Listed ys s → (zs : List State) × (length ys ≡ suc (length zs))
+    × ((t : State) → Listed ys t → (s ≡ t → ⊥) → Listed zs t)
 without [] s l = absurd l
 without (x ∷ ys) s (inl e) = (ys, refl, λ t k off. elim k [ inl i ↦ absurd (off (sym e ∙ i)) | inr m ↦ m ])
 without (x ∷ ys) s (inr l) =
     let w = without ys s l in
     (x ∷ w.0, ap suc w.1, λ t k off. elim k [ inl i ↦ inl i | inr m ↦ inr (w.2 t m off) ])
 
-each_without : (xs zs : List State) (s : State) (ys : List State) → ((t : State) → Listed ys t → (s ≡ t → ⊥) → Listed zs t) → (Listed xs s → ⊥) → AllByRecursion (Listed ys) xs → AllByRecursion (Listed zs) xs
+each_without : (xs zs : List State) (s : State) (ys : List State)
+    → ((t : State) → Listed ys t → (s ≡ t → ⊥) → Listed zs t) → (Listed xs s → ⊥) → AllByRecursion (Listed ys) xs
+    → AllByRecursion (Listed zs) xs
 each_without [] zs s ys w n a = tt
 each_without (x ∷ xs) zs s ys w n a = (w x a.0 (λ e. n (inl (sym e))), each_without xs zs s ys w (λ l. n (inr l)) a.1)
 

@@ -36,7 +36,8 @@ held_plan : (y : System) (m : Mode) (held : Option (List ℕ)) (ended : Last) (p
 held_plan y m None ended p h e = absurd (none_is p e)
 held_plan y m (Some q) ended p h e = subst (IsPlanOf y m) (inner q p e) h.0
 
-pub owed_fair : (y : System) (m : Mode) (most : Option ℕ) (es : List (List ℕ)) (held : Option (List ℕ)) (ended : Last) → Right y m most es → IsHeld y m held ended → Fair y m most (Owes y m es held)
+pub owed_fair : (y : System) (m : Mode) (most : Option ℕ) (es : List (List ℕ)) (held : Option (List ℕ)) (ended : Last)
+    → Right y m most es → IsHeld y m held ended → Fair y m most (Owes y m es held)
 owed_fair y m most es held ended right holds =
     let f = turns.fair y m most es right in
     record {
@@ -65,7 +66,8 @@ turn_back : (a b : List ℕ → Type 0) → Stays a b → Stays b a
 turn_back a b s p = ((s p).1, (s p).0)
 
 -- the law, told of a later value of which the same pends
-turned_to : (y : System) (m : Mode) (most : Option ℕ) (a b c : List ℕ → Type 0) (r : Result (Option (List ℕ)) Stop) → Turned y m most a b r → Stays b c → Turned y m most a c r
+turned_to : (y : System) (m : Mode) (most : Option ℕ) (a b c : List ℕ → Type 0) (r : Result (Option (List ℕ)) Stop)
+    → Turned y m most a b r → Stays b c → Turned y m most a c r
 turned_to y m most a b c (Ok (Some p)) g s = record {
   pended = g.pended;
   fits = g.fits;
@@ -76,7 +78,8 @@ turned_to y m most a b c (Ok None) g s = (g.0, λ q. ((λ h. (g.1 q).0 ((s q).0 
 turned_to y m most a b c (Err stop) g s = (g.0, λ q. ((λ h. (g.1 q).0 ((s q).0 h)), (λ h. (s q).1 ((g.1 q).1 h))))
 
 -- the plan that was found is held
-held_stays : (y : System) (m : Mode) (most : Option ℕ) → IsByList m → (a b : List ℕ → Type 0) (p : List ℕ) → Gave y m most a b p → Stays a (λ q. b q ⊎ (Some p ≡ Some q))
+held_stays : (y : System) (m : Mode) (most : Option ℕ) → IsByList m → (a b : List ℕ → Type 0) (p : List ℕ)
+    → Gave y m most a b p → Stays a (λ q. b q ⊎ (Some p ≡ Some q))
 held_stays y m most by_list a b p g q = (
   (λ h. elim h [ inl k ↦ ((g.rest q).0 k).0 | inr e ↦ subst a (inner p q e) g.pended ]),
   (λ h. by (are_equal q p) refl h),
@@ -89,13 +92,15 @@ held_stays y m most by_list a b p g q = (
 -- one call took the queue from `old` to `new`; no plan was held before
 module _ (y : System) (m : Mode) (most : Option ℕ) (old new : List (List ℕ)) where
   -- what it answers of what pends holds of what is owed
-  pub owed_law : (r : Result (Option (List ℕ)) Stop) → Turned y m most (Pending y m old) (Pending y m new) r → Turned y m most (Owes y m old None) (Owes y m new None) r
+  pub owed_law : (r : Result (Option (List ℕ)) Stop) → Turned y m most (Pending y m old) (Pending y m new) r
+      → Turned y m most (Owes y m old None) (Owes y m new None) r
   owed_law r h = turned_from y m most (Owes y m old None) (Pending y m old) (Owes y m new None) r
       (turn_back (Pending y m old) (Owes y m old None) (owes_pends y m old))
       (turned_to y m most (Pending y m old) (Pending y m new) (Owes y m new None) r h (owes_pends y m new))
 
   -- what it found is held in place of being handed out: what is owed stays
-  pub held_law : IsByList m → (found : Option (List ℕ)) → Turned y m most (Pending y m old) (Pending y m new) (Ok found) → Turned y m most (Owes y m old None) (Owes y m new found) (Err Memory)
+  pub held_law : IsByList m → (found : Option (List ℕ)) → Turned y m most (Pending y m old) (Pending y m new)
+      (Ok found) → Turned y m most (Owes y m old None) (Owes y m new found) (Err Memory)
   held_law by_list None h = (memory_stops y most (Owes y m old None), (owed_law (Ok None) h).1)
   held_law by_list (Some p) h = (
     memory_stops y most (Owes y m old None),
@@ -123,4 +128,5 @@ module _ (y : System) (m : Mode) (most : Option ℕ) (first old new : List (List
   law_out h = turned_from y m most (Pending y m first) (Pending y m old) (Pending y m new) (Err CostRange) stays (h.0, pending_self y m old new h.1)
 
   pub law_stops : new ≡ old → Turned y m most (Pending y m first) (Pending y m new) (Err Memory)
-  law_stops e = turned_from y m most (Pending y m first) (Pending y m old) (Pending y m new) (Err Memory) stays (memory_stops y most (Pending y m old), pending_self y m old new e)
+  law_stops e = turned_from y m most (Pending y m first) (Pending y m old) (Pending y m new) (Err Memory) stays
+      (memory_stops y most (Pending y m old), pending_self y m old new e)

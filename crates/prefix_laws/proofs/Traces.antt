@@ -39,7 +39,8 @@ trace_more y [] op s m t r l =
     ap (λ (x : State). s ∷ (x ∷ [])) is
 trace_more y (a ∷ e) op s m t r l =
     let is : next_state y a s ≡ r.0 = step_is y a s r.0 r.1 in
-    ap (λ (x : State). s ∷ trace y x (e ++ op ∷ [])) is ∙ (ap (λ (z : List State). s ∷ z) (trace_more y e op r.0 m t r.2 l) ∙ ap (λ (x : State). s ∷ (trace y x e ++ t ∷ [])) (sym is))
+    ap (λ (x : State). s ∷ trace y x (e ++ op ∷ [])) is ∙ (ap (λ (z : List State). s ∷ z)
+    (trace_more y e op r.0 m t r.2 l) ∙ ap (λ (x : State). s ∷ (trace y x e ++ t ∷ [])) (sym is))
 
 -- the trace of a longer list begins with that of its front
 pub trace_front : (y : System) (e q : List ℕ) (s t : State) → Runs y s (e ++ q) t → (more : List State) × (trace y s (e ++ q) ≡ trace y s e ++ more)
@@ -63,14 +64,16 @@ plan_in y Unordered e a plan = plan
 plan_in y Loopless e a plan = (plan, a)
 
 -- the prefix of a plan runs, and what follows leads on to where the plan ends
-pub front_runs : (y : System) (e p : List ℕ) (plan : IsPlan y p) → prefix e p ≡ true → (s : State) × (q : List ℕ) × (p ≡ e ++ q) × Runs y y.initial e s × Runs y s q plan.0
+pub front_runs : (y : System) (e p : List ℕ) (plan : IsPlan y p) → prefix e p ≡ true → (s : State) × (q : List ℕ)
+    × (p ≡ e ++ q) × Runs y y.initial e s × Runs y s q plan.0
 front_runs y e p plan h =
     let r = rest_of e p h in
     let c = runs_cut y e r.0 y.initial plan.0 (subst (λ (z : List ℕ). Runs y y.initial z plan.0) r.1 plan.1) in
     (c.0, r.0, r.1, c.1, c.2)
 
 -- a prefix that leads on to the goal begins a plan
-pub leads_on : (y : System) (e q : List ℕ) (s t : State) → Runs y y.initial e s → Runs y s q t → IsTrue (y.goal t) → IsPlan y (e ++ q) × (prefix e (e ++ q) ≡ true)
+pub leads_on : (y : System) (e q : List ℕ) (s t : State) → Runs y y.initial e s → Runs y s q t → IsTrue (y.goal t)
+    → IsPlan y (e ++ q) × (prefix e (e ++ q) ≡ true)
 leads_on y e q s t run more goal = ((t, runs_join y e q y.initial s t run more, goal), prefix_join e q)
 
 each_more : (P : State → Type 0) (xs : List State) (t : State) → AllByRecursion P xs → P t → AllByRecursion P (xs ++ t ∷ [])
@@ -78,7 +81,8 @@ each_more P [] t a h = (h, tt)
 each_more P (x ∷ xs) t a h = (a.0, each_more P xs t a.1 h)
 
 -- the child by an operator that leads on is good, where it is as the mode asks
-pub good_child : (y : System) (m : Mode) (e : List ℕ) (op : ℕ) (t : State) (g : Good y m e) → Leads y op g.end t → Listed y.states t → IsAllowed y m (e ++ op ∷ []) → Good y m (e ++ op ∷ [])
+pub good_child : (y : System) (m : Mode) (e : List ℕ) (op : ℕ) (t : State) (g : Good y m e) → Leads y op g.end t
+    → Listed y.states t → IsAllowed y m (e ++ op ∷ []) → Good y m (e ++ op ∷ [])
 good_child y m e op t g l is allowed =
     let more = trace_more y e op y.initial g.end t g.runs l in
     record {
@@ -102,7 +106,8 @@ never true n = absurd (n refl)
 never false n = refl
 
 -- where the operator doesn't lead on from the end of the prefix, no plan goes on so
-pub no_move : (y : System) (m : Mode) (e : List ℕ) (op : ℕ) (end : State) → Runs y y.initial e end → ((t : State) → ¬ Leads y op end t) → Hopeless y m (e ++ op ∷ [])
+pub no_move : (y : System) (m : Mode) (e : List ℕ) (op : ℕ) (end : State) → Runs y y.initial e end
+    → ((t : State) → ¬ Leads y op end t) → Hopeless y m (e ++ op ∷ [])
 no_move y m e op end run none p i = never (prefix (e ++ op ∷ []) p) (λ h.
     let f = front_runs y (e ++ op ∷ []) p (plan_of y m p i) h in
     let c = runs_cut y e (op ∷ []) y.initial f.0 f.3 in
@@ -110,7 +115,8 @@ no_move y m e op end run none p i = never (prefix (e ++ op ∷ []) p) (λ h.
     none c.2.0 (subst (λ (x : State). Leads y op x c.2.0) is c.2.1))
 
 -- where no list leads from the end of the prefix to the goal, no plan goes on from it
-pub stuck : (y : System) (m : Mode) (e : List ℕ) (end : State) → Runs y y.initial e end → ((q : List ℕ) (t : State) → Runs y end q t → ¬ IsTrue (y.goal t)) → Hopeless y m e
+pub stuck : (y : System) (m : Mode) (e : List ℕ) (end : State) → Runs y y.initial e end
+    → ((q : List ℕ) (t : State) → Runs y end q t → ¬ IsTrue (y.goal t)) → Hopeless y m e
 stuck y m e end run none p i = never (prefix e p) (λ h.
     let plan = plan_of y m p i in
     let f = front_runs y e p plan h in
@@ -118,7 +124,9 @@ stuck y m e end run none p i = never (prefix e p) (λ h.
     none f.1 plan.0 (subst (λ (x : State). Runs y x f.1 plan.0) is f.4) plan.2)
 
 -- a plan that goes on from the prefix costs what the prefix costs and what is left at least
-pub bounds_by : (y : System) (e : List ℕ) (end : State) → Runs y y.initial e end → (left : ℕ) → ((q : List ℕ) (t : State) → Runs y end q t → IsTrue (y.goal t) → left ≤ cost_of y q) → Bounds y e (cost_of y e + left)
+pub bounds_by : (y : System) (e : List ℕ) (end : State) → Runs y y.initial e end → (left : ℕ)
+    → ((q : List ℕ) (t : State) → Runs y end q t → IsTrue (y.goal t) → left ≤ cost_of y q)
+    → Bounds y e (cost_of y e + left)
 bounds_by y e end run left least p plan h =
     let f = front_runs y e p plan h in
     let is : f.0 ≡ end = one_end y e y.initial f.0 end f.3 run in
@@ -126,7 +134,8 @@ bounds_by y e end run left least p plan h =
     omega (arith, ap (cost_of y) f.2, cost_join y e f.1, le)
 
 -- the prefix is a plan exactly where its end is a goal state
-pub plan_by : (y : System) (e : List ℕ) (end : State) → Runs y y.initial e end → (at_goal : Bool) → Decides at_goal (IsTrue (y.goal end)) → Decides at_goal (IsPlan y e)
+pub plan_by : (y : System) (e : List ℕ) (end : State) → Runs y y.initial e end → (at_goal : Bool)
+    → Decides at_goal (IsTrue (y.goal end)) → Decides at_goal (IsPlan y e)
 plan_by y e end run at_goal d = (
   (λ h. (end, run, d.0 h)),
   (λ p. d.1 (subst (λ (x : State). y.goal x ≡ true) (one_end y e y.initial p.0 end p.1 run) p.2)),

@@ -64,7 +64,8 @@ module _ (y : System) (m : Mode) (most : Option ℕ) (e : List ℕ) (old : List 
       (i, omega (arith, counted_in old e p inside, self, right.once p i))
 
   -- a plan goes on from e, and each that pends is out of range
-  pub out_of_range : (b : ℕ) → AllByRecursion (λ x. Bounds y x b) old → top None < b → (p : List ℕ) → IsPlanOf y m p → IsTrue (prefix e p) → Stops y None (Pending y m old) CostRange
+  pub out_of_range : (b : ℕ) → AllByRecursion (λ x. Bounds y x b) old → top None < b → (p : List ℕ) → IsPlanOf y m p
+      → IsTrue (prefix e p) → Stops y None (Pending y m old) CostRange
   out_of_range b all dear p i on = ((p, goes_on_pends p i on), (λ q h. omega (arith, floor y m b old q all h, dear)))
 
   -- e goes and its children come
@@ -126,7 +127,8 @@ module _ (y : System) (m : Mode) (most : Option ℕ) (e : List ℕ) (old : List 
       (λ h. (h.0.0, apart q (flip q h.1) h.0.0 ∙ h.0.1)),
     )
 
-    pub gives : IsByList m → (b : ℕ) → AllByRecursion (λ x. Bounds y x b) old → cost_of y e ≤ b → IsPlan y e → cost_of y e ≤ top most → Gave y m most (Pending y m old) (Pending y m new) e
+    pub gives : IsByList m → (b : ℕ) → AllByRecursion (λ x. Bounds y x b) old → cost_of y e ≤ b → IsPlan y e
+        → cost_of y e ≤ top most → Gave y m most (Pending y m old) (Pending y m new) e
     gives by_list b all le plan fits = record {
       pended = goes_on_pends e (plan_in y m e good.allowed plan) (prefix_refl e);
       fits = fits;
@@ -152,7 +154,8 @@ module _ (y : System) (m : Mode) (most : Option ℕ) (e : List ℕ) (old : List 
 pub none_come : (y : System) (m : Mode) (e : List ℕ) → Hopeless y m e → Children y m e []
 none_come y m e lost p i =
     let plan = plan_of y m p i in
-    let z : sum_ops y.operators (λ op. ind (prefix (e ++ op ∷ []) p)) ≡ 0 = omega (arith, splits y.operators e p (below_of y p y.initial plan.0 plan.1), lost p i) in
+    let z : sum_ops y.operators (λ op. ind (prefix (e ++ op ∷ []) p)) ≡ 0 =
+    omega (arith, splits y.operators e p (below_of y p y.initial plan.0 plan.1), lost p i) in
     sym z
 
 pub no_plan : (y : System) (m : Mode) (e : List ℕ) → Good y m e → Hopeless y m e → ¬ IsPlan y e
@@ -161,7 +164,9 @@ no_plan y m e good lost plan =
     omega (arith, z, lost e (plan_in y m e good.allowed plan))
 
 -- e, from which no plan goes on, is left out
-module _ (y : System) (m : Mode) (most : Option ℕ) (e : List ℕ) (old : List (List ℕ)) (right : Right y m most old) (inside : Listed old e) (good : Good y m e) (lost : Hopeless y m e) (new : List (List ℕ)) (taken : Replaced old [] e new) where
+module _ (y : System) (m : Mode) (most : Option ℕ) (e : List ℕ) (old : List (List ℕ)) (right : Right y m most old)
+    (inside : Listed old e) (good : Good y m e) (lost : Hopeless y m e) (new : List (List ℕ))
+    (taken : Replaced old [] e new) where
   pub lost_stays : Stays (Pending y m old) (Pending y m new)
   lost_stays = goes_stays y m most e old right inside good [] new taken (none_come y m e lost) (no_plan y m e good lost)
 

@@ -33,7 +33,8 @@ module _ (g : Graph) (P : State → Type 0) (f : ℕ) (at : Ranks) (many : ℕ) 
   ]
 
   -- where a walk leads has a rank, at its cost at most, or a key is no more than what any walk through it costs
-  pub walk_bounds : (p : List ℕ) (s : State) → WalkInside g P p s → walk_cost g p < 2 ^ 64 → ((x : ℕ) × (x ≤ walk_cost g p) × ((i : ℕ) × at i x s)) ⊎ Bounds g f Waits (walk_cost g p) s
+  pub walk_bounds : (p : List ℕ) (s : State) → WalkInside g P p s → walk_cost g p < 2 ^ 64
+      → ((x : ℕ) × (x ≤ walk_cost g p) × ((i : ℕ) × at i x s)) ⊎ Bounds g f Waits (walk_cost g p) s
   walk_bounds [] s (start, here) lt = comes 0 0 s (omega arith) (r.begin s start here)
   walk_bounds (op ∷ p) s ((t, arc, walk), here) lt = elim (walk_bounds p t walk (omega (arith, lt))) [
     | inl x ↦ comes (walk_cost g (op ∷ p)) (x.0 + g.cost op) s (omega (arith, x.1)) (r.onward x.2.0 x.0 op t s x.2.1 arc here (omega (arith, x.1, lt)))
@@ -48,7 +49,8 @@ module _ (g : Graph) (P : State → Type 0) (f : ℕ) (at : Ranks) (many : ℕ) 
   ]
 
   -- the least key bounds what walks through other states cost
-  pub bound : (n : ℕ) → NoneBelow Waits n → (s : State) → ((i x : ℕ) → at i x s → ⊥) → (a d : ℕ) → Reached (turned g) a s → InsideBy g P d s → d < 2 ^ 64 → n ≤ a + d
+  pub bound : (n : ℕ) → NoneBelow Waits n → (s : State) → ((i x : ℕ) → at i x s → ⊥) → (a d : ℕ)
+      → Reached (turned g) a s → InsideBy g P d s → d < 2 ^ 64 → n ≤ a + d
   bound n none s new a d w (p, walk, cost) lt = elim (walk_bounds p s walk (omega (arith, cost, lt))) [
     | inl x ↦ absurd (new x.2.0 x.0 x.2.1)
     | inr b ↦ (let l = b.near a w in let m = none b.key b.cost b.state b.waits in omega (arith, l, m, cost))
@@ -70,10 +72,23 @@ module _ (g : Graph) (P : State → Type 0) (f : ℕ) (at : Ranks) (many : ℕ) 
     ]
   ]
 
-  module _ (more : Ranks) (After : Waiting) (n x : ℕ) (New : State → Type 0) (z : AreNext g f at Waits n x New) (adds : AddsRank at more many x New) (on : WaitsOn g P more x New Waits After) (keys : AreKeys g P f more (suc many) After) where
+  module _ (more : Ranks) (After : Waiting) (n x : ℕ) (New : State → Type 0) (z : AreNext g f at Waits n x New)
+      (adds : AddsRank at more many x New) (on : WaitsOn g P more x New Waits After)
+      (keys : AreKeys g P f more (suc many) After) where
     lower_more : (i c : ℕ) (s : State) → HasLower g at i c s → HasLower g more i c s
     lower_more i c s (inl h) = inl h
-    lower_more i c s (inr h) = inr (record { op = h.op; state = h.state; rank = h.rank; cost = h.cost; member = (adds h.rank h.cost h.state).1 (inl h.member); arc = h.arc; between = h.between; lower = h.lower })
+    lower_more i c s (inr h) =
+        inr (record {
+          op = h.op;
+          state = h.state;
+          rank = h.rank;
+          cost = h.cost;
+          member =
+              (adds h.rank h.cost h.state).1 (inl h.member);
+          arc = h.arc;
+          between = h.between;
+          lower = h.lower;
+        })
 
     comes_more : (c : ℕ) (s : State) → ComesBy at Waits c s → ComesBy more After c s
     comes_more c s (d, le, h) = elim h [

@@ -9,7 +9,9 @@ use Rattle.run_graph.specs.declared.Kind.TheVariants.{Every, Least}
 below_or_at : (m n : ℕ) → m ≤ n → (m < n) ⊎ (m ≡ n)
 below_or_at m n h = grind arith
 
-module _ (g : Graph) (at more : At) (row : ℕ → State → Type 0) (P Room : State → Type 0) (x next : ℕ) (split : AddsLayer at more x row) (under : (c i : ℕ) (s : State) → at c i s → c < x) (new : NewLayer g Room (Seeds g at x) row) where
+module _ (g : Graph) (at more : At) (row : ℕ → State → Type 0) (P Room : State → Type 0) (x next : ℕ)
+    (split : AddsLayer at more x row) (under : (c i : ℕ) (s : State) → at c i s → c < x)
+    (new : NewLayer g Room (Seeds g at x) row) where
   old : (c i : ℕ) (s : State) → at c i s → more c i s
   old c i s h = (split c i s).1 (inl h)
 
@@ -44,7 +46,9 @@ module _ (g : Graph) (at more : At) (row : ℕ → State → Type 0) (P Room : S
   one_layer Every r room = tt
   one_layer Least r room = one_least r room
 
-  pub settle : (k : Kind) (r : Layered g k P at x) → IsRoom k at P Room x → x < next → ((c i op : ℕ) (t s : State) → more c i t → g.arc op t s → 1 ≤ g.cost op → c + g.cost op < next → c + g.cost op ≤ x) → Layered g k P more next
+  pub settle : (k : Kind) (r : Layered g k P at x) → IsRoom k at P Room x → x < next
+      → ((c i op : ℕ) (t s : State) → more c i t → g.arc op t s → 1 ≤ g.cost op → c + g.cost op < next
+      → c + g.cost op ≤ x) → Layered g k P more next
   settle k r room lt none = record {
     sound = λ c i s h. elim ((split c i s).0 h) [ inl a ↦ r.sound c i s a | inr b ↦ subst (λ (y : ℕ). ReachedBy g y i s) (sym b.0) (row_sound k r i s b.1) ];
     one_ring = λ c i j s a b. elim ((split c i s).0 a) [
@@ -65,7 +69,24 @@ module _ (g : Graph) (at more : At) (row : ℕ → State → Type 0) (P Room : S
           | inl m ↦ elim (below_or_at (c + g.cost op) x le) [
             | inl y ↦ lift k (c + g.cost op) 0 s (r.onward c i op t s m arc p dear y)
             | inr e ↦ subst (λ (y : ℕ). Placed k more y 0 s) (sym e) (elim (room.part s p) [
-              | inl q ↦ inl (0, omega arith, here 0 s ((new.first s).1 (inr (record { from = c; ring = i; op = op; state = t; member = m; arc = arc; dear = dear; sum = e }), q)))
+              | inl q ↦ inl (
+                0,
+                omega arith,
+                here 0 s ((new.first s).1 (
+                  inr (record {
+                    from = c;
+                    ring = i;
+                    op = op;
+                    state = t;
+                    member = m;
+                    arc =
+                        arc;
+                    dear = dear;
+                    sum = e;
+                  }),
+                  q,
+                )),
+              )
               | inr h ↦ inr (cheaper k x s h)
             ])
           ]

@@ -17,14 +17,16 @@ placed_more k at c i j s le (inr h) = inr h
 
 module _ (g : Graph) (P : State → Type 0) (at : At) (bound : ℕ) (between : (s : State) → LiesBetween g s → P s) where
   -- an arc from a member of a cheaper layer
-  from_cheaper : (k : Kind) (r : Layered g k P at bound) (c op : ℕ) (t s : State) → Cheaper k at c t → g.arc op t s → P s → c + g.cost op < bound → Cheaper k at (c + g.cost op) s
+  from_cheaper : (k : Kind) (r : Layered g k P at bound) (c op : ℕ) (t s : State) → Cheaper k at c t → g.arc op t s
+      → P s → c + g.cost op < bound → Cheaper k at (c + g.cost op) s
   from_cheaper Every r c op t s h arc p lt = absurd h
   from_cheaper Least r c op t s (x, less, (i, a)) arc p lt = elim (zero_or (g.cost op)) [
     | inl z ↦ placed_cheaper at x (c + g.cost op) (i + 1) s (omega arith) (r.beside x i op t s a arc p z)
     | inr h ↦ placed_cheaper at (x + g.cost op) (c + g.cost op) 0 s (omega arith) (r.onward x i op t s a arc p h (omega arith))
   ]
 
-  pub complete : (k : Kind) (r : Layered g k P at bound) (p : List ℕ) (n : ℕ) (s : State) → Walk g p s → EndsInZeros g p n → LiesBetween g s → walk_cost g p < bound → Placed k at (walk_cost g p) n s
+  pub complete : (k : Kind) (r : Layered g k P at bound) (p : List ℕ) (n : ℕ) (s : State) → Walk g p s
+      → EndsInZeros g p n → LiesBetween g s → walk_cost g p < bound → Placed k at (walk_cost g p) n s
   complete k r [] n s start z u lt = placed_more k at 0 0 n s (omega arith) (r.begin s lt start (between s u))
   complete k r (op ∷ p) zero s (t, arc, walk) z u lt =
       let m = zeros_of g p in
@@ -39,7 +41,9 @@ module _ (g : Graph) (P : State → Type 0) (at : At) (bound : ℕ) (between : (
       let f : walk_cost g p + g.cost op ≡ g.cost op + walk_cost g p = omega arith in
       let before = complete k r p n t walk zs (between_before g p op t s walk arc u) (omega arith) in
       elim before [
-        | inl a ↦ subst (λ (c : ℕ). Placed k at c (suc n) s) e (placed_more k at (walk_cost g p) (a.0 + 1) (suc n) s (omega (arith, a.1)) (r.beside (walk_cost g p) a.0 op t s a.2 arc (between s u) z))
+        | inl a ↦ subst (λ (c : ℕ). Placed k at c (suc n) s) e
+            (placed_more k at (walk_cost g p) (a.0 + 1) (suc n) s (omega (arith, a.1))
+            (r.beside (walk_cost g p) a.0 op t s a.2 arc (between s u) z))
         | inr h ↦ inr (subst (λ (c : ℕ). Cheaper k at c s) f (from_cheaper k r (walk_cost g p) op t s h arc (between s u) (omega arith)))
       ]
 

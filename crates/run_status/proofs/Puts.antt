@@ -30,11 +30,14 @@ or_front May WriteFault text m = inr (WriteFault, text ∷ [], (text, refl, m), 
 or_front May Memory text m = inr (Memory, text ∷ [], (text, refl, m), front_of_all (text ∷ []))
 
 -- what may come with a status of one kind may come with it of another
-front_ofs : (May Other : Status → Bytes → Type 0) → ((status : Status) (pieces : List Bytes) → AsOne May status pieces → AsOne Other status pieces) → (out : Sent) → FrontOf (AsOne May) out → FrontOf (AsOne Other) out
+front_ofs : (May Other : Status → Bytes → Type 0) → ((status : Status) (pieces : List Bytes) → AsOne May status pieces
+    → AsOne Other status pieces) → (out : Sent) → FrontOf (AsOne May) out → FrontOf (AsOne Other) out
 front_ofs May Other also out (inl none) = inl none
 front_ofs May Other also out (inr f) = inr (f.0, f.1, also f.0 f.1 f.2, f.3)
 
-pub or_fronts : (May Other : Status → Bytes → Type 0) → ((status : Status) (pieces : List Bytes) → AsOne May status pieces → AsOne Other status pieces) → (result : Status) (out : Sent) → OrFront May result out → OrFront Other result out
+pub or_fronts : (May Other : Status → Bytes → Type 0) → ((status : Status) (pieces : List Bytes) → AsOne May status
+    pieces → AsOne Other status pieces) → (result : Status) (out : Sent) → OrFront May result out
+    → OrFront Other result out
 or_fronts May Other also WriteFault out f = front_ofs May Other also out f
 or_fronts May Other also Memory out f = front_ofs May Other also out f
 or_fronts May Other also Reached out m = (also Reached out.pieces m.0, m.1)
@@ -56,19 +59,29 @@ or_fronts May Other also Unreadable out m = (also Unreadable out.pieces m.0, m.1
 or_fronts May Other also CostRange out m = (also CostRange out.pieces m.0, m.1)
 
 -- a front of it, where the sink failed or memory ran out
-pub broken : (May : Status → Bytes → Type 0) (result : Status) (out : Sent) → (result ≡ WriteFault) ⊎ (result ≡ Memory) → FrontOf (AsOne May) out → OrFront May result out
+pub broken : (May : Status → Bytes → Type 0) (result : Status) (out : Sent) → (result ≡ WriteFault)
+    ⊎ (result ≡ Memory) → FrontOf (AsOne May) out → OrFront May result out
 broken May result out (inl e) f = subst (λ s. OrFront May s out) (sym e) f
 broken May result out (inr e) f = subst (λ s. OrFront May s out) (sym e) f
 
-pub part_puts : (May : Status → Bytes → Type 0) (status : Status) (text : Bytes) (old new : SinkView) (result : Status) → May status text → (result ≡ WriteFault) ⊎ (result ≡ Memory) → TookFront text old new → Puts (OrFront May) old new result
+pub part_puts : (May : Status → Bytes → Type 0) (status : Status) (text : Bytes) (old new : SinkView)
+    (result : Status) → May status text → (result ≡ WriteFault) ⊎ (result ≡ Memory) → TookFront text old new
+    → Puts (OrFront May) old new result
 part_puts May status text old new result m why took =
     let p = took_front text old new took in
-    let front : FrontOf (AsOne May) (record { pieces = []; rest = take p.0 text }) = inr (status, text ∷ [], (text, refl, m), front_of_last [] text p.0 _ refl) in
+    let front : FrontOf (AsOne May) (record { pieces = []; rest = take p.0 text }) =
+    inr (status, text ∷ [], (text, refl, m), front_of_last [] text p.0 _ refl) in
     (record { pieces = []; rest = take p.0 text }, p.1, broken May result _ why front)
 
 -- the text that ends the run
-pub end_puts : (May : Status → Bytes → Type 0) (status : Status) (text : Bytes) (old new : SinkView) (result : Status) → May status text → Ends status text old new result → Puts (OrFront May) old new result
-end_puts May status text old new result m (inl h) = (all_of (text ∷ []), took_piece text old new h.1, subst (λ s. OrFront May s (all_of (text ∷ []))) (sym h.0) (or_front May status text m))
+pub end_puts : (May : Status → Bytes → Type 0) (status : Status) (text : Bytes) (old new : SinkView) (result : Status)
+    → May status text → Ends status text old new result → Puts (OrFront May) old new result
+end_puts May status text old new result m (inl h) = (
+  all_of (text ∷ []),
+  took_piece text old new h.1,
+  subst
+      (λ s. OrFront May s (all_of (text ∷ []))) (sym h.0) (or_front May status text m),
+)
 end_puts May status text old new result m (inr (inl h)) = part_puts May status text old new result m (inl h.0) h.1
 end_puts May status text old new result m (inr (inr h)) = part_puts May status text old new result m (inr h.0) h.1
 
@@ -77,13 +90,19 @@ pub nothing_puts : (May : Status → Bytes → Type 0) (old : SinkView) → Puts
 nothing_puts May old = (nothing, took_nothing old, inl refl)
 
 -- the text, if it was made
-pub made_puts : {E : Type 0} (May : Status → Bytes → Type 0) (status : Status) (made : Result Bytes E) (old new : SinkView) (result : Status) → IfOk made (λ text. May status text) → MatchResult made (λ text. Ends status text old new result) (λ _. (result ≡ Memory) × (new ≡ old)) → Puts (OrFront May) old new result
+pub made_puts : {E : Type 0} (May : Status → Bytes → Type 0) (status : Status) (made : Result Bytes E)
+    (old new : SinkView) (result : Status) → IfOk made (λ text. May status text)
+    → MatchResult made (λ text. Ends status text old new result) (λ _. (result ≡ Memory) × (new ≡ old))
+    → Puts (OrFront May) old new result
 made_puts May status (Ok text) old new result m h = end_puts May status text old new result m h
 made_puts May status (Err e) old new result m h =
     let stayed : Puts (OrFront May) old new Memory = subst (λ (v : SinkView). Puts (OrFront May) old v Memory) (sym h.1) (nothing_puts May old) in
     subst (λ s. Puts (OrFront May) old new s) (sym h.0) stayed
 
-pub text_puts : {E : Type 0} (May : Status → Bytes → Type 0) (status : Status) (made : Result Bytes E) (whole : Bytes) (old new : SinkView) (result : Status) → IfOk made (λ text. text ≡ whole) → May status whole → MatchResult made (λ text. Ends status text old new result) (λ _. (result ≡ Memory) × (new ≡ old)) → Puts (OrFront May) old new result
+pub text_puts : {E : Type 0} (May : Status → Bytes → Type 0) (status : Status) (made : Result Bytes E) (whole : Bytes)
+    (old new : SinkView) (result : Status) → IfOk made (λ text. text ≡ whole) → May status whole
+    → MatchResult made (λ text. Ends status text old new result) (λ _. (result ≡ Memory) × (new ≡ old))
+    → Puts (OrFront May) old new result
 text_puts May status (Ok text) whole old new result e m h = end_puts May status text old new result (subst (λ t. May status t) (sym e) m) h
 text_puts May status (Err e') whole old new result e m h = made_puts May status (Err e') old new result tt h
 

@@ -24,7 +24,8 @@ grew_twice x y (Some a) (Some b) None p q = q
 grew_twice x y (Some a) (Some b) (Some c) p q = q ∙ ap (λ z. z ++ y) p ∙ append_assoc a x y
 
 -- counts that rose twice
-rose_twice : (x y z : ℕ) (old mid new : Option ℕ) → z ≡ x + y → Tells (λ a b. b ≡ a + x) old mid → Tells (λ a b. b ≡ a + y) mid new → Tells (λ a b. b ≡ a + z) old new
+rose_twice : (x y z : ℕ) (old mid new : Option ℕ) → z ≡ x + y → Tells (λ a b. b ≡ a + x) old mid
+    → Tells (λ a b. b ≡ a + y) mid new → Tells (λ a b. b ≡ a + z) old new
 rose_twice x y z None None None e p q = tt
 rose_twice x y z None None (Some c) e p q = q
 rose_twice x y z None (Some b) c e p q = absurd p
@@ -73,11 +74,14 @@ took_front text old new t =
 -- pieces, and then more
 joined : (pieces more : List Bytes) (rest : Bytes) → (concat pieces ++ []) ++ (concat more ++ rest) ≡ concat (pieces ++ more) ++ rest
 joined pieces more rest =
-    ap (λ x. x ++ (concat more ++ rest)) (append-nil (concat pieces)) ∙ sym (append_assoc (concat pieces) (concat more) rest) ∙ ap (λ x. x ++ rest) (sym (concat-append pieces more))
+    ap (λ x. x ++ (concat more ++ rest)) (append-nil (concat pieces))
+    ∙ sym (append_assoc (concat pieces) (concat more) rest)
+    ∙ ap (λ x. x ++ rest) (sym (concat-append pieces more))
 
 pub took_after : (pieces : List Bytes) (out : Sent) (old mid new : SinkView) → Took (all_of pieces) old mid → Took out mid new → Took (after pieces out) old new
 took_after pieces out old mid new t u = record {
-  bytes = subst (λ (x : Bytes). Tells (Grew x) old.taken new.taken) (joined pieces out.pieces out.rest) (grew_twice _ _ old.taken mid.taken new.taken t.bytes u.bytes);
+  bytes = subst (λ (x : Bytes). Tells (Grew x) old.taken new.taken) (joined pieces out.pieces out.rest)
+      (grew_twice _ _ old.taken mid.taken new.taken t.bytes u.bytes);
   flushes = rose_twice _ _ _ old.flushes mid.flushes new.flushes (length-append pieces out.pieces) t.flushes u.flushes;
 }
 
@@ -86,5 +90,6 @@ pub front_of_all : (pieces : List Bytes) → IsFront (all_of pieces) pieces
 front_of_all pieces = record { later = []; pieces = sym (append-nil pieces); rest = refl }
 
 -- so are the first bytes of a last one, after those before it
-pub front_of_last : (pieces : List Bytes) (text : Bytes) (n : ℕ) (whole : List Bytes) → whole ≡ pieces ++ (text ∷ []) → IsFront (after pieces (record { pieces = []; rest = take n text })) whole
+pub front_of_last : (pieces : List Bytes) (text : Bytes) (n : ℕ) (whole : List Bytes) → whole ≡ pieces ++ (text ∷ [])
+    → IsFront (after pieces (record { pieces = []; rest = take n text })) whole
 front_of_last pieces text n whole e = record { later = text ∷ []; pieces = e ∙ ap (λ x. x ++ (text ∷ [])) (sym (append-nil pieces)); rest = (n, refl) }

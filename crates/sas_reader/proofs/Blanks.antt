@@ -20,7 +20,8 @@ unfolding tail_at
 blank_goes [] rest e = cc
 blank_goes (l ∷ lines) rest e = by_test (is_blank l) refl e
   where
-    by_test : (t : Bool) → is_blank l ≡ t → picked shape.Blank l lines (cond t (Some (tt {0})) None) ≡ Ok (tt, rest) → (blanks_at (l ∷ lines) ≡ blanks_at rest) × (length (l ∷ lines) ≡ length rest + 1)
+    by_test : (t : Bool) → is_blank l ≡ t → picked shape.Blank l lines (cond t (Some (tt {0})) None) ≡ Ok (tt, rest)
+        → (blanks_at (l ∷ lines) ≡ blanks_at rest) × (length (l ∷ lines) ≡ length rest + 1)
     by_test true t e =
         let same : lines ≡ rest = (grammar.ok_both shape_of IsSpelled (Ok (tt, lines)) (tt, lines) (tt, rest) refl e).1 in
         (rw t (ap blanks_at same), (let n : length lines ≡ length rest = ap (λ (z : Lines). length z) same in omega arith))
@@ -35,7 +36,8 @@ blank_stops (l ∷ lines) f some e = by_test (is_blank l) refl e
     by_test true t e = cc
     by_test false t e = rw t e
 
-pub blank_ends : (lines : Lines) (e : Stopped Shape) (total : Read Shape (Unit {0})) → 1 ≤ length lines → Fails e (blank_at lines) → blanks_at lines ≡ total → Fails e total
+pub blank_ends : (lines : Lines) (e : Stopped Shape) (total : Read Shape (Unit {0})) → 1 ≤ length lines
+    → Fails e (blank_at lines) → blanks_at lines ≡ total → Fails e total
 blank_ends lines stopped.Memory total some h so_far = tt
 blank_ends lines (stopped.Offence f) total some h so_far = sym so_far ∙ blank_stops lines f some h
 

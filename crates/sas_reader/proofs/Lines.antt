@@ -59,13 +59,19 @@ numbers_are {X} shape test ns F taken again x f small = record {
 
 -- the same, where the test looks at some of the numbers first
 pub picked_are : {X Y : Type 0} (shape : Shape) (pick : List (Option ℕ) → Option Y) (test : Y → Option X) (ns : X → List (Option ℕ)) (F : X → Type 0)
-    → ((l : List (Option ℕ)) (x : X) → option_and_then test (pick l) ≡ Some x → F x × (l ≡ ns x)) → ((x : X) → F x → option_and_then test (pick (ns x)) ≡ Some x) → (x : X) → F x → Small (ns x)
+    → ((l : List (Option ℕ)) (x : X) → option_and_then test (pick l) ≡ Some x → F x × (l ≡ ns x))
+    → ((x : X) → F x → option_and_then test (pick (ns x)) ≡ Some x) → (x : X) → F x → Small (ns x)
     → RowIs shape (λ line. option_and_then test (option_and_then pick (numbers_of line))) (λ x. numbers shape (ns x)) F
 picked_are {X} {Y} shape pick test ns F taken again x f small = record {
   shaped = λ y. refl;
   reads = λ k y h. found (numbers_of k) y h;
   again = λ k y g h. ap (λ (o : Option (List (Option ℕ))). option_and_then test (option_and_then pick o)) h ∙ again y g;
-  sample = (line_for (ns x), x, ap (λ (o : Option (List (Option ℕ))). option_and_then test (option_and_then pick o)) (numbers_spelled (ns x) small) ∙ again x f);
+  sample = (
+    line_for (ns x),
+    x,
+    ap (λ (o : Option (List (Option ℕ))). option_and_then test (option_and_then pick o))
+        (numbers_spelled (ns x) small) ∙ again x f,
+  );
 }
   where
     found : (o : Option (List (Option ℕ))) (y : X) → option_and_then test (option_and_then pick o) ≡ Some y → F y × (o ≡ Some (ns y))
@@ -79,13 +85,15 @@ number_taken p (None ∷ []) x e = cc
 number_taken p (Some n ∷ []) x e = (let k = cond_some (p n) n x e in (subst (λ (z : ℕ). p z ≡ true) k.1 k.0, ap (λ (z : ℕ). Some z ∷ []) k.1))
 number_taken p (n ∷ m ∷ ns) x e = cc
 
-pub number_is : (shape : Shape) (p : ℕ → Bool) (N : ℕ → Type 0) → ((n : ℕ) → p n ≡ true → N n) → ((n : ℕ) → N n → p n ≡ true) → (n : ℕ) → N n → n < 2 ^ 64 → RowIs shape (number_that p) (number shape) N
+pub number_is : (shape : Shape) (p : ℕ → Bool) (N : ℕ → Type 0) → ((n : ℕ) → p n ≡ true → N n)
+    → ((n : ℕ) → N n → p n ≡ true) → (n : ℕ) → N n → n < 2 ^ 64 → RowIs shape (number_that p) (number shape) N
 number_is shape p N to from n good small =
     picked_are shape only_number (λ n. if_passes p n) (λ x. Some x ∷ []) N
     (λ l x e. (let t = number_taken p l x e in (to x t.0, t.1))) (λ x f. (let t = from x f in rw t refl)) n good (small, tt)
 
 pub count_is : (shape : Shape) (most : ℕ) → RowIs shape (number_that (λ n. nat_le n most)) (number shape) (λ n. n ≤ most)
-count_is shape most = number_is shape (λ n. nat_le n most) (λ n. n ≤ most) (λ n e. grind (arith, nat_tests)) (λ n le. grind (arith, nat_tests)) 0 (omega arith) (omega arith)
+count_is shape most = number_is shape (λ n. nat_le n most) (λ n. n ≤ most) (λ n e. grind (arith, nat_tests))
+    (λ n le. grind (arith, nat_tests)) 0 (omega arith) (omega arith)
 
 three_passes : (o : Option ℕ) (x : Unit {0}) → option_map (λ _. tt) o ≡ Some x → (n : ℕ) × (o ≡ Some n)
 three_passes None x e = cc
@@ -96,7 +104,8 @@ three_is =
     let is = number_is shape.Three (λ n. eqb n 3) (λ n. n ≡ 3) (λ n e. grind (arith, nat_tests)) (λ n e. grind (arith, nat_tests)) 3 refl (omega arith) in
     record {
       shaped = λ x. refl;
-      reads = λ l x e. (let t = three_passes (number_that (λ n. eqb n 3) l) x e in let r = is.reads l t.0 t.1 in (tt, subst (λ (z : ℕ). numbers_of l ≡ Some (Some z ∷ [])) r.0 r.1));
+      reads = λ l x e. (let t = three_passes (number_that (λ n. eqb n 3) l) x e in
+          let r = is.reads l t.0 t.1 in (tt, subst (λ (z : ℕ). numbers_of l ≡ Some (Some z ∷ [])) r.0 r.1));
       again = λ l x f h. ap (option_map (λ _. tt)) (is.again l 3 refl h);
       sample = (is.sample.0, tt, ap (option_map (λ _. tt)) is.sample.2);
     }

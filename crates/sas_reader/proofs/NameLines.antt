@@ -32,7 +32,8 @@ none_contained : (line : List ℕ) → list_any is_feed line ≡ false → Conta
 none_contained [] e k = absurd (omega (arith, k.1))
 none_contained (b ∷ line) e k = by_test (is_feed b) refl (none_contained line) e k
   where
-    by_test : (t : Bool) → is_feed b ≡ t → (list_any is_feed line ≡ false → Contains line 10 → ⊥) → (t || list_any is_feed line) ≡ false → Contains (b ∷ line) 10 → ⊥
+    by_test : (t : Bool) → is_feed b ≡ t → (list_any is_feed line ≡ false → Contains line 10 → ⊥)
+        → (t || list_any is_feed line) ≡ false → Contains (b ∷ line) 10 → ⊥
     by_test true t ih e k = cc
     by_test false t ih e (zero, k, same) = (let u : is_feed b ≡ true = grind (arith, nat_tests) in cc)
     by_test false t ih e (suc n, k, same) = ih e (n, omega arith, same)

@@ -17,10 +17,13 @@ Exact = grammar.Exact shape_of IsSpelled
 abbrev pub FitFrom : {X T : Type 0} → (T → X → Type 0) → (T → X → T) → T → List X → Type 0
 FitFrom = grammar.FitFrom shape_of IsSpelled
 
-pub after_word : {A : Type 0} (shape : Shape) (bytes : List ℕ) (p : Reading Shape A) (rows : A → List Row) (F : A → Type 0) → Exact p rows F → Exact (after_at shape (exactly bytes) p) (λ a. word shape bytes ∷ rows a) F
+pub after_word : {A : Type 0} (shape : Shape) (bytes : List ℕ) (p : Reading Shape A) (rows : A → List Row)
+    (F : A → Type 0) → Exact p rows F → Exact (after_at shape (exactly bytes) p) (λ a. word shape bytes ∷ rows a) F
 after_word shape bytes p rows F ep = joining.exact_after shape_of IsSpelled shape (exactly bytes) (word shape bytes) p rows F (word_is shape bytes) ep
 
-pub before_word : {A : Type 0} (shape : Shape) (bytes : List ℕ) (p : Reading Shape A) (rows : A → List Row) (F : A → Type 0) → Exact p rows F → Exact (before_at p shape (exactly bytes)) (λ a. rows a ++ word shape bytes ∷ []) F
+pub before_word : {A : Type 0} (shape : Shape) (bytes : List ℕ) (p : Reading Shape A) (rows : A → List Row)
+    (F : A → Type 0) → Exact p rows F → Exact (before_at p shape (exactly bytes))
+    (λ a. rows a ++ word shape bytes ∷ []) F
 before_word shape bytes p rows F ep = joining.exact_before shape_of IsSpelled p shape (exactly bytes) (word shape bytes) rows F (word_is shape bytes) ep
 
 abbrev pub IsMetric : ℕ → Type 0

@@ -24,7 +24,8 @@ pub record Spells (n : ℕ) (digits : List ℕ) : Type 0 where
   pub each : AllByRecursion (λ d. is_ascii_digit d ≡ true) digits
   pub value : value_of digits ≡ n
 
-one_more : (digits : List ℕ) (d : ℕ) → AllByRecursion (λ d. is_ascii_digit d ≡ true) digits → is_ascii_digit d ≡ true → AllByRecursion (λ d. is_ascii_digit d ≡ true) (digits ++ d ∷ [])
+one_more : (digits : List ℕ) (d : ℕ) → AllByRecursion (λ d. is_ascii_digit d ≡ true) digits → is_ascii_digit d ≡ true
+    → AllByRecursion (λ d. is_ascii_digit d ≡ true) (digits ++ d ∷ [])
 one_more [] d h e = (e, tt)
 one_more (c ∷ digits) d h e = (h.0, one_more digits d h.1 e)
 
@@ -37,14 +38,16 @@ decimal_spells = decimal_by_steps Spells
     (λ n lt. record { each = (digit_of n lt, tt); value = (let e : 0 * 10 + ((48 + n) - 48) ≡ n = omega arith in e) })
     (λ n ds le s. record {
       each = one_more ds (48 + n % 10) s.each (digit_of (n % 10) (omega arith));
-      value = fold_push 0 ds (48 + n % 10) ∙ (let v : fold next 0 ds ≡ n / 10 = s.value in let e : fold next 0 ds * 10 + ((48 + n % 10) - 48) ≡ n = omega arith in e);
+      value = fold_push 0 ds (48 + n % 10) ∙ (let v : fold next 0 ds ≡ n / 10 = s.value in
+          let e : fold next 0 ds * 10 + ((48 + n % 10) - 48) ≡ n = omega arith in e);
     })
 
 all_taken : (digits : List ℕ) → AllByRecursion (λ d. is_ascii_digit d ≡ true) digits → prefix_len is_ascii_digit digits ≡ length digits
 all_taken [] h = refl
 all_taken (d ∷ digits) h = (let e = all_taken digits h.1 in rw h.0 (omega arith))
 
-read_back : (digits : List ℕ) (n : ℕ) → AllByRecursion (λ d. is_ascii_digit d ≡ true) digits → value_of digits ≡ n → 1 ≤ length digits → length digits ≤ 20 → n < 2 ^ 64 → number_at digits 0 ≡ Some (n, 0 + length digits)
+read_back : (digits : List ℕ) (n : ℕ) → AllByRecursion (λ d. is_ascii_digit d ≡ true) digits → value_of digits ≡ n
+    → 1 ≤ length digits → length digits ≤ 20 → n < 2 ^ 64 → number_at digits 0 ≡ Some (n, 0 + length digits)
 read_back digits n each value some few small =
     let run : run_at digits 0 ≡ digits = ap (λ (k : ℕ). take k digits) (all_taken digits each) ∙ take_all (length digits) digits (omega arith) in
     let t1 : nat_le 1 (length digits) ≡ true = grind (arith, nat_tests) in
@@ -57,7 +60,9 @@ not_minus digits some each = by_test (bytes_eq digits (codes "-1")) refl
   where
     by_test : (t : Bool) → bytes_eq digits (codes "-1") ≡ t → t ≡ false
     by_test false e = refl
-    by_test true e = (let same : digits ≡ codes "-1" = (bytes_eq-Decides digits (codes "-1")).0 e in let bad = subst (AllByRecursion (λ d. is_ascii_digit d ≡ true)) same each in (let b : is_ascii_digit 45 ≡ true = bad.0 in cc))
+    by_test true e = (let same : digits ≡ codes "-1" = (bytes_eq-Decides digits (codes "-1")).0 e in
+        let bad = subst (AllByRecursion (λ d. is_ascii_digit d ≡ true)) same
+        each in (let b : is_ascii_digit 45 ≡ true = bad.0 in cc))
 
 -- a word that stands alone, and the number that it is
 pub record Word (n : Option ℕ) (word : List ℕ) : Type 0 where
@@ -104,13 +109,17 @@ unfolding word_for
 word_is_for None h = minus_word
 word_is_for (Some n) h = number_word n h
 
-pub keep_word : (word : List ℕ) (words : List (List ℕ)) → 1 ≤ length word → filter (λ (w : List ℕ). nat_lt 0 (length w)) (word ∷ words) ≡ word ∷ filter (λ (w : List ℕ). nat_lt 0 (length w)) words
+pub keep_word : (word : List ℕ) (words : List (List ℕ)) → 1 ≤ length word
+    → filter (λ (w : List ℕ). nat_lt 0 (length w)) (word ∷ words) ≡ word ∷ filter
+    (λ (w : List ℕ). nat_lt 0 (length w)) words
 keep_word word words some = (let t : nat_lt 0 (length word) ≡ true = grind (arith, nat_tests) in rw t refl)
 
 pub word_then : (n : Option ℕ) (word rest : List ℕ) → Word n word → numbers_of (word ++ 32 ∷ rest) ≡ with_first n (numbers_of rest)
 unfolding numbers_of numbers_of_words words_of
 word_then n word rest w =
-    ap (λ (words : List (List ℕ)). numbers_of_words (filter (λ (w : List ℕ). nat_lt 0 (length w)) words)) (slice_split_at is_blank_byte word 32 rest (All-from_recursion (λ b. is_blank_byte b ≡ false) word w.inked) refl)
+    ap (λ (words : List (List ℕ)). numbers_of_words (filter (λ (w : List ℕ). nat_lt 0 (length w)) words))
+    (slice_split_at is_blank_byte word 32 rest (All-from_recursion (λ b. is_blank_byte b ≡ false) word w.inked)
+    refl)
     ∙ ap numbers_of_words (keep_word word (slice_split is_blank_byte rest) w.some)
     ∙ ap (λ (o : Option (Option ℕ)). option_and_then (λ (m : Option ℕ). with_first m (numbers_of rest)) o) w.is
 

@@ -25,7 +25,8 @@ IsLayer layer = IfSome layer (λ n. n < 65536)
 
 layer_taken : (l : List (Option ℕ)) (x : Option ℕ) → option_and_then if_layer (only_number l) ≡ Some x → IsLayer x × (l ≡ x ∷ [])
 layer_taken [] x e = cc
-layer_taken (None ∷ []) x e = (let same : None ≡ x = cc in subst (λ (z : Option ℕ). IsLayer z × (let l : List (Option ℕ) = None ∷ [] in l ≡ z ∷ [])) same (tt, refl))
+layer_taken (None ∷ []) x e = (let same : None ≡ x = cc in subst
+    (λ (z : Option ℕ). IsLayer z × (let l : List (Option ℕ) = None ∷ [] in l ≡ z ∷ [])) same (tt, refl))
 layer_taken (Some n ∷ []) x e =
     let k = cond_some (nat_le n 65535) (Some n) x e in
     let small : n < 65536 = (let t = k.0 in grind (arith, nat_tests)) in
@@ -44,8 +45,10 @@ unfolding width doublings
 some_range (Some layer) used small = (2, refl, omega arith)
 some_range None used small = (1, (let t : nat_le (used + 0) 65536 ≡ true = grind (arith, nat_tests) in t), omega arith)
 
-range_is : (layer : Option ℕ) (used : ℕ) → used ≤ 65536 → RowIs shape.Range (number_that (may_have layer used)) (number shape.Range) (λ n. may_have layer used n ≡ true)
-range_is layer used small = (let s = some_range layer used small in number_is shape.Range (may_have layer used) (λ n. may_have layer used n ≡ true) (λ n e. e) (λ n e. e) s.0 s.1 s.2)
+range_is : (layer : Option ℕ) (used : ℕ) → used ≤ 65536 → RowIs shape.Range (number_that (may_have layer used))
+    (number shape.Range) (λ n. may_have layer used n ≡ true)
+range_is layer used small = (let s = some_range layer used small in number_is shape.Range (may_have layer used)
+    (λ n. may_have layer used n ≡ true) (λ n e. e) (λ n e. e) s.0 s.1 s.2)
 
 abbrev pub AreLines : List (List ℕ) → Type 0
 AreLines = FitFrom {X = List ℕ} {T = Unit {0}} (λ _ x. IsLine x) kept (tt {0})
@@ -53,7 +56,8 @@ AreLines = FitFrom {X = List ℕ} {T = Unit {0}} (λ _ x. IsLine x) kept (tt {0}
 abbrev pub ValuesFit : Option ℕ → ℕ → List (List ℕ) → Type 0
 ValuesFit layer used values = (may_have layer used (length values) ≡ true) × AreLines values
 
-exact_values : (layer : Option ℕ) (used : ℕ) → used ≤ 65536 → Exact (values_at layer used) (λ values. number shape.Range (length values) ∷ flat_map name_rows values) (ValuesFit layer used)
+exact_values : (layer : Option ℕ) (used : ℕ) → used ≤ 65536 → Exact (values_at layer used)
+    (λ values. number shape.Range (length values) ∷ flat_map name_rows values) (ValuesFit layer used)
 exact_values layer used small =
     joining.exact_counted shape_of IsSpelled name_at kept name_rows (λ _ x. IsLine x) (λ _. Unit {0}) (λ _ _. exact_name) (λ _ _ _ _. tt)
     shape.Range (number_that (may_have layer used)) (number shape.Range) (λ n. may_have layer used n ≡ true) tt (range_is layer used small) (λ _ _ _. tt)
@@ -69,11 +73,15 @@ unfolding variable_at
 exact_variable used small =
     joining.exact_made shape_of IsSpelled variable_of parts_of (λ a. refl) (λ v. refl) _ _ (λ x. IsLine x.0 × (IsLayer x.1.0 × ValuesFit x.1.0 used x.1.1))
     (after_word shape.BeginVariable (codes "begin_variable") _ _ (λ x. IsLine x.0 × (IsLayer x.1.0 × ValuesFit x.1.0 used x.1.1))
-    (joining.exact_both shape_of IsSpelled (name_at tt) (λ _. both_at (row_at shape.Layer layer_in) (λ layer. before_at (values_at layer used) shape.EndVariable (exactly (codes "end_variable")))) name_rows IsLine
-    (λ _ x. (numbers shape.Layer (x.0 ∷ []) ∷ []) ++ ((number shape.Range (length x.1) ∷ flat_map name_rows x.1) ++ word shape.EndVariable (codes "end_variable") ∷ []))
+    (joining.exact_both shape_of IsSpelled (name_at tt) (λ _. both_at (row_at shape.Layer layer_in)
+    (λ layer. before_at (values_at layer used) shape.EndVariable (exactly (codes "end_variable")))) name_rows
+    IsLine
+    (λ _ x. (numbers shape.Layer (x.0 ∷ []) ∷ []) ++ ((number shape.Range (length x.1) ∷ flat_map name_rows x.1)
+    ++ word shape.EndVariable (codes "end_variable") ∷ []))
     (λ _ x. IsLayer x.0 × ValuesFit x.0 used x.1)
     exact_name
-    (λ _ _. joining.exact_both shape_of IsSpelled (row_at shape.Layer layer_in) (λ layer. before_at (values_at layer used) shape.EndVariable (exactly (codes "end_variable")))
+    (λ _ _. joining.exact_both shape_of IsSpelled (row_at shape.Layer layer_in)
+    (λ layer. before_at (values_at layer used) shape.EndVariable (exactly (codes "end_variable")))
     (λ layer. numbers shape.Layer (layer ∷ []) ∷ []) IsLayer
     (λ layer values. (number shape.Range (length values) ∷ flat_map name_rows values) ++ word shape.EndVariable (codes "end_variable") ∷ [])
     (λ layer values. ValuesFit layer used values)
@@ -82,7 +90,8 @@ exact_variable used small =
 
 -- what is used with a variable
 
-bits_within : (layer : Option ℕ) (used n : ℕ) → used ≤ 65536 → may_have layer used n ≡ true → (1 ≤ n) × (n ≤ 65536) × (used + cond (is_none layer) (width n) 0 ≤ 65536)
+bits_within : (layer : Option ℕ) (used n : ℕ) → used ≤ 65536 → may_have layer used n ≡ true → (1 ≤ n) × (n ≤ 65536)
+    × (used + cond (is_none layer) (width n) 0 ≤ 65536)
 bits_within (Some layer) used n small e = (grind (arith, nat_tests), grind (arith, nat_tests), omega arith)
 bits_within None used n small e = (grind (arith, nat_tests), grind (arith, nat_tests), grind (arith, nat_tests))
 
@@ -90,7 +99,8 @@ pub variable_within : (used : ℕ) (v : Variable) → used ≤ 65536 → Variabl
 variable_within used v small f = bits_within v.layer used (length v.values) small f.1.1.0
 
 -- a variable that was read
-pub variable_read : (used : ℕ) (lines rest : Lines) (v : Variable) → used ≤ 65536 → variable_at used lines ≡ Ok (v, rest) → (1 ≤ range v) × (range v ≤ 65536) × (used + bits_of v ≤ 65536)
+pub variable_read : (used : ℕ) (lines rest : Lines) (v : Variable) → used ≤ 65536
+    → variable_at used lines ≡ Ok (v, rest) → (1 ≤ range v) × (range v ≤ 65536) × (used + bits_of v ≤ 65536)
 variable_read used lines rest v small e = variable_within used v small ((exact_variable used small).takes lines v rest e).fits
 
 abbrev pub VariablesFit : List Variable → Type 0
@@ -98,5 +108,6 @@ VariablesFit vs = (length vs ≤ 65536) × FitFrom VariableFits used_after 0 vs
 
 pub exact_variables : Exact variables_at (counted_rows variable_rows) VariablesFit
 exact_variables =
-    joining.exact_counted shape_of IsSpelled variable_at used_after variable_rows VariableFits (λ used. used ≤ 65536) exact_variable (λ used v small f. (variable_within used v small f).2)
+    joining.exact_counted shape_of IsSpelled variable_at used_after variable_rows VariableFits (λ used. used ≤ 65536)
+    exact_variable (λ used v small f. (variable_within used v small f).2)
     shape.Count (count_to 65536) (number shape.Count) (λ n. n ≤ 65536) 0 (count_is shape.Count 65536) (λ _ _ _. omega arith)

@@ -7,7 +7,8 @@ pub width_begins : (n : ℕ) → 0 + doublings (n - 0) 1 n ≡ width n
 unfolding width
 width_begins n = (let e : n - 0 ≡ n = omega arith in rw e (omega arith))
 
-pub width_goes_on : (n bits power : ℕ) → power < n → bits < power → bits + doublings (n - bits) power n ≡ width n → (bits + 1) + doublings (n - (bits + 1)) (power * 2) n ≡ width n
+pub width_goes_on : (n bits power : ℕ) → power < n → bits < power → bits + doublings (n - bits) power n ≡ width n
+    → (bits + 1) + doublings (n - (bits + 1)) (power * 2) n ≡ width n
 unfolding doublings
 width_goes_on n bits power more few so_far =
     let k : n - bits ≡ suc (n - (bits + 1)) = omega arith in

@@ -27,7 +27,8 @@ pub skip_blanks : (line : List ℕ) → words_of (drop (blanks_in line) line) �
 skip_blanks [] = refl
 skip_blanks (b ∷ line) = by_test (is_blank_byte b) refl (skip_blanks line)
   where
-    by_test : (t : Bool) → is_blank_byte b ≡ t → words_of (drop (blanks_in line) line) ≡ words_of line → words_of (drop (cond t (1 + blanks_in line) 0) (b ∷ line)) ≡ words_of (b ∷ line)
+    by_test : (t : Bool) → is_blank_byte b ≡ t → words_of (drop (blanks_in line) line) ≡ words_of line
+        → words_of (drop (cond t (1 + blanks_in line) 0) (b ∷ line)) ≡ words_of (b ∷ line)
     by_test true e ih = (let one : 1 + blanks_in line ≡ suc (blanks_in line) = omega arith in rw one (ih ∙ sym (skip_one b line e)))
     by_test false e ih = refl
 
@@ -38,16 +39,21 @@ not_false false e = cc
 abbrev pub inked_len : List ℕ → ℕ
 inked_len line = prefix_len is_inked line
 
-keep_word : (word : List ℕ) (words : List (List ℕ)) → 1 ≤ length word → filter (λ (w : List ℕ). nat_lt 0 (length w)) (word ∷ words) ≡ word ∷ filter (λ (w : List ℕ). nat_lt 0 (length w)) words
+keep_word : (word : List ℕ) (words : List (List ℕ)) → 1 ≤ length word
+    → filter (λ (w : List ℕ). nat_lt 0 (length w)) (word ∷ words) ≡ word ∷ filter
+    (λ (w : List ℕ). nat_lt 0 (length w)) words
 keep_word word words some = (let t : nat_lt 0 (length word) ≡ true = grind (arith, nat_tests) in rw t refl)
 
 -- the word ends at a blank
-ends_at_blank : (line : List ℕ) → inked_len line < length line → 1 ≤ length (word_in line) → words_of line ≡ word_in line ∷ words_of (drop (inked_len line) line)
+ends_at_blank : (line : List ℕ) → inked_len line < length line → 1 ≤ length (word_in line)
+    → words_of line ≡ word_in line ∷ words_of (drop (inked_len line) line)
 unfolding words_of
 ends_at_blank line lt some =
-    let stop : is_blank_byte (get_or line (inked_len line) 0) ≡ true = not_false (is_blank_byte (get_or line (inked_len line) 0)) (prefix_len_stops is_inked line 0 lt) in
+    let stop : is_blank_byte (get_or line (inked_len line) 0) ≡ true =
+    not_false (is_blank_byte (get_or line (inked_len line) 0)) (prefix_len_stops is_inked line 0 lt) in
     let at : drop (inked_len line) line ≡ get_or line (inked_len line) 0 ∷ drop (inked_len line + 1) line = drop_more line (inked_len line) 0 lt in
-    let after : words_of (drop (inked_len line) line) ≡ words_of (drop (inked_len line + 1) line) = ap words_of at ∙ skip_one (get_or line (inked_len line) 0) (drop (inked_len line + 1) line) stop in
+    let after : words_of (drop (inked_len line) line) ≡ words_of (drop (inked_len line + 1) line) = ap words_of at
+    ∙ skip_one (get_or line (inked_len line) 0) (drop (inked_len line + 1) line) stop in
     ap (filter (λ (w : List ℕ). nat_lt 0 (length w))) (slice_split_first is_blank_byte line 0 lt)
     ∙ keep_word (word_in line) (slice_split is_blank_byte (drop (inked_len line + 1) line)) some
     ∙ ap (λ (words : List (List ℕ)). word_in line ∷ words) (sym after)
@@ -57,7 +63,8 @@ is_whole : (line : List ℕ) → length line ≤ inked_len line → 1 ≤ length
 unfolding words_of
 is_whole line le some =
     let whole : word_in line ≡ line = take_all (inked_len line) line le in
-    let none : All (λ b. is_blank_byte b ≡ false) line = All-from_get_or (λ b. is_blank_byte b ≡ false) line 0 (λ i lt. not_true (is_blank_byte (get_or line i 0)) (prefix_len_passes is_inked line i 0 (omega arith))) in
+    let none : All (λ b. is_blank_byte b ≡ false) line = All-from_get_or (λ b. is_blank_byte b ≡ false) line 0
+    (λ i lt. not_true (is_blank_byte (get_or line i 0)) (prefix_len_passes is_inked line i 0 (omega arith))) in
     let rest : drop (inked_len line) line ≡ [] = drop_all (inked_len line) line le in
     ap (filter (λ (w : List ℕ). nat_lt 0 (length w))) (slice_split_none is_blank_byte line none)
     ∙ keep_word line [] (omega (arith, ap (λ (l : List ℕ). length l) whole))
@@ -75,15 +82,20 @@ word_first line some =
     rw len (elim (cases_lt (inked_len line) (length line)) [ inl lt ↦ ends_at_blank line lt some | inr le ↦ is_whole line le some ])
 
 word_begins : (b : ℕ) (line : List ℕ) → is_blank_byte b ≡ false → 1 ≤ length (word_in (b ∷ line))
-word_begins b line e = (let t : is_inked b ≡ true = ap not e in let one : inked_len (b ∷ line) ≡ 1 + inked_len line = rw t refl in let len = length-take-le (inked_len (b ∷ line)) (b ∷ line) (prefix_len-le-length is_inked (b ∷ line)) in omega (arith, len, one))
+word_begins b line e = (let t : is_inked b ≡ true = ap not e in
+    let one : inked_len (b ∷ line) ≡ 1 + inked_len line = rw t refl in
+    let len = length-take-le (inked_len (b ∷ line)) (b ∷ line)
+    (prefix_len-le-length is_inked (b ∷ line)) in omega (arith, len, one))
 
 pub no_word : (line : List ℕ) → length (word_in (drop (blanks_in line) line)) ≡ 0 → words_of line ≡ []
 unfolding words_of
 no_word [] none = refl
 no_word (b ∷ line) none = by_test (is_blank_byte b) refl (no_word line) none
   where
-    by_test : (t : Bool) → is_blank_byte b ≡ t → (length (word_in (drop (blanks_in line) line)) ≡ 0 → words_of line ≡ []) → length (word_in (drop (cond t (1 + blanks_in line) 0) (b ∷ line))) ≡ 0 → words_of (b ∷ line) ≡ []
-    by_test true e ih none = skip_one b line e ∙ ih (let one : 1 + blanks_in line ≡ suc (blanks_in line) = omega arith in subst (λ (n : ℕ). length (word_in (drop n (b ∷ line))) ≡ 0) one none)
+    by_test : (t : Bool) → is_blank_byte b ≡ t → (length (word_in (drop (blanks_in line) line)) ≡ 0 → words_of line
+        ≡ []) → length (word_in (drop (cond t (1 + blanks_in line) 0) (b ∷ line))) ≡ 0 → words_of (b ∷ line) ≡ []
+    by_test true e ih none = skip_one b line e ∙ ih (let one : 1 + blanks_in line ≡ suc (blanks_in line) = omega
+        arith in subst (λ (n : ℕ). length (word_in (drop n (b ∷ line))) ≡ 0) one none)
     by_test false e ih none = absurd (omega (arith, word_begins b line e))
 
 pub blank_words : (line : List ℕ) → is_blank line ≡ true → words_of line ≡ []
@@ -102,4 +114,6 @@ words_blank (b ∷ line) e none = by_test (is_blank_byte b) refl (words_blank li
   where
     by_test : (t : Bool) → is_blank_byte b ≡ t → (is_blank line ≡ false → (words_of line ≡ [] → ⊥)) → (t && is_blank line) ≡ false → ⊥
     by_test true t ih e = ih e (sym (skip_one b line t) ∙ none)
-    by_test false t ih e = (let first = word_first (b ∷ line) (word_begins b line t) in let both : word_in (b ∷ line) ∷ words_of (drop (length (word_in (b ∷ line))) (b ∷ line)) ≡ [] = sym first ∙ none in cc)
+    by_test false t ih e = (let first = word_first (b ∷ line) (word_begins b line t) in
+        let both : word_in (b ∷ line) ∷ words_of (drop (length (word_in (b ∷ line))) (b ∷ line)) ≡ [] =
+        sym first ∙ none in cc)

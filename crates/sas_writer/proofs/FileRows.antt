@@ -19,7 +19,9 @@ regroup : (a b c d e f g : Lines) → (((((a ++ b) ++ c) ++ d) ++ e) ++ f) ++ g 
 regroup a b c d e f g = simp append_assoc
 
 -- rows are written section after section
-sections_written : (r1 r2 r3 r4 r5 r6 r7 : List Row) (l1 l2 l3 l4 l5 l6 l7 : Lines) → AreWritten r1 l1 → AreWritten r2 l2 → AreWritten r3 l3 → AreWritten r4 l4 → AreWritten r5 l5 → AreWritten r6 l6 → AreWritten r7 l7
+sections_written : (r1 r2 r3 r4 r5 r6 r7 : List Row) (l1 l2 l3 l4 l5 l6 l7 : Lines) → AreWritten r1 l1
+    → AreWritten r2 l2 → AreWritten r3 l3 → AreWritten r4 l4 → AreWritten r5 l5
+    → AreWritten r6 l6 → AreWritten r7 l7
     → AreWritten (r1 ++ (r2 ++ (r3 ++ (r4 ++ (r5 ++ (r6 ++ r7)))))) ((((((l1 ++ l2) ++ l3) ++ l4) ++ l5) ++ l6) ++ l7)
 sections_written r1 r2 r3 r4 r5 r6 r7 l1 l2 l3 l4 l5 l6 l7 h1 h2 h3 h4 h5 h6 h7 =
     subst (AreWritten (r1 ++ (r2 ++ (r3 ++ (r4 ++ (r5 ++ (r6 ++ r7))))))) (sym (regroup l1 l2 l3 l4 l5 l6 l7))
@@ -39,14 +41,20 @@ task_written task h costs =
     let few_operators = h.operators in
     let few_rules = h.rules in
     let rules = counted_written (FitsRule task) rule_rows rule_lines (rule_written task known) task.rules (omega arith) h.each_rule in
-    let operators = counted_written (λ o. FitsOperator task.variables o × (o.cost < 2 ^ 64)) operator_rows operator_lines (operator_written task.variables known) task.operators (omega arith) (λ k d lt. (h.each_operator k d lt, costs k d lt)) in
+    let operators = counted_written (λ o. FitsOperator task.variables o × (o.cost < 2 ^ 64)) operator_rows
+    operator_lines (operator_written task.variables known) task.operators (omega arith)
+    (λ k d lt. (h.each_operator k d lt, costs k d lt)) in
     let goal = goal_written task.variables known task.goal h.goal in
     let state = state_written task.initial (values_small task.variables task.initial h.initial known.small h.each_value) in
-    let mutexes = counted_written (AreFacts task.variables) group_rows mutex_lines (mutex_written task.variables known) task.mutexes (omega arith) h.each_mutex in
+    let mutexes = counted_written (AreFacts task.variables) group_rows mutex_lines
+    (mutex_written task.variables known) task.mutexes (omega arith) h.each_mutex in
     let variables = counted_written FitsVariable variable_rows variable_lines variable_written task.variables (omega arith) h.each_variable in
     let header = header_written task.metric h.metric in
-    sections_written (header_rows task.metric) (counted_rows variable_rows task.variables) (counted_rows group_rows task.mutexes) (state_rows task.initial) (goal_rows task.goal) (counted_rows operator_rows task.operators) (counted_rows rule_rows task.rules)
-    (head_lines task.metric) (variables_lines task.variables) (mutexes_lines task.mutexes) (state_lines task.initial) (goal_lines task.goal) (operators_lines task.operators) (rules_lines task.rules)
+    sections_written (header_rows task.metric) (counted_rows variable_rows task.variables)
+    (counted_rows group_rows task.mutexes) (state_rows task.initial) (goal_rows task.goal)
+    (counted_rows operator_rows task.operators) (counted_rows rule_rows task.rules)
+    (head_lines task.metric) (variables_lines task.variables) (mutexes_lines task.mutexes) (state_lines task.initial)
+    (goal_lines task.goal) (operators_lines task.operators) (rules_lines task.rules)
     header variables mutexes state goal operators rules
 
 pub text_is_file : (task : TaskParts) → Fits task → HasSmallCosts task.operators → IsFileOf (lines (task_text task)) task
@@ -67,6 +75,7 @@ file_is_taken ls task (Offence line wanted) h (refused, wants) = absurd (by_end 
     whole : IsFileOf (take line ls ++ drop line ls) task
     whole = subst (λ (l : Lines). IsFileOf l task) (sym (take-append-drop line ls)) h
 
-    by_end : ((line ≤ length ls) × (((more : Lines) × (a : TaskParts) × IsFileOf (take line ls ++ more) a) → ⊥)) ⊎ ((line ≡ length ls + 1) × ((a : TaskParts) → IsFileOf ls a → ⊥)) → ⊥
+    by_end : ((line ≤ length ls) × (((more : Lines) × (a : TaskParts) × IsFileOf (take line ls ++ more) a) → ⊥))
+        ⊎ ((line ≡ length ls + 1) × ((a : TaskParts) → IsFileOf ls a → ⊥)) → ⊥
     by_end (inl s) = s.1 (drop line ls, task, whole)
     by_end (inr s) = s.1 task h

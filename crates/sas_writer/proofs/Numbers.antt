@@ -49,7 +49,9 @@ pub word_alone : (n : Option ℕ) (word : List ℕ) → IsWord n word → IsLine
 unfolding numbers_of numbers_of_words words_of
 word_alone n word w = record {
   numbers =
-      ap (λ (words : List (List ℕ)). numbers_of_words (filter (λ (w : List ℕ). nat_lt 0 (length w)) words)) (slice_split_none is_blank_byte word (All-from_recursion (λ b. is_blank_byte b ≡ false) word w.reads.inked))
+      ap (λ (words : List (List ℕ)). numbers_of_words (filter (λ (w : List ℕ). nat_lt 0 (length w)) words))
+      (slice_split_none is_blank_byte word (All-from_recursion (λ b. is_blank_byte b ≡ false) word
+      w.reads.inked))
       ∙ ap numbers_of_words (keep_word word [] w.reads.some)
       ∙ ap (λ (o : Option (Option ℕ)). option_and_then (λ (m : Option ℕ). with_first m (Some [])) o) w.reads.is;
   plain = w.plain;
@@ -70,17 +72,22 @@ pub record IsSmallFact (fact : Fact) : Type 0 where
   pub val : fact.val < 2 ^ 64
 
 pub fact_is_line : (fact : Fact) → IsSmallFact fact → IsLineOf (fact_numbers fact) (fact_line fact)
-fact_is_line fact h = word_first (Some fact.var) (decimal fact.var) (Some fact.val ∷ []) (decimal fact.val) (decimal_is_word fact.var h.var) (number_line fact.val h.val)
+fact_is_line fact h = word_first (Some fact.var) (decimal fact.var) (Some fact.val ∷ []) (decimal fact.val)
+    (decimal_is_word fact.var h.var) (number_line fact.val h.val)
 
 regroup : (var val conds rest : List ℕ) → (((var ++ 32 ∷ val) ++ 32 ∷ []) ++ conds) ++ rest ≡ var ++ 32 ∷ (val ++ 32 ∷ (conds ++ rest))
 regroup var val conds rest = simp append_assoc
 
-conditions_first : (facts : List Fact) (ns : List (Option ℕ)) (rest : List ℕ) → AllByRecursion IsSmallFact facts → IsLineOf ns rest → IsLineOf (flat_map fact_numbers facts ++ ns) (flat_map condition facts ++ rest)
+conditions_first : (facts : List Fact) (ns : List (Option ℕ)) (rest : List ℕ) → AllByRecursion IsSmallFact facts
+    → IsLineOf ns rest → IsLineOf (flat_map fact_numbers facts ++ ns) (flat_map condition facts ++ rest)
 conditions_first [] ns rest h r = r
 conditions_first (f ∷ facts) ns rest h r =
-    subst (IsLineOf (Some f.var ∷ Some f.val ∷ (flat_map fact_numbers facts ++ ns))) (sym (regroup (decimal f.var) (decimal f.val) (flat_map condition facts) rest))
-    (word_first (Some f.var) (decimal f.var) (Some f.val ∷ (flat_map fact_numbers facts ++ ns)) (decimal f.val ++ 32 ∷ (flat_map condition facts ++ rest)) (decimal_is_word f.var h.0.var)
-    (word_first (Some f.val) (decimal f.val) (flat_map fact_numbers facts ++ ns) (flat_map condition facts ++ rest) (decimal_is_word f.val h.0.val) (conditions_first facts ns rest h.1 r)))
+    subst (IsLineOf (Some f.var ∷ Some f.val ∷ (flat_map fact_numbers facts ++ ns)))
+    (sym (regroup (decimal f.var) (decimal f.val) (flat_map condition facts) rest))
+    (word_first (Some f.var) (decimal f.var) (Some f.val ∷ (flat_map fact_numbers facts ++ ns))
+    (decimal f.val ++ 32 ∷ (flat_map condition facts ++ rest)) (decimal_is_word f.var h.0.var)
+    (word_first (Some f.val) (decimal f.val) (flat_map fact_numbers facts ++ ns) (flat_map condition facts ++ rest)
+    (decimal_is_word f.val h.0.val) (conditions_first facts ns rest h.1 r)))
 
 -- all numbers of an effect can be read back
 pub record IsSmallEffect (e : Effect) : Type 0 where
@@ -90,7 +97,8 @@ pub record IsSmallEffect (e : Effect) : Type 0 where
   pub pre : IsSmall e.pre
   pub post : e.post < 2 ^ 64
 
-regroup_effect : (count conds var pre post : List ℕ) → (((count ++ 32 ∷ conds) ++ var) ++ 32 ∷ pre) ++ 32 ∷ post ≡ count ++ 32 ∷ (conds ++ (var ++ 32 ∷ (pre ++ 32 ∷ post)))
+regroup_effect : (count conds var pre post : List ℕ) → (((count ++ 32 ∷ conds) ++ var) ++ 32 ∷ pre) ++ 32 ∷ post
+    ≡ count ++ 32 ∷ (conds ++ (var ++ 32 ∷ (pre ++ 32 ∷ post)))
 regroup_effect count conds var pre post = simp append_assoc
 
 pub effect_is_line : (e : Effect) → IsSmallEffect e → IsLineOf (effect_numbers e) (effect_line e)
@@ -100,7 +108,8 @@ effect_is_line e h =
     let conds = flat_map condition e.conds in
     let ending = decimal e.var ++ 32 ∷ (or_minus_one e.pre ++ 32 ∷ decimal e.post) in
     subst (IsLineOf (effect_numbers e)) (sym (regroup_effect count conds (decimal e.var) (or_minus_one e.pre) (decimal e.post)))
-    (word_first (Some (length e.conds)) count (flat_map fact_numbers e.conds ++ Some e.var ∷ e.pre ∷ Some e.post ∷ []) (conds ++ ending) (decimal_is_word (length e.conds) h.few)
+    (word_first (Some (length e.conds)) count (flat_map fact_numbers e.conds ++ Some e.var ∷ e.pre ∷ Some e.post ∷ [])
+    (conds ++ ending) (decimal_is_word (length e.conds) h.few)
     (conditions_first e.conds (Some e.var ∷ e.pre ∷ Some e.post ∷ []) ending h.conds
     (word_first (Some e.var) (decimal e.var) (e.pre ∷ Some e.post ∷ []) (or_minus_one e.pre ++ 32 ∷ decimal e.post) (decimal_is_word e.var h.var)
     (word_first e.pre (or_minus_one e.pre) (Some e.post ∷ []) (decimal e.post) (or_minus_one_is_word e.pre h.pre) (number_line e.post h.post)))))
@@ -109,5 +118,7 @@ pub head_is_line : (rule : Rule) → rule.var < 2 ^ 64 → rule.new < 2 ^ 64 →
 unfolding head_line
 head_is_line rule var new =
     subst (IsLineOf (head_numbers rule)) (sym (append_assoc (decimal rule.var) (32 ∷ decimal (1 - rule.new)) (32 ∷ decimal rule.new)))
-    (word_first (Some rule.var) (decimal rule.var) (Some (1 - rule.new) ∷ Some rule.new ∷ []) (decimal (1 - rule.new) ++ 32 ∷ decimal rule.new) (decimal_is_word rule.var var)
-    (word_first (Some (1 - rule.new)) (decimal (1 - rule.new)) (Some rule.new ∷ []) (decimal rule.new) (decimal_is_word (1 - rule.new) (omega arith)) (number_line rule.new new)))
+    (word_first (Some rule.var) (decimal rule.var) (Some (1 - rule.new) ∷ Some rule.new ∷ [])
+    (decimal (1 - rule.new) ++ 32 ∷ decimal rule.new) (decimal_is_word rule.var var)
+    (word_first (Some (1 - rule.new)) (decimal (1 - rule.new)) (Some rule.new ∷ []) (decimal rule.new)
+    (decimal_is_word (1 - rule.new) (omega arith)) (number_line rule.new new)))

@@ -27,14 +27,17 @@ AllByRecursion-append P (x ∷ xs) ys h k = (h.0, AllByRecursion-append P xs ys 
 pub without_return-plain : (piece : List ℕ) → Plain piece → without_return piece ≡ piece
 without_return-plain [] h = refl
 without_return-plain (b ∷ piece) h =
-    let more : 13 < get_or (b ∷ piece) (length (b ∷ piece) - 1) 0 = All-from_recursion (λ byte. 13 < byte) (b ∷ piece) h (length (b ∷ piece) - 1) 0 (omega arith) in
+    let more : 13 < get_or (b ∷ piece) (length (b ∷ piece) - 1) 0 =
+    All-from_recursion (λ byte. 13 < byte) (b ∷ piece) h (length (b ∷ piece) - 1) 0 (omega arith) in
     let t : eqb (get_or (b ∷ piece) (length (b ∷ piece) - 1) 0) 13 ≡ false = grind (arith, nat_tests) in
     rw t refl
 
 return_dropped : (name : List ℕ) → without_return (name ++ 13 ∷ []) ≡ name
 return_dropped name =
     let last : length (name ++ 13 ∷ []) - 1 ≡ length name = omega (arith, length-append name (13 ∷ [])) in
-    let at : get_or (name ++ 13 ∷ []) (length name) 0 ≡ 13 = get_or-append_right name (13 ∷ []) (length name) (length name) 0 refl (omega arith) ∙ (let z : length name - length name ≡ 0 = omega arith in rw z refl) in
+    let at : get_or (name ++ 13 ∷ []) (length name) 0 ≡ 13 =
+    get_or-append_right name (13 ∷ []) (length name) (length name) 0 refl (omega arith)
+    ∙ (let z : length name - length name ≡ 0 = omega arith in rw z refl) in
     let t : eqb (get_or (name ++ 13 ∷ []) (length name) 0) 13 ≡ true = grind (arith, nat_tests) in
     rw (last, t) (take-append-le (length name) name (13 ∷ []) (omega arith) ∙ take_all (length name) name (omega arith))
 

@@ -55,12 +55,14 @@ pub then_written : (r1 r2 : List Row) (l1 l2 : Lines) → AreWritten r1 l1 → A
 then_written r1 r2 l1 l2 h k = grammar.spells_append shape_of IsWritten r1 r2 l1 l2 h k
 
 -- a line for each
-pub each_line : {X : Type 0} (rows : X → List Row) (piece : X → List ℕ) (xs : List X) → AllByRecursion (λ x. AreWritten (rows x) (piece x ∷ [])) xs → AreWritten (flat_map rows xs) (map piece xs)
+pub each_line : {X : Type 0} (rows : X → List Row) (piece : X → List ℕ) (xs : List X)
+    → AllByRecursion (λ x. AreWritten (rows x) (piece x ∷ [])) xs → AreWritten (flat_map rows xs) (map piece xs)
 each_line rows piece [] h = tt
 each_line rows piece (x ∷ xs) h = then_written (rows x) (flat_map rows xs) (piece x ∷ []) (map piece xs) h.0 (each_line rows piece xs h.1)
 
 -- some lines for each
-pub each_lines : {X : Type 0} (rows : X → List Row) (pieces : X → Lines) (xs : List X) → AllByRecursion (λ x. AreWritten (rows x) (pieces x)) xs → AreWritten (flat_map rows xs) (flat_map pieces xs)
+pub each_lines : {X : Type 0} (rows : X → List Row) (pieces : X → Lines) (xs : List X)
+    → AllByRecursion (λ x. AreWritten (rows x) (pieces x)) xs → AreWritten (flat_map rows xs) (flat_map pieces xs)
 each_lines rows pieces [] h = tt
 each_lines rows pieces (x ∷ xs) h = then_written (rows x) (flat_map rows xs) (pieces x) (flat_map pieces xs) h.0 (each_lines rows pieces xs h.1)
 

@@ -24,17 +24,30 @@ use Rattle.sas_writer.proofs.Small.{each_of, within, fact_small, effect_small, l
 -- a word, lines, and a word
 framed : (first last : Shape) (begins ends : List ℕ) (rows : List Row) (ls : Lines) → IsPlain begins → IsPlain ends → AreWritten rows ls
     → AreWritten (word first begins ∷ (rows ++ word last ends ∷ [])) (begins ∷ (ls ++ ends ∷ []))
-framed first last begins ends rows ls b e h = (word_written first begins b, then_written rows (word last ends ∷ []) ls (ends ∷ []) h (word_written last ends e, tt))
+framed first last begins ends rows ls b e h = (
+  word_written first begins b,
+  then_written rows (word last ends ∷ []) ls
+      (ends ∷ []) h (word_written last ends e, tt),
+)
 
 pub header_written : (metric : ℕ) → metric < 2 → AreWritten (header_rows metric) (head_lines metric)
 unfolding head_lines
 header_written metric lt =
     let ending : AreWritten (number shape.Metric metric ∷ word shape.EndMetric (codes "end_metric") ∷ []) (decimal metric ∷ codes "end_metric" ∷ []) =
     (number_written shape.Metric metric (omega arith), (word_written shape.EndMetric (codes "end_metric") refl, tt)) in
-    let three = subst (IsWritten (number shape.Three 3)) (decimal_digit 3 (omega arith)) (number_written shape.Three 3 (omega arith)) in
-    (word_written shape.BeginVersion (codes "begin_version") refl, (three, (word_written shape.EndVersion (codes "end_version") refl, (word_written shape.BeginMetric (codes "begin_metric") refl, ending))))
+    let three = subst (IsWritten (number shape.Three 3)) (decimal_digit 3 (omega arith)) (number_written shape.Three 3 (omega arith)) in (
+      word_written shape.BeginVersion (codes "begin_version") refl,
+      (
+        three,
+        (
+          word_written shape.EndVersion (codes "end_version") refl,
+          (word_written shape.BeginMetric (codes "begin_metric") refl, ending),
+        ),
+      ),
+    )
 
-facts_written : (variables : List Variable) (facts : List Fact) → Known variables → AreFacts variables facts → AreWritten (counted_rows fact_rows facts) (facts_lines facts)
+facts_written : (variables : List Variable) (facts : List Fact) → Known variables → AreFacts variables facts
+    → AreWritten (counted_rows fact_rows facts) (facts_lines facts)
 unfolding facts_lines
 facts_written variables facts known h = (
   (let few = h.0 in number_written shape.Count (length facts) (omega arith)),
@@ -45,33 +58,45 @@ facts_written variables facts known h = (
 pub variable_written : (v : Variable) → FitsVariable v → AreWritten (variable_rows v) (variable_lines v)
 unfolding variable_lines
 variable_written v h =
-    let layer = numbers_written shape.Layer (v.layer ∷ []) (or_minus_one v.layer) (word_alone v.layer (or_minus_one v.layer) (or_minus_one_is_word v.layer (layer_small v.layer h.range.layer_most))) in
+    let layer = numbers_written shape.Layer (v.layer ∷ []) (or_minus_one v.layer)
+    (word_alone v.layer (or_minus_one v.layer) (or_minus_one_is_word v.layer
+    (layer_small v.layer h.range.layer_most))) in
     let most = h.range.most in
     let count = number_written shape.Range (length v.values) (omega arith) in
-    let values = each_line name_rows name_line v.values (each_of IsName (λ n. AreWritten (name_rows n) (name_line n ∷ [])) (λ n is. (name_written n is, tt)) v.values h.values) in
-    let ending = then_written (flat_map name_rows v.values) (word shape.EndVariable (codes "end_variable") ∷ []) (map name_line v.values) (codes "end_variable" ∷ []) values (word_written shape.EndVariable (codes "end_variable") refl, tt) in
+    let values = each_line name_rows name_line v.values (each_of IsName
+    (λ n. AreWritten (name_rows n) (name_line n ∷ [])) (λ n is. (name_written n is, tt)) v.values h.values) in
+    let ending = then_written (flat_map name_rows v.values) (word shape.EndVariable (codes "end_variable") ∷ [])
+    (map name_line v.values) (codes "end_variable" ∷ []) values
+    (word_written shape.EndVariable (codes "end_variable") refl, tt) in
     (word_written shape.BeginVariable (codes "begin_variable") refl, (name_written v.name h.name, (layer, (count, ending))))
 
-pub mutex_written : (variables : List Variable) → Known variables → (facts : List Fact) → AreFacts variables facts → AreWritten (group_rows facts) (mutex_lines facts)
+pub mutex_written : (variables : List Variable) → Known variables → (facts : List Fact) → AreFacts variables facts
+    → AreWritten (group_rows facts) (mutex_lines facts)
 unfolding mutex_lines
 mutex_written variables known facts h =
-    framed shape.BeginMutex shape.EndMutex (codes "begin_mutex_group") (codes "end_mutex_group") (counted_rows fact_rows facts) (facts_lines facts) refl refl (facts_written variables facts known h)
+    framed shape.BeginMutex shape.EndMutex (codes "begin_mutex_group") (codes "end_mutex_group")
+    (counted_rows fact_rows facts) (facts_lines facts) refl refl (facts_written variables facts known h)
 
 pub state_written : (values : List ℕ) → AllByRecursion (λ n. n < 2 ^ 64) values → AreWritten (state_rows values) (state_lines values)
 unfolding state_lines
 state_written values small =
-    framed shape.BeginState shape.EndState (codes "begin_state") (codes "end_state") (flat_map value_rows values) (map decimal values) refl refl (each_line value_rows decimal values (each values small))
+    framed shape.BeginState shape.EndState (codes "begin_state") (codes "end_state") (flat_map value_rows values)
+    (map decimal values) refl refl (each_line value_rows decimal values (each values small))
   where
     each : (values : List ℕ) → AllByRecursion (λ n. n < 2 ^ 64) values → AllByRecursion (λ n. AreWritten (value_rows n) (decimal n ∷ [])) values
     each [] h = tt
     each (n ∷ values) h = ((number_written shape.Value n h.0, tt), each values h.1)
 
-pub goal_written : (variables : List Variable) → Known variables → (facts : List Fact) → AreFacts variables facts → AreWritten (goal_rows facts) (goal_lines facts)
+pub goal_written : (variables : List Variable) → Known variables → (facts : List Fact) → AreFacts variables facts
+    → AreWritten (goal_rows facts) (goal_lines facts)
 unfolding goal_lines
 goal_written variables known facts h =
-    framed shape.BeginGoal shape.EndGoal (codes "begin_goal") (codes "end_goal") (counted_rows fact_rows facts) (facts_lines facts) refl refl (facts_written variables facts known h)
+    framed shape.BeginGoal shape.EndGoal (codes "begin_goal") (codes "end_goal") (counted_rows fact_rows facts)
+    (facts_lines facts) refl refl (facts_written variables facts known h)
 
-regroup_operator : (begins n cost ends : List ℕ) (prevail effects : Lines) → (((begins ∷ n ∷ prevail) ++ effects) ++ cost ∷ []) ++ ends ∷ [] ≡ begins ∷ n ∷ (prevail ++ (effects ++ (cost ∷ ends ∷ [])))
+regroup_operator : (begins n cost ends : List ℕ) (prevail effects : Lines)
+    → (((begins ∷ n ∷ prevail) ++ effects) ++ cost ∷ []) ++ ends ∷ [] ≡ begins ∷ n
+    ∷ (prevail ++ (effects ++ (cost ∷ ends ∷ [])))
 regroup_operator begins n cost ends prevail effects = simp append_assoc
 
 effects_written : (variables : List Variable) → Known variables → (effects : List Effect) → length effects ≤ 65536 → All (FitsEffect variables) effects
@@ -82,17 +107,24 @@ effects_written variables known effects few h = (
       (λ e fits. (numbers_written shape.Effect (effect_numbers e) (effect_line e) (effect_is_line e (effect_small variables known e fits)), tt)) effects h),
 )
 
-pub operator_written : (variables : List Variable) → Known variables → (o : Operator) → FitsOperator variables o × (o.cost < 2 ^ 64) → AreWritten (operator_rows o) (operator_lines o)
+pub operator_written : (variables : List Variable) → Known variables → (o : Operator) → FitsOperator variables o
+    × (o.cost < 2 ^ 64) → AreWritten (operator_rows o) (operator_lines o)
 unfolding operator_lines
 operator_written variables known o h =
     let effects = decimal (length o.effects) ∷ map effect_line o.effects in
     let ending = number shape.Cost o.cost ∷ word shape.EndOperator (codes "end_operator") ∷ [] in
-    subst (AreWritten (operator_rows o)) (sym (regroup_operator (codes "begin_operator") (name_line o.name) (decimal o.cost) (codes "end_operator") (facts_lines o.prevail) effects)) (
+    subst (AreWritten (operator_rows o))
+    (sym (regroup_operator (codes "begin_operator") (name_line o.name) (decimal o.cost) (codes "end_operator")
+    (facts_lines o.prevail) effects)) (
       word_written shape.BeginOperator (codes "begin_operator") refl,
       (
         name_written o.name h.0.name,
-        then_written (counted_rows fact_rows o.prevail) (counted_rows effect_rows o.effects ++ ending) (facts_lines o.prevail) (effects ++ (decimal o.cost ∷ codes "end_operator" ∷ [])) (facts_written variables o.prevail known h.0.prevail)
-            (then_written (counted_rows effect_rows o.effects) ending effects (decimal o.cost ∷ codes "end_operator" ∷ []) (effects_written variables known o.effects h.0.effects h.0.each)
+        then_written (counted_rows fact_rows o.prevail) (counted_rows effect_rows o.effects ++ ending)
+            (facts_lines o.prevail) (effects ++ (decimal o.cost ∷ codes "end_operator" ∷ []))
+            (facts_written variables o.prevail known h.0.prevail)
+            (then_written (counted_rows effect_rows o.effects) ending effects
+            (decimal o.cost ∷ codes "end_operator" ∷ [])
+            (effects_written variables known o.effects h.0.effects h.0.each)
             (number_written shape.Cost o.cost h.1, (word_written shape.EndOperator (codes "end_operator") refl, tt))),
       ),
     )
@@ -108,11 +140,20 @@ rule_written task known r h =
     let new = h.new in
     subst (AreWritten (rule_rows r)) (sym (regroup_rule (codes "begin_rule") (head_line r) (codes "end_rule") (facts_lines r.conds))) (
       word_written shape.BeginRule (codes "begin_rule") refl,
-      then_written (counted_rows fact_rows r.conds) (numbers shape.Head (head_numbers r) ∷ word shape.EndRule (codes "end_rule") ∷ []) (facts_lines r.conds) (head_line r ∷ codes "end_rule" ∷ []) (facts_written task.variables r.conds known h.conds)
-          (numbers_written shape.Head (head_numbers r) (head_line r) (head_is_line r (omega arith) (omega arith)), (word_written shape.EndRule (codes "end_rule") refl, tt)),
+      then_written (counted_rows fact_rows r.conds) (numbers shape.Head (head_numbers r) ∷ word shape.EndRule
+          (codes "end_rule") ∷ []) (facts_lines r.conds) (head_line r ∷ codes "end_rule" ∷ [])
+          (facts_written task.variables r.conds known h.conds) (
+            numbers_written shape.Head (head_numbers r) (head_line r) (head_is_line r (omega arith) (omega arith)),
+            (word_written shape.EndRule (codes "end_rule") refl, tt),
+          ),
     )
 
 -- so many, and then each
-pub counted_written : {X : Type 0} (P : X → Type 0) (rows : X → List Row) (pieces : X → Lines) → ((x : X) → P x → AreWritten (rows x) (pieces x)) → (xs : List X) → length xs < 2 ^ 64 → All P xs
+pub counted_written : {X : Type 0} (P : X → Type 0) (rows : X → List Row) (pieces : X → Lines)
+    → ((x : X) → P x → AreWritten (rows x) (pieces x)) → (xs : List X) → length xs < 2 ^ 64 → All P xs
     → AreWritten (counted_rows rows xs) (decimal (length xs) ∷ flat_map pieces xs)
-counted_written P rows pieces each xs few h = (number_written shape.Count (length xs) few, each_lines rows pieces xs (each_of P (λ x. AreWritten (rows x) (pieces x)) each xs h))
+counted_written P rows pieces each xs few h = (
+  number_written shape.Count (length xs) few,
+  each_lines rows pieces xs
+      (each_of P (λ x. AreWritten (rows x) (pieces x)) each xs h),
+)

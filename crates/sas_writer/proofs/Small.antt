@@ -23,9 +23,11 @@ within P [] var h = absurd h
 within P (v ∷ variables) zero h = omega arith
 within P (v ∷ variables) (suc var) h = (let k = within P variables var h in omega arith)
 
-below : (variables : List Variable) (var val : ℕ) → All (λ v. range v ≤ 65536) variables → IsSomeAnd (slice_get variables var) (λ v. val < range v) → val < 65536
+below : (variables : List Variable) (var val : ℕ) → All (λ v. range v ≤ 65536) variables
+    → IsSomeAnd (slice_get variables var) (λ v. val < range v) → val < 65536
 below [] var val small h = absurd h
-below (v ∷ variables) zero val small h = (let most : range v ≤ 65536 = All-head (λ v. range v ≤ 65536) v variables small in let lt : val < range v = h in omega arith)
+below (v ∷ variables) zero val small h = (let most : range v ≤ 65536 = All-head (λ v. range v ≤ 65536) v variables
+    small in let lt : val < range v = h in omega arith)
 below (v ∷ variables) (suc var) val small h = below variables var val (All-tail (λ v. range v ≤ 65536) v variables small) h
 
 pub fact_small : (variables : List Variable) → Known variables → (fact : Fact) → InRange variables fact → IsSmallFact fact
@@ -39,7 +41,8 @@ second : (P Q : Variable → Type 0) (o : Option Variable) → IsSomeAnd o (λ v
 second P Q None h = absurd h
 second P Q (Some v) h = h.1
 
-before_small : (variables : List Variable) → Known variables → (var : ℕ) (pre : Option ℕ) → IfSome pre (λ val. InRange variables (record { var = var; val = val })) → IsSmall pre
+before_small : (variables : List Variable) → Known variables → (var : ℕ) (pre : Option ℕ)
+    → IfSome pre (λ val. InRange variables (record { var = var; val = val })) → IsSmall pre
 before_small variables known var None h = tt
 before_small variables known var (Some val) h = (let lt = below variables var val known.small h in omega arith)
 

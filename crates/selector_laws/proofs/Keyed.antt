@@ -50,7 +50,9 @@ pub listed_by_key : (mode : Mode) (keys : List (List ℕ)) (p key : List ℕ) �
 listed_by_key mode keys p key is (k, lt, at) = (k, key, lt, at, key_same mode p key is)
 
 -- and no other does
-pub key_by_listed : (mode : Mode) (keys : List (List ℕ)) (p key : List ℕ) → All (λ other. (q : List ℕ) × IsKey mode q other) keys → IsKey mode p key → IsListed mode keys p → Contains keys key
+pub key_by_listed : (mode : Mode) (keys : List (List ℕ)) (p key : List ℕ)
+    → All (λ other. (q : List ℕ) × IsKey mode q other) keys → IsKey mode p key
+    → IsListed mode keys p → Contains keys key
 key_by_listed mode keys p key each is (k, other, lt, at, alike) =
     let o = All-contains (λ other. (q : List ℕ) × IsKey mode q other) keys other each (k, lt, at) in
     let e : key ≡ other = one_key mode p o.0 key other is o.1 (same_chain mode p other o.0 alike (same_flip mode o.0 other (key_same mode o.0 other o.1))) in
@@ -69,13 +71,15 @@ listed_told mode (q ∷ plans) p =
       (λ h. d.1 (any_cases (Same mode p) q plans h)),
     )
 
-pub listed_cheap : (system : System) (mode : Mode) (c : ℕ) (keys : List (List ℕ)) (p : List ℕ) → All (λ key. cost_of system key ≤ c) keys → IsListed mode keys p → cost_of system p ≤ c
+pub listed_cheap : (system : System) (mode : Mode) (c : ℕ) (keys : List (List ℕ)) (p : List ℕ)
+    → All (λ key. cost_of system key ≤ c) keys → IsListed mode keys p → cost_of system p ≤ c
 listed_cheap system mode c keys p cheap (k, key, lt, at, alike) =
     let le = All-contains (λ key. cost_of system key ≤ c) keys key cheap (k, lt, at) in
     omega (arith, le, same_cost system mode p key alike)
 
 -- a list longer than each key counts as one with none
-pub longer_unlisted : (mode : Mode) (room : ℕ) (keys : List (List ℕ)) (p : List ℕ) → All (λ key. length key ≤ room) keys → room < length p → ¬ IsListed mode keys p
+pub longer_unlisted : (mode : Mode) (room : ℕ) (keys : List (List ℕ)) (p : List ℕ)
+    → All (λ key. length key ≤ room) keys → room < length p → ¬ IsListed mode keys p
 longer_unlisted mode room keys p short long (k, key, lt, at, alike) =
     let le = All-contains (λ key. length key ≤ room) keys key short (k, lt, at) in
     omega (arith, le, long, same_length mode p key alike)
@@ -88,7 +92,9 @@ listed_order mode (key ∷ keys) p h = elim (any_cases (Same mode p) key keys h)
 ]
 
 -- keys with one more
-pub keys_more : (system : System) (mode : Mode) (most : Option ℕ) (keys new : List (List ℕ)) (p key : List ℕ) → AreKeys system mode most keys → cost_of system p ≤ top most → IsKey mode p key → new ≡ keys ++ key ∷ [] → AreKeys system mode most new
+pub keys_more : (system : System) (mode : Mode) (most : Option ℕ) (keys new : List (List ℕ)) (p key : List ℕ)
+    → AreKeys system mode most keys → cost_of system p ≤ top most → IsKey mode p key → new ≡ keys ++ key ∷ []
+    → AreKeys system mode most new
 keys_more system mode most keys new p key ok fits is more = rw more (record {
   each = All-push (λ key. (p : List ℕ) × IsKey mode p key) keys key ok.each (p, is);
   cheap = All-push (λ key. cost_of system key ≤ top most) keys key ok.cheap (omega (arith, fits, same_cost system mode p key (key_same mode p key is)));
@@ -101,14 +107,16 @@ pub keys_of_more : (mode : Mode) (plans keys new : List (List ℕ)) (p key : Lis
     → MatchBool fresh (new ≡ keys ++ key ∷ []) (new ≡ keys) → MatchBool fresh (¬ Contains keys key) (Contains keys key) → AreKeysOf mode (plans ++ p ∷ []) new
 keys_of_more mode plans keys new p key true ok is more found = rw more (record {
   from = All-push (λ key. Any (λ p. IsKey mode p key) (plans ++ p ∷ [])) keys key
-      (All-weaker (λ key. Any (λ p. IsKey mode p key) plans) (λ key. Any (λ p. IsKey mode p key) (plans ++ p ∷ [])) (λ other h. any_left (λ q. IsKey mode q other) plans p h) keys ok.from)
+      (All-weaker (λ key. Any (λ p. IsKey mode p key) plans) (λ key. Any (λ p. IsKey mode p key) (plans ++ p ∷ []))
+      (λ other h. any_left (λ q. IsKey mode q other) plans p h) keys ok.from)
       (Any-push (λ q. IsKey mode q key) plans p is);
   all = All-push (IsListed mode (keys ++ key ∷ [])) plans p
       (All-weaker (IsListed mode keys) (IsListed mode (keys ++ key ∷ [])) (λ q h. any_left (Same mode q) keys key h) plans ok.all)
       (Any-push (Same mode p) keys key (key_same mode p key is));
 })
 keys_of_more mode plans keys new p key false ok is more found = rw more (record {
-  from = All-weaker (λ key. Any (λ p. IsKey mode p key) plans) (λ key. Any (λ p. IsKey mode p key) (plans ++ p ∷ [])) (λ other h. any_left (λ q. IsKey mode q other) plans p h) keys ok.from;
+  from = All-weaker (λ key. Any (λ p. IsKey mode p key) plans) (λ key. Any (λ p. IsKey mode p key) (plans ++ p ∷ []))
+      (λ other h. any_left (λ q. IsKey mode q other) plans p h) keys ok.from;
   all = All-push (IsListed mode keys) plans p ok.all (listed_by_key mode keys p key is found);
 })
 
@@ -117,7 +125,8 @@ keyed_of : (mode : Mode) (plans keys : List (List ℕ)) → AreKeysOf mode plans
 keyed_of mode plans keys ok = All-weaker (λ key. Any (λ p. IsKey mode p key) plans) (λ key. (p : List ℕ) × IsKey mode p key) (λ key h. (h.1, h.4)) keys ok.from
 
 -- and costs what its plan costs
-cheap_of : (system : System) (mode : Mode) (c : ℕ) (plans keys : List (List ℕ)) → AreKeysOf mode plans keys → All (λ p. cost_of system p ≤ c) plans → All (λ key. cost_of system key ≤ c) keys
+cheap_of : (system : System) (mode : Mode) (c : ℕ) (plans keys : List (List ℕ)) → AreKeysOf mode plans keys
+    → All (λ p. cost_of system p ≤ c) plans → All (λ key. cost_of system key ≤ c) keys
 cheap_of system mode c plans keys ok cheap = All-weaker (λ key. Any (λ p. IsKey mode p key) plans) (λ key. cost_of system key ≤ c) one keys ok.from
   where
     one : (key : List ℕ) → Any (λ p. IsKey mode p key) plans → cost_of system key ≤ c
@@ -137,10 +146,12 @@ listed_of mode plans keys ok p = (to, from)
     from : IsListed mode plans p → IsListed mode keys p
     from (k, q, lt, at, alike) = listed_same mode keys q p alike (All-contains (IsListed mode keys) plans q ok.all (k, lt, at))
 
-pub are_keys_of : (system : System) (mode : Mode) (most : Option ℕ) (plans keys : List (List ℕ)) → AreKeysOf mode plans keys → All (λ p. cost_of system p ≤ top most) plans → AreKeys system mode most keys
+pub are_keys_of : (system : System) (mode : Mode) (most : Option ℕ) (plans keys : List (List ℕ))
+    → AreKeysOf mode plans keys → All (λ p. cost_of system p ≤ top most) plans → AreKeys system mode most keys
 are_keys_of system mode most plans keys ok cheap = record { each = keyed_of mode plans keys ok; cheap = cheap_of system mode (top most) plans keys ok cheap }
 
-pub unlisted_of : (mode : Mode) (plans keys : List (List ℕ)) → AreKeysOf mode plans keys → (below : List ℕ → Type 0) (p : List ℕ) → Unlisted mode keys below p ↔ (¬ IsListed mode plans p × below p)
+pub unlisted_of : (mode : Mode) (plans keys : List (List ℕ)) → AreKeysOf mode plans keys
+    → (below : List ℕ → Type 0) (p : List ℕ) → Unlisted mode keys below p ↔ (¬ IsListed mode plans p × below p)
 unlisted_of mode plans keys ok below p =
     let same = listed_of mode plans keys ok p in
     ((λ h. ((λ l. h.0 (same.1 l)), h.1)), (λ h. ((λ l. h.0 (same.0 l)), h.1)))

@@ -161,7 +161,8 @@ count_le f g [] h = omega arith
 count_le f g (x ∷ xs) h = omega (arith, cond_le (f x) (g x) (h x), count_le f g xs h, count_cons f x xs, count_cons g x xs)
 
 -- a test that fewer pass, one of the list among them, counts fewer of it
-pub count_falls : (f g : List ℕ → Bool) (xs : List (List ℕ)) (p : List ℕ) → ((x : List ℕ) → g x ≡ true → f x ≡ true) → Listed xs p → f p ≡ true → g p ≡ false → count_by g xs < count_by f xs
+pub count_falls : (f g : List ℕ → Bool) (xs : List (List ℕ)) (p : List ℕ) → ((x : List ℕ) → g x ≡ true → f x ≡ true)
+    → Listed xs p → f p ≡ true → g p ≡ false → count_by g xs < count_by f xs
 count_falls f g [] p h i had off = absurd i
 count_falls f g (x ∷ xs) p h (inl e) had off =
     let a : f x ≡ true = ap f e ∙ had in

@@ -15,7 +15,13 @@ noted mode old new p key true each is more found = record { key = key; is = is; 
 noted mode old new p key false each is more found = (listed_by_key mode old p key is found, more)
 
 -- keys that fit the room, and one more
-pub short_more : (before after : ℕ) (keys new : List (List ℕ)) (key : List ℕ) (fresh : Bool) → All (λ other. length other ≤ before) keys → before ≤ after → length key ≤ after
+pub short_more : (before after : ℕ) (keys new : List (List ℕ)) (key : List ℕ) (fresh : Bool)
+    → All (λ other. length other ≤ before) keys → before ≤ after → length key ≤ after
     → MatchBool fresh (new ≡ keys ++ key ∷ []) (new ≡ keys) → All (λ other. length other ≤ after) new
-short_more before after keys new key true short grows fits more = rw more (All-push (λ other. length other ≤ after) keys key (All-weaker (λ other. length other ≤ before) (λ other. length other ≤ after) (λ other h. omega (arith, h, grows)) keys short) fits)
-short_more before after keys new key false short grows fits more = rw more (All-weaker (λ other. length other ≤ before) (λ other. length other ≤ after) (λ other h. omega (arith, h, grows)) keys short)
+short_more before after keys new key true short grows fits more =
+    rw more (All-push (λ other. length other ≤ after) keys key
+    (All-weaker (λ other. length other ≤ before) (λ other. length other ≤ after)
+    (λ other h. omega (arith, h, grows)) keys short) fits)
+short_more before after keys new key false short grows fits more =
+    rw more (All-weaker (λ other. length other ≤ before) (λ other. length other ≤ after)
+    (λ other h. omega (arith, h, grows)) keys short)

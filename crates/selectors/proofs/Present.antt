@@ -7,7 +7,8 @@ use Rattle.std.specs.List.{Contains, list_any}
 use Rattle.std.proofs.lemmas.Bool.Decides.{Decides-or}
 
 -- a test of the keys that tells where one is equal finds it exactly where it is there
-pub present_told : (e : Vec ℕ Global → Bool) (key : List ℕ) → ((k : Vec ℕ Global) → Decides (e k) (key ≡ k.items)) → (ks : List (Vec ℕ Global)) → Decides (list_any e ks) (Contains (map (λ (k : Vec ℕ Global). k.items) ks) key)
+pub present_told : (e : Vec ℕ Global → Bool) (key : List ℕ) → ((k : Vec ℕ Global) → Decides (e k) (key ≡ k.items))
+    → (ks : List (Vec ℕ Global)) → Decides (list_any e ks) (Contains (map (λ (k : Vec ℕ Global). k.items) ks) key)
 present_told e key d [] = ((λ h. cc), (λ h. absurd (omega (arith, h.1))))
 present_told e key d (k ∷ ks) =
     let both = Decides-or (e k) (list_any e ks) (d k) (present_told e key d ks) in (

@@ -20,7 +20,8 @@ module _ (o : Layout) (nodes : List Node) (set : ℕ) (starts slots : List ℕ) 
   below_or_at : (k n : ℕ) → k < n + 1 → (k < n) ⊎ (k ≡ n)
   below_or_at k n h = grind arith
 
-  pub descends_more : (ids next : List ℕ) (old new : List Bool) (n slot start : ℕ) (block : Block) → slot < length o.blocks → slot ≡ get_or slots n 0 → start ≡ get_or starts slot 0 → block ≡ block_at o slot
+  pub descends_more : (ids next : List ℕ) (old new : List Bool) (n slot start : ℕ) (block : Block)
+      → slot < length o.blocks → slot ≡ get_or slots n 0 → start ≡ get_or starts slot 0 → block ≡ block_at o slot
       → Descends ids old n → Passes nodes block start ids next old new → Descends next new (n + 1)
   descends_more ids next old new n slot start block lt at from is d p = record {
     known = p.known;
@@ -54,7 +55,9 @@ all_in_order o slots n l e i = record {
 }
 
 -- what is marked occurs
-pub are_occurring : (o : Layout) (nodes : List Node) (set : ℕ) (starts slots : List ℕ) (marks : List Bool) → AreInOrder o slots → AreMarked o nodes set starts marks slots (length slots) → AreOccurring o nodes set starts marks
+pub are_occurring : (o : Layout) (nodes : List Node) (set : ℕ) (starts slots : List ℕ) (marks : List Bool)
+    → AreInOrder o slots → AreMarked o nodes set starts marks slots (length slots)
+    → AreOccurring o nodes set starts marks
 are_occurring o nodes set starts slots marks i m = record {
   each = λ b slot range holds lt some. (
       let in_list = i.each slot lt some in

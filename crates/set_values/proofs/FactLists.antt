@@ -64,7 +64,10 @@ placed_none o starts facts = record {
   each = λ p. ((λ (k, lt, is). absurd (omega (arith, lt))), (λ s. absurd (some_none (λ f. IsPlaceOf o starts f p) facts s)));
 }
 
-pub placed_more : (o : Layout) (starts : List ℕ) (facts : List Fact) (n : ℕ) (f : Fact) (old new : List ℕ) → n < length facts → f ≡ get_or facts n f → PlacedBelow o starts facts n old → ((p : ℕ) → Contains new p ↔ (Contains old p ⊎ IsPlaceOf o starts f p)) → PlacedBelow o starts facts (n + 1) new
+pub placed_more : (o : Layout) (starts : List ℕ) (facts : List Fact) (n : ℕ) (f : Fact) (old new : List ℕ)
+    → n < length facts → f ≡ get_or facts n f → PlacedBelow o starts facts n old
+    → ((p : ℕ) → Contains new p ↔ (Contains old p ⊎ IsPlaceOf o starts f p))
+    → PlacedBelow o starts facts (n + 1) new
 placed_more o starts facts n f old new lt is a add = record {
   each = λ p. (
       let next = some_more (λ g. IsPlaceOf o starts g p) facts n f lt is in (
@@ -73,7 +76,8 @@ placed_more o starts facts n f old new lt is a add = record {
       ));
 }
 
-pub placed_all : (o : Layout) (starts : List ℕ) (facts : List Fact) (places : List ℕ) → PlacedBelow o starts facts (length facts) places → ArePlacesOf o starts facts places
+pub placed_all : (o : Layout) (starts : List ℕ) (facts : List Fact) (places : List ℕ)
+    → PlacedBelow o starts facts (length facts) places → ArePlacesOf o starts facts places
 placed_all o starts facts places a p =
     let all = some_of_all (λ f. IsPlaceOf o starts f p) facts in
     ((λ h. all.0 ((a.each p).0 h)), (λ w. (a.each p).1 (all.1 w)))
@@ -88,7 +92,9 @@ asked_none old effects facts h = record {
   each = λ f. ((λ c. inl ((h f).0 c)), (λ o. elim o [ inl x ↦ (h f).1 x | inr s ↦ absurd (some_none (λ e. AsksValue e f) effects s) ]));
 }
 
-pub asked_more : (old : Fact → Type 0) (effects : List Effect) (n : ℕ) (facts more : List Fact) (e : Effect) → n < length effects → e ≡ get_or effects n e → AskedBelow old effects n facts → ((f : Fact) → Contains more f ↔ (Contains facts f ⊎ AsksValue e f)) → AskedBelow old effects (n + 1) more
+pub asked_more : (old : Fact → Type 0) (effects : List Effect) (n : ℕ) (facts more : List Fact) (e : Effect)
+    → n < length effects → e ≡ get_or effects n e → AskedBelow old effects n facts
+    → ((f : Fact) → Contains more f ↔ (Contains facts f ⊎ AsksValue e f)) → AskedBelow old effects (n + 1) more
 asked_more old effects n facts more e lt is a add = record {
   each = λ f. (
       let next = some_more (λ e. AsksValue e f) effects n e lt is in (
@@ -109,7 +115,8 @@ some_asks effects f = (
   (λ (k, lt, (e, is, asks)). record { at = k; before = lt; item = e; is = is; holds = asks }),
 )
 
-pub asked_all : (o : Operator) (facts : List Fact) → AskedBelow (λ f. Contains o.prevail f) o.effects (length o.effects) facts → (f : Fact) → Contains facts f ↔ IsAsked o f
+pub asked_all : (o : Operator) (facts : List Fact) → AskedBelow (λ f. Contains o.prevail f) o.effects
+    (length o.effects) facts → (f : Fact) → Contains facts f ↔ IsAsked o f
 asked_all o facts a f = (
   (λ c. elim ((a.each f).0 c) [ inl x ↦ inl x | inr s ↦ inr ((some_asks o.effects f).0 s) ]),
   (λ h. elim h [ inl x ↦ (a.each f).1 (inl x) | inr s ↦ (a.each f).1 (inr ((some_asks o.effects f).1 s)) ]),
@@ -117,7 +124,9 @@ asked_all o facts a f = (
 
 -- what its effects leave, from the last one on
 
-pub last_none : (effects : List Effect) (n : ℕ) (facts : List Fact) (on : BTreeSet ℕ) → n ≡ length effects → ((f : Fact) → ¬ Contains facts f) → ((var : ℕ) → IsFalse (contains nat_cmp on var)) → AreLast (drop n effects) facts on
+pub last_none : (effects : List Effect) (n : ℕ) (facts : List Fact) (on : BTreeSet ℕ) → n ≡ length effects
+    → ((f : Fact) → ¬ Contains facts f) → ((var : ℕ) → IsFalse (contains nat_cmp on var))
+    → AreLast (drop n effects) facts on
 last_none effects n facts on e none empty =
     subst (λ (es : List Effect). AreLast es facts on) (sym (ap (λ (k : ℕ). drop k effects) e ∙ drop-length effects)) (record {
       leaves = λ f. ((λ c. none f c), (λ l. absurd l));
@@ -157,11 +166,14 @@ last_cons e es facts more on over a vars add = record {
       | inr lacks ↦ lacks
     ]
 
-pub last_more : (effects : List Effect) (at next : ℕ) (e : Effect) (facts more : List Fact) (on over : BTreeSet ℕ) → next ≡ at + 1 → at < length effects → e ≡ get_or effects at e → AreLast (drop next effects) facts on
+pub last_more : (effects : List Effect) (at next : ℕ) (e : Effect) (facts more : List Fact) (on over : BTreeSet ℕ)
+    → next ≡ at + 1 → at < length effects → e ≡ get_or effects at e → AreLast (drop next effects) facts on
     → ((var : ℕ) → IsTrue (contains nat_cmp over var) ↔ (IsTrue (contains nat_cmp on var) ⊎ (var ≡ e.var)))
     → ((f : Fact) → Contains more f ↔ (Contains facts f ⊎ (Ends e f × IsFalse (contains nat_cmp on f.var)))) → AreLast (drop at effects) more over
 last_more effects at next e facts more on over step lt is a vars add =
-    let same : drop at effects ≡ e ∷ drop next effects = drop-cons effects at e lt ∙ ap (λ (x : Effect). x ∷ drop (suc at) effects) (sym is) ∙ ap (λ (k : ℕ). e ∷ drop k effects) (let s : suc at ≡ next = omega (arith, step) in s) in
+    let same : drop at effects ≡ e ∷ drop next effects = drop-cons effects at e lt
+    ∙ ap (λ (x : Effect). x ∷ drop (suc at) effects) (sym is)
+    ∙ ap (λ (k : ℕ). e ∷ drop k effects) (let s : suc at ≡ next = omega (arith, step) in s) in
     subst (λ (es : List Effect). AreLast es more over) (sym same) (last_cons e (drop next effects) facts more on over a vars add)
 
 -- and its conditions on other variables
@@ -177,8 +189,11 @@ others_none prevail facts on = record {
   );
 }
 
-pub others_more : (old : Fact → Type 0) (prevail facts more : List Fact) (on : BTreeSet ℕ) (n : ℕ) (d : Fact) → n < length prevail → OthersBelow old prevail on n facts
-    → ((f : Fact) → Contains more f ↔ (Contains facts f ⊎ ((f ≡ get_or prevail n d) × IsFalse (contains nat_cmp on f.var)))) → OthersBelow old prevail on (n + 1) more
+pub others_more : (old : Fact → Type 0) (prevail facts more : List Fact) (on : BTreeSet ℕ) (n : ℕ) (d : Fact)
+    → n < length prevail → OthersBelow old prevail on n facts
+    → ((f : Fact) → Contains more f
+    ↔ (Contains facts f ⊎ ((f ≡ get_or prevail n d) × IsFalse (contains nat_cmp on f.var))))
+    → OthersBelow old prevail on (n + 1) more
 others_more old prevail facts more on n d lt l add = record {
   each = λ f. (
       let p = get_or prevail n d in
@@ -197,20 +212,26 @@ others_more old prevail facts more on n d lt l add = record {
       ));
 }
 
-pub others_all : (old : Fact → Type 0) (prevail facts : List Fact) (on : BTreeSet ℕ) → OthersBelow old prevail on (length prevail) facts → (f : Fact) → Contains facts f ↔ (old f ⊎ (Contains prevail f × IsFalse (contains nat_cmp on f.var)))
+pub others_all : (old : Fact → Type 0) (prevail facts : List Fact) (on : BTreeSet ℕ)
+    → OthersBelow old prevail on (length prevail) facts → (f : Fact) → Contains facts f
+    ↔ (old f ⊎ (Contains prevail f × IsFalse (contains nat_cmp on f.var)))
 others_all old prevail facts on l f = (
   (λ c. elim ((l.each f).0 c) [ inl x ↦ inl x | inr s ↦ inr ((contains_below prevail f).1 s.0, s.1) ]),
   (λ h. elim h [ inl x ↦ (l.each f).1 (inl x) | inr s ↦ (l.each f).1 (inr ((contains_below prevail f).0 s.0, s.1)) ]),
 )
 
-pub left_all : (o : Operator) (last facts : List Fact) (on : BTreeSet ℕ) → AreLast o.effects last on → ((f : Fact) → Contains facts f ↔ (Contains last f ⊎ (Contains o.prevail f × IsFalse (contains nat_cmp on f.var)))) → (f : Fact) → Contains facts f ↔ IsLeft o f
+pub left_all : (o : Operator) (last facts : List Fact) (on : BTreeSet ℕ) → AreLast o.effects last on
+    → ((f : Fact) → Contains facts f
+    ↔ (Contains last f ⊎ (Contains o.prevail f × IsFalse (contains nat_cmp on f.var)))) → (f : Fact)
+    → Contains facts f ↔ IsLeft o f
 left_all o last facts on a h f = (
   (λ c. elim ((h f).0 c) [ inl x ↦ inl ((a.leaves f).0 x) | inr s ↦ inr (s.0, (a.misses f.var).0 s.1) ]),
   (λ l. elim l [ inl x ↦ (h f).1 (inl ((a.leaves f).1 x)) | inr s ↦ (h f).1 (inr (s.0, (a.misses f.var).1 s.1)) ]),
 )
 
 -- the value that an effect gives counts where no later effect is on its variable
-pub ends_more : (e : Effect) (facts more : List Fact) (on : BTreeSet ℕ) → IsFalse (contains nat_cmp on e.var) → ((f : Fact) → Contains more f ↔ (Contains facts f ⊎ Ends e f))
+pub ends_more : (e : Effect) (facts more : List Fact) (on : BTreeSet ℕ) → IsFalse (contains nat_cmp on e.var)
+    → ((f : Fact) → Contains more f ↔ (Contains facts f ⊎ Ends e f))
     → (f : Fact) → Contains more f ↔ (Contains facts f ⊎ (Ends e f × IsFalse (contains nat_cmp on f.var)))
 ends_more e facts more on off h f = (
   (λ c. elim ((h f).0 c) [ inl x ↦ inl x | inr s ↦ inr (s, subst (λ (var : ℕ). IsFalse (contains nat_cmp on var)) s.1 off) ]),
@@ -223,10 +244,14 @@ pub record FactsBelow (Of : Operator → Fact → Type 0) (operators : List Oper
   pub each : length lists ≡ n
   pub facts : (op : ℕ) (d : Operator) (f : Fact) → op < n → Contains (get_or lists op []) f ↔ Of (get_or operators op d) f
 
-pub facts_all : (Of : Operator → Fact → Type 0) (operators : List Operator) (lists : List (List Fact)) → FactsBelow Of operators lists (length operators) → AreFactsBy Of operators lists
+pub facts_all : (Of : Operator → Fact → Type 0) (operators : List Operator) (lists : List (List Fact))
+    → FactsBelow Of operators lists (length operators) → AreFactsBy Of operators lists
 facts_all Of operators lists h = record { each = h.each; facts = h.facts }
 
-pub facts_more : (Of : Operator → Fact → Type 0) (operators : List Operator) (lists : List (List Fact)) (n : ℕ) (o : Operator) (facts : List Fact) → n < length operators → o ≡ get_or operators n o → FactsBelow Of operators lists n → ((f : Fact) → Contains facts f ↔ Of o f) → FactsBelow Of operators (lists ++ facts ∷ []) (n + 1)
+pub facts_more : (Of : Operator → Fact → Type 0) (operators : List Operator) (lists : List (List Fact)) (n : ℕ)
+    (o : Operator) (facts : List Fact) → n < length operators → o ≡ get_or operators n o
+    → FactsBelow Of operators lists n → ((f : Fact) → Contains facts f ↔ Of o f)
+    → FactsBelow Of operators (lists ++ facts ∷ []) (n + 1)
 facts_more Of operators lists n o facts lt is h new = record {
   each = grind (arith, common_steps, h.each);
   facts = λ op d f less. elim (below_or_at op n less) [
@@ -236,6 +261,7 @@ facts_more Of operators lists n o facts lt is h new = record {
     | inr here ↦ (
         let last : get_or (lists ++ facts ∷ []) op [] ≡ facts = get_or_push lists facts [] op (h.each ∙ sym here) in
         let same : get_or operators op d ≡ o = ap (λ (k : ℕ). get_or operators k d) here ∙ get_or_default operators n d o lt ∙ sym is in
-        subst (λ (xs : List Fact). Contains xs f ↔ Of (get_or operators op d) f) (sym last) (subst (λ (x : Operator). Contains facts f ↔ Of x f) (sym same) (new f)))
+        subst (λ (xs : List Fact). Contains xs f ↔ Of (get_or operators op d) f) (sym last)
+        (subst (λ (x : Operator). Contains facts f ↔ Of x f) (sym same) (new f)))
   ];
 }

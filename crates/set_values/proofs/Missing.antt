@@ -40,7 +40,8 @@ slot_or_base task o var order = go (slice_get task.variables var) refl
           | inr far ↦ (
               let lt = far.0 in
               let same = order.variables in
-              sym (unwrap_or-slice_get o.slots var None) ∙ ap (λ (x : Option (Option ℕ)). unwrap_or x None) (slice_get_past o.slots var (omega (arith, lt, same))))
+              sym (unwrap_or-slice_get o.slots var None) ∙ ap (λ (x : Option (Option ℕ)). unwrap_or x None)
+              (slice_get_past o.slots var (omega (arith, lt, same))))
         ])
 
     go : (x : Option Variable) → slice_get task.variables var ≡ x → (slot_of o var ≡ None) ⊎ IsBase task var
@@ -50,7 +51,8 @@ slot_or_base task o var order = go (slice_get task.variables var) refl
       | inr some ↦ inl ((laid_at task o var v order e).derived some)
     ]
 
-module _ (task : TaskParts) (o : Layout) (nodes : List Node) (set : ℕ) (starts : List ℕ) (marks : List Bool) (order : IsOrderOf task o) (occurs : AreOccurring o nodes set starts marks) where
+module _ (task : TaskParts) (o : Layout) (nodes : List Node) (set : ℕ) (starts : List ℕ) (marks : List Bool)
+    (order : IsOrderOf task o) (occurs : AreOccurring o nodes set starts marks) where
   -- the bits of a state spell values in range
   in_range : (s : List ℕ) (b : Bits) → IsStateOf o s → IsCode o 0 s b → IsInRange o 0 b
   in_range s b state code slot lt = (let v = code.values slot lt in let range = state.in_range slot lt in omega (arith, v, range))
@@ -62,7 +64,9 @@ module _ (task : TaskParts) (o : Layout) (nodes : List Node) (set : ℕ) (starts
   same_slot x a c e f = cc
 
   -- the place of a fact that holds in a state of the set is marked
-  place_marked : (s : List ℕ) (f : Fact) (p : ℕ) → HasState o nodes set s → (IsBase task f.var → get_or s (place task f.var) 0 ≡ f.val) → IsPlaceOf o starts f p → is_marked marks p ≡ true
+  place_marked : (s : List ℕ) (f : Fact) (p : ℕ) → HasState o nodes set s
+      → (IsBase task f.var → get_or s (place task f.var) 0 ≡ f.val) → IsPlaceOf o starts f p
+      → is_marked marks p ≡ true
   place_marked s f p (state, (b, code, holds)) value at = elim (slot_or_base task o f.var order) [
     | inl none ↦ absurd (none_some (slot_of o f.var) at.slot none at.at)
     | inr base ↦ (
@@ -75,7 +79,9 @@ module _ (task : TaskParts) (o : Layout) (nodes : List Node) (set : ℕ) (starts
 
   module _ (Of : Operator → Fact → Type 0) (lists : List (List ℕ)) (watched : AreWatched o starts Of task.operators lists) where
     -- where the place of each fact of an operator is marked, it is chosen
-    chosen_for : (ops : List ℕ) (op : ℕ) (x : Operator) → slice_get task.operators op ≡ Some x → ((f : Fact) (p : ℕ) → Of x f → IsPlaceOf o starts f p → is_marked marks p ≡ true) → AreChosen marks lists (length task.operators) ops → Contains ops op
+    chosen_for : (ops : List ℕ) (op : ℕ) (x : Operator) → slice_get task.operators op ≡ Some x
+        → ((f : Fact) (p : ℕ) → Of x f → IsPlaceOf o starts f p → is_marked marks p ≡ true)
+        → AreChosen marks lists (length task.operators) ops → Contains ops op
     chosen_for ops op x is may c =
         let lt = slice_get_within task.operators op x is in
         let same : get_or task.operators op x ≡ x = get_or_from_slice_get task.operators op x x is in
@@ -88,7 +94,9 @@ module _ (task : TaskParts) (o : Layout) (nodes : List Node) (set : ℕ) (starts
     known : (ops : List ℕ) → AreChosen marks lists (length task.operators) ops → All (λ op. op < length task.operators) ops
     known ops c k d lt = (c.only k d lt).0
 
-  pub from_missed : (lists : List (List ℕ)) (ops : List ℕ) → AreWatched o starts IsAsked task.operators lists → AreChosen marks lists (length task.operators) ops → MissNone (length task.operators) (LeadsFrom task o nodes set) ops
+  pub from_missed : (lists : List (List ℕ)) (ops : List ℕ) → AreWatched o starts IsAsked task.operators lists
+      → AreChosen marks lists (length task.operators) ops → MissNone (length task.operators)
+      (LeadsFrom task o nodes set) ops
   from_missed lists ops watched c = record {
     rising = c.rising;
     known = known IsAsked lists watched ops c;
@@ -97,7 +105,9 @@ module _ (task : TaskParts) (o : Layout) (nodes : List Node) (set : ℕ) (starts
         chosen_for IsAsked lists watched ops op x.operator x.is (λ f p asked. place_marked s f p has (asked_before task op s t x f asked)) c);
   }
 
-  pub into_missed : (lists : List (List ℕ)) (ops : List ℕ) → AreWatched o starts IsLeft task.operators lists → AreChosen marks lists (length task.operators) ops → MissNone (length task.operators) (LeadsInto task o nodes set) ops
+  pub into_missed : (lists : List (List ℕ)) (ops : List ℕ) → AreWatched o starts IsLeft task.operators lists
+      → AreChosen marks lists (length task.operators) ops → MissNone (length task.operators)
+      (LeadsInto task o nodes set) ops
   into_missed lists ops watched c = record {
     rising = c.rising;
     known = known IsLeft lists watched ops c;
@@ -107,7 +117,9 @@ module _ (task : TaskParts) (o : Layout) (nodes : List Node) (set : ℕ) (starts
   }
 
 -- the places of the facts of operators
-pub watched_of : (o : Layout) (starts : List ℕ) (Of : Operator → Fact → Type 0) (operators : List Operator) (lists : List (List Fact)) (all : List (List ℕ)) → AreFactsBy Of operators lists → AllZip (ArePlacesOf o starts) lists all → AreWatched o starts Of operators all
+pub watched_of : (o : Layout) (starts : List ℕ) (Of : Operator → Fact → Type 0) (operators : List Operator)
+    (lists : List (List Fact)) (all : List (List ℕ)) → AreFactsBy Of operators lists
+    → AllZip (ArePlacesOf o starts) lists all → AreWatched o starts Of operators all
 watched_of o starts Of operators lists all facts zip = record {
   each = AllZip-long (ArePlacesOf o starts) lists all zip ∙ facts.each;
   places = λ op p d lt. (
@@ -121,7 +133,8 @@ watched_of o starts Of operators lists all facts zip = record {
     zip_at : (op : ℕ) → op < length lists → ArePlacesOf o starts (get_or lists op []) (get_or all op [])
     zip_at op less = at_of lists all op zip less
       where
-        at_of : (xs : List (List Fact)) (ys : List (List ℕ)) (i : ℕ) → AllZip (ArePlacesOf o starts) xs ys → i < length xs → ArePlacesOf o starts (get_or xs i []) (get_or ys i [])
+        at_of : (xs : List (List Fact)) (ys : List (List ℕ)) (i : ℕ) → AllZip (ArePlacesOf o starts) xs ys
+            → i < length xs → ArePlacesOf o starts (get_or xs i []) (get_or ys i [])
         at_of [] ys i z lt = absurd (omega (arith, lt))
         at_of (x ∷ xs) [] i z lt = absurd z
         at_of (x ∷ xs) (y ∷ ys) zero z lt = z.0
@@ -134,6 +147,11 @@ zip_push R [] (b ∷ ys) x y z r = absurd z
 zip_push R (a ∷ xs) [] x y z r = absurd z
 zip_push R (a ∷ xs) (b ∷ ys) x y z r = (z.0, zip_push R xs ys x y z.1 r)
 
-pub zip_more : (o : Layout) (starts : List ℕ) (lists : List (List Fact)) (all : List (List ℕ)) (i : ℕ) (facts : List Fact) (places : List ℕ) → i < length lists → facts ≡ get_or lists i facts → AllZip (ArePlacesOf o starts) (take i lists) all → ArePlacesOf o starts facts places → AllZip (ArePlacesOf o starts) (take (i + 1) lists) (all ++ places ∷ [])
+pub zip_more : (o : Layout) (starts : List ℕ) (lists : List (List Fact)) (all : List (List ℕ)) (i : ℕ)
+    (facts : List Fact) (places : List ℕ) → i < length lists → facts ≡ get_or lists i facts
+    → AllZip (ArePlacesOf o starts) (take i lists) all → ArePlacesOf o starts facts places
+    → AllZip (ArePlacesOf o starts) (take (i + 1) lists) (all ++ places ∷ [])
 zip_more o starts lists all i facts places lt is z r =
-    subst (λ (xs : List (List Fact)). AllZip (ArePlacesOf o starts) xs (all ++ places ∷ [])) (sym (take_more lists i facts lt ∙ ap (λ (x : List Fact). take i lists ++ (x ∷ [])) (sym is))) (zip_push (ArePlacesOf o starts) (take i lists) all facts places z r)
+    subst (λ (xs : List (List Fact)). AllZip (ArePlacesOf o starts) xs (all ++ places ∷ []))
+    (sym (take_more lists i facts lt ∙ ap (λ (x : List Fact). take i lists ++ (x ∷ [])) (sym is)))
+    (zip_push (ArePlacesOf o starts) (take i lists) all facts places z r)

@@ -21,7 +21,9 @@ module _ (nodes : List Node) (block : Block) (start : ℕ) where
     pub known : AreKnown nodes new
     pub found : (b : Bits) → value_of block b < n → means nodes id b ≡ true → Finds nodes block start id new more b
 
-  pub finds_more : (id : ℕ) (old new : List ℕ) (marks more : List Bool) (b : Bits) → KeepsMarks marks more → ((q : ℕ) → HasId old q → HasId new q) → Finds nodes block start id old marks b → Finds nodes block start id new more b
+  pub finds_more : (id : ℕ) (old new : List ℕ) (marks more : List Bool) (b : Bits) → KeepsMarks marks more
+      → ((q : ℕ) → HasId old q → HasId new q) → Finds nodes block start id old marks b
+      → Finds nodes block start id new more b
   finds_more id old new marks more b kept keeps f = record {
     marked = kept (start + value_of block b) f.marked;
     end = f.end;
@@ -34,7 +36,9 @@ module _ (nodes : List Node) (block : Block) (start : ℕ) where
 
   module _ (r : IsReduced nodes) (id : ℕ) where
     -- what the Id leaves below one more value
-    pub adds_more : (old now new : List ℕ) (marks mid more : List Bool) (n end : ℕ) → AddsBelow id old now marks mid n → end < length nodes → ((b : Bits) → value_of block b ≡ n → means nodes end b ≡ means nodes id b) → AddsEnd (start + n) end now new mid more → AddsBelow id old new marks more (n + 1)
+    pub adds_more : (old now new : List ℕ) (marks mid more : List Bool) (n end : ℕ) → AddsBelow id old now marks mid n
+        → end < length nodes → ((b : Bits) → value_of block b ≡ n → means nodes end b ≡ means nodes id b)
+        → AddsEnd (start + n) end now new mid more → AddsBelow id old new marks more (n + 1)
     adds_more old now new marks mid more n end a lt same e = record {
       kept = λ place h. e.kept place (a.kept place h);
       keeps = λ q h. e.keeps q (a.keeps q h);
@@ -57,13 +61,15 @@ module _ (nodes : List Node) (block : Block) (start : ℕ) where
   pub record PassesBelow (ids : List ℕ) (ends : List ℕ) (marks more : List Bool) (n : ℕ) : Type 0 where
     pub kept : KeepsMarks marks more
     pub known : AreKnown nodes ends
-    pub found : (b : Bits) (k : ℕ) → k < n → value_of block b < block.values → means nodes (get_or ids k 0) b ≡ true → Finds nodes block start (get_or ids k 0) ends more b
+    pub found : (b : Bits) (k : ℕ) → k < n → value_of block b < block.values → means nodes (get_or ids k 0) b ≡ true
+        → Finds nodes block start (get_or ids k 0) ends more b
 
   pub passes_none : (ids : List ℕ) (ends : List ℕ) (marks : List Bool) → AreKnown nodes ends → PassesBelow ids ends marks marks 0
   passes_none ids ends marks known = record { kept = λ place h. h; known = known; found = λ b k lt. absurd (omega (arith, lt)) }
 
   -- and of all of them
-  pub passes_all : (ids ends next : List ℕ) (marks more : List Bool) → PassesBelow ids ends marks more (length ids) → ((q : ℕ) → HasId next q ↔ HasId ends q) → Passes nodes block start ids next marks more
+  pub passes_all : (ids ends next : List ℕ) (marks more : List Bool) → PassesBelow ids ends marks more (length ids)
+      → ((q : ℕ) → HasId next q ↔ HasId ends q) → Passes nodes block start ids next marks more
   unfolding HasId
   passes_all ids ends next marks more p same = record {
     kept = p.kept;
@@ -102,7 +108,10 @@ once_same ids sorted once p is q = (
 )
 
 -- what is left below the one value that all codes of an Id have
-pub adds_forced : (nodes : List Node) (block : Block) (start id value end : ℕ) (old new : List ℕ) (marks more : List Bool) → IsReduced nodes → end < length nodes → AreKnown nodes old → ((b : Bits) → means nodes id b ≡ true → (value_of block b ≡ value) × (means nodes end b ≡ true)) → AddsEnd (start + value) end old new marks more → Adds nodes block start id old new marks more
+pub adds_forced : (nodes : List Node) (block : Block) (start id value end : ℕ) (old new : List ℕ)
+    (marks more : List Bool) → IsReduced nodes → end < length nodes → AreKnown nodes old
+    → ((b : Bits) → means nodes id b ≡ true → (value_of block b ≡ value) × (means nodes end b ≡ true))
+    → AddsEnd (start + value) end old new marks more → Adds nodes block start id old new marks more
 adds_forced nodes block start id value end old new marks more r lt known told e = record {
   kept = e.kept;
   keeps = e.keeps;

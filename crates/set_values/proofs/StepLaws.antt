@@ -40,7 +40,8 @@ base_value task s var base =
 module _ (values : List ℕ) (o : Operator) (applies : (have_all values o.prevail && allow_all values o.effects) ≡ true) where
   prevail_value : (f : Fact) → Contains o.prevail f → get_or values f.var 0 ≡ f.val
   prevail_value f (k, lt, at) =
-      let all = AllPass-from_list_all (λ (fact : Fact). get_or values fact.var 0 == fact.val) o.prevail (and_parts (have_all values o.prevail) (allow_all values o.effects) applies).0 in
+      let all = AllPass-from_list_all (λ (fact : Fact). get_or values fact.var 0 == fact.val) o.prevail
+      (and_parts (have_all values o.prevail) (allow_all values o.effects) applies).0 in
       eqb-true (get_or values f.var 0) f.val (subst (λ (x : Fact). (get_or values x.var 0 == x.val) ≡ true) at (all k f lt))
 
   asked_value : (f : Fact) → IsAsked o f → get_or values f.var 0 ≡ f.val
@@ -49,7 +50,8 @@ module _ (values : List ℕ) (o : Operator) (applies : (have_all values o.prevai
       let test : Effect → Bool = λ effect. option_map_or (λ val. get_or values effect.var 0 == val) effect.pre true in
       let all = AllPass-from_list_all test o.effects (and_parts (have_all values o.prevail) (allow_all values o.effects) applies).1 in
       let here : test e ≡ true = subst (λ (x : Effect). test x ≡ true) at (all k e lt) in
-      let asks : (get_or values e.var 0 == f.val) ≡ true = subst (λ (x : Option ℕ). option_map_or (λ val. get_or values e.var 0 == val) x true ≡ true) pre here in
+      let asks : (get_or values e.var 0 == f.val) ≡ true = subst
+      (λ (x : Option ℕ). option_map_or (λ val. get_or values e.var 0 == val) x true ≡ true) pre here in
       subst (λ (var : ℕ). get_or values var 0 ≡ f.val) on (eqb-true (get_or values e.var 0) f.val asks)
 
 -- what effects leave
@@ -77,7 +79,8 @@ set_here old new e none lt =
     ap (λ (b : Bool). get_or (cond b (set new e.var e.post) new) e.var 0) (let free : have_all old e.conds ≡ true = ap (have_all old) none in free)
     ∙ get_or-set_same new e.var e.post 0 lt
 
-fold_leaves : (old : List ℕ) (es : List Effect) (new : List ℕ) (f : Fact) → f.var < length new → Leaves es f → get_or (fold (value_set old) new es) f.var 0 ≡ f.val
+fold_leaves : (old : List ℕ) (es : List Effect) (new : List ℕ) (f : Fact) → f.var < length new → Leaves es f
+    → get_or (fold (value_set old) new es) f.var 0 ≡ f.val
 fold_leaves old [] new f lt l = absurd l
 fold_leaves old (e ∷ es) new f lt (inl rest) = fold_leaves old es (value_set old new e) f (let same = set_length old new e in omega (arith, lt, same)) rest
 fold_leaves old (e ∷ es) new f lt (inr ((none, on, post), not)) =
@@ -109,7 +112,9 @@ is_step task op s t leads = go (slice_get task.operators op) refl leads.step
     go None e h = (let none : None ≡ Some t = h in cc)
     go (Some o) e h = by (have_all values o.prevail && allow_all values o.effects) refl h
       where
-        by : (b : Bool) → (have_all values o.prevail && allow_all values o.effects) ≡ b → cond b (Some (base_values task.variables (fold (value_set values) values o.effects))) None ≡ Some t → IsStep task op s t
+        by : (b : Bool) → (have_all values o.prevail && allow_all values o.effects) ≡ b
+            → cond b (Some (base_values task.variables (fold (value_set values) values o.effects))) None ≡ Some t
+            → IsStep task op s t
         by true applies k = record { operator = o; is = e; applies = applies; to = same_Some _ _ k }
         by false applies k = (let none : None ≡ Some t = k in cc)
 
@@ -132,5 +137,6 @@ module _ (task : TaskParts) (op : ℕ) (s t : List ℕ) (x : IsStep task op s t)
       final = fold (value_set values) values x.operator.effects
 
       value : IsLeft x.operator f → get_or final f.var 0 ≡ f.val
-      value (inl l) = fold_leaves values x.operator.effects values f (let lt = within task f.var base in let same = length_values task s in omega (arith, lt, same)) l
+      value (inl l) = fold_leaves values x.operator.effects values f
+          (let lt = within task f.var base in let same = length_values task s in omega (arith, lt, same)) l
       value (inr (h, not)) = fold_other values x.operator.effects values f.var not ∙ prevail_value values x.operator x.applies f h

@@ -43,7 +43,8 @@ below_or_at op n h = grind arith
 in_below : (cost : ℕ → ℕ) (n op : ℕ) → op < n → In (costs_below cost n) (cost op)
 unfolding costs_below
 in_below cost zero op lt = absurd (omega arith)
-in_below cost (suc n) op lt = (in_with (cost n) (costs_below cost n) (cost op)).1 (elim (below_or_at op n lt) [ inl h ↦ inr (in_below cost n op h) | inr e ↦ inl (sym (ap cost e)) ])
+in_below cost (suc n) op lt = (in_with (cost n) (costs_below cost n) (cost op)).1
+    (elim (below_or_at op n lt) [ inl h ↦ inr (in_below cost n op h) | inr e ↦ inl (sym (ap cost e)) ])
 
 of_below : (cost : ℕ → ℕ) (n c : ℕ) → In (costs_below cost n) c → (op : ℕ) × (op < n) × (cost op ≡ c)
 unfolding costs_below

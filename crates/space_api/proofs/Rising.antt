@@ -46,7 +46,9 @@ module _ (xs : List ℕ) (up : IsStrictlyIncreasing xs) where
     | inl before ↦ before
     | inr after ↦ elim (before_or i k) [
       | inl strict ↦ absurd (let r = rises i k strict in_list in omega (arith, r, less))
-      | inr rest ↦ absurd (let same : k ≡ i = omega (arith, after, rest) in let e : get_or xs i 0 < get_or xs i 0 = subst (λ (n : ℕ). get_or xs n 0 < get_or xs i 0) same less in omega (arith, e))
+      | inr rest ↦ absurd (let same : k ≡ i = omega (arith, after, rest) in
+          let e : get_or xs i 0 < get_or xs i 0 = subst (λ (n : ℕ). get_or xs n 0 < get_or xs i 0) same
+          less in omega (arith, e))
     ]
   ]
 

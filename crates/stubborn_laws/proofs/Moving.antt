@@ -35,13 +35,15 @@ count_same : (a x : ℕ) (p q : List ℕ) → count_by (λ b. a == b) p ≡ coun
 count_same a x p q h = (let e = count_cons a x p in let f = count_cons a x q in omega (arith, e, f, h))
 
 -- the first of two, later
-exchange : (y : System) (a b : ℕ) (p : List ℕ) (s t : State) → Listed y.states s → Commute y a b → AppliesIn y b s → Runs y s (a ∷ b ∷ p) t → Runs y s (b ∷ a ∷ p) t
+exchange : (y : System) (a b : ℕ) (p : List ℕ) (s t : State) → Listed y.states s → Commute y a b → AppliesIn y b s
+    → Runs y s (a ∷ b ∷ p) t → Runs y s (b ∷ a ∷ p) t
 exchange y a b p s t listed commute (n, lead) (m, first, (k, second, rest)) =
     let both = commute.either s m n listed first lead in
     let same : k ≡ both.0 = one_next y b m k both.0 second both.1 in
     (n, lead, (both.0, both.2, subst (λ (z : State). Runs y z p t) same rest))
 
-count_after : (a : ℕ) (before p q : List ℕ) → count_by (λ b. a == b) p ≡ count_by (λ b. a == b) q → count_by (λ b. a == b) (before ++ p) ≡ count_by (λ b. a == b) (before ++ q)
+count_after : (a : ℕ) (before p q : List ℕ) → count_by (λ b. a == b) p ≡ count_by (λ b. a == b) q
+    → count_by (λ b. a == b) (before ++ p) ≡ count_by (λ b. a == b) (before ++ q)
 count_after a [] p q h = h
 count_after a (x ∷ before) p q h = count_same a x (before ++ p) (before ++ q) (count_after a before p q h)
 
@@ -54,7 +56,8 @@ ends_listed : (y : System) (p : List ℕ) (s t : State) → ListsReached y → L
 ends_listed y [] s t lists listed runs = subst (Listed y.states) runs listed
 ends_listed y (a ∷ p) s t lists listed (m, lead, rest) = ends_listed y p m t lists (lists.steps a s m listed lead) rest
 
-pub exchanged : (y : System) (a b : ℕ) (before later : List ℕ) (s m t : State) → ListsReached y → Listed y.states s → Commute y a b → Runs y s before m → AppliesIn y b m → Runs y m (a ∷ b ∷ later) t
+pub exchanged : (y : System) (a b : ℕ) (before later : List ℕ) (s m t : State) → ListsReached y → Listed y.states s
+    → Commute y a b → Runs y s before m → AppliesIn y b m → Runs y m (a ∷ b ∷ later) t
     → Rearranges y s t (before ++ a ∷ b ∷ later) (before ++ b ∷ a ∷ later)
 exchanged y a b before later s m t lists listed commute to applies runs = record {
   runs = run_append y s before m (b ∷ a ∷ later) t to (exchange y a b later m t (ends_listed y before s m lists listed to) commute applies runs);
@@ -64,7 +67,9 @@ exchanged y a b before later s m t lists listed commute to applies runs = record
 }
 
 -- what commutes with each before it, to the front
-move : (y : System) (x : ℕ) (before later : List ℕ) (s t u : State) → ListsReached y → Listed y.states s → Leads y x s u → AllByRecursion (Commute y x) before → Runs y s (before ++ x ∷ later) t → Runs y s (x ∷ (before ++ later)) t
+move : (y : System) (x : ℕ) (before later : List ℕ) (s t u : State) → ListsReached y → Listed y.states s
+    → Leads y x s u → AllByRecursion (Commute y x) before → Runs y s (before ++ x ∷ later) t
+    → Runs y s (x ∷ (before ++ later)) t
 move y x [] later s t u lists listed lead commute runs = runs
 move y x (b ∷ before) later s t u lists listed lead commute (m, first, rest) =
     let both = commute.0.either s u m listed lead first in
@@ -72,15 +77,19 @@ move y x (b ∷ before) later s t u lists listed lead commute (m, first, rest) =
     let same : moved.0 ≡ both.0 = one_next y x m moved.0 both.0 moved.1 both.2 in
     (u, lead, (both.0, both.1, subst (λ (z : State). Runs y z (before ++ later) t) same moved.2))
 
-pub moved : (y : System) (set : ℕ → Bool) (s t : State) (p : List ℕ) → ListsReached y → Listed y.states s → (f : FirstOf y set s p) → Runs y s p t → Rearranges y s t p (f.first ∷ (f.before ++ f.later))
+pub moved : (y : System) (set : ℕ → Bool) (s t : State) (p : List ℕ) → ListsReached y → Listed y.states s
+    → (f : FirstOf y set s p) → Runs y s p t → Rearranges y s t p (f.first ∷ (f.before ++ f.later))
 moved y set s t p lists listed f runs = record {
   runs = move y f.first f.before f.later s t f.applies.0 lists listed f.applies.1 f.commutes (subst (λ (z : List ℕ). Runs y s z t) f.here runs);
   same = λ a. ap (λ (z : List ℕ). count_by (λ b. a == b) z) f.here ∙ count_moved a f.first f.before f.later;
-  steps = (let l = length-append f.before (f.first ∷ f.later) in let k = length-append f.before f.later in let e = ap (λ (z : List ℕ). length z) f.here in omega (arith, l, k, e));
+  steps = (let l = length-append f.before (f.first ∷ f.later) in let k = length-append f.before f.later in
+      let e = ap (λ (z : List ℕ). length z) f.here in omega (arith, l, k, e));
   cost = cost_moved y f.first f.before f.later ∙ sym (ap (cost_of y) f.here);
 }
 
-pub begun : (y : System) (set : ℕ → Bool) (s t : State) (p : List ℕ) → ListsReached y → Listed y.states s → Stubborn y set s → Runs y s p t → IsTrue (y.goal t) → ¬ (p ≡ []) → (q : List ℕ) × BeginsIn set q × Rearranges y s t p q
+pub begun : (y : System) (set : ℕ → Bool) (s t : State) (p : List ℕ) → ListsReached y → Listed y.states s
+    → Stubborn y set s → Runs y s p t → IsTrue (y.goal t) → ¬ (p ≡ []) → (q : List ℕ)
+    × BeginsIn set q × Rearranges y s t p q
 begun y set s t [] lists listed stubborn runs goal some = absurd (some refl)
 begun y set s t (a ∷ p) lists listed stubborn runs goal some =
     let f = stubborn.first a p t runs goal in
@@ -93,7 +102,9 @@ shorter before x later n e =
     let c : length (x ∷ later) ≡ suc (length later) = refl in omega (arith, e, l, k, c)
 
 -- each step inside, by the number of steps
-inside : (n : ℕ) (y : System) (set : State → ℕ → Bool) (s t : State) (p : List ℕ) → length p ≡ n → ListsReached y → ((r : State) → Listed y.states r → Stubborn y (set r) r) → Listed y.states s → Runs y s p t → IsTrue (y.goal t)
+inside : (n : ℕ) (y : System) (set : State → ℕ → Bool) (s t : State) (p : List ℕ) → length p ≡ n → ListsReached y
+    → ((r : State) → Listed y.states r → Stubborn y (set r) r) → Listed y.states s
+    → Runs y s p t → IsTrue (y.goal t)
     → (q : List ℕ) × StepsInside y set s q × Rearranges y s t p q
 inside n y set s t [] size lists stubborn listed runs goal = ([], tt, record { runs = runs; same = λ a. refl; steps = refl; cost = refl })
 inside zero y set s t (a ∷ p) size lists stubborn listed runs goal = (let e : suc (length p) ≡ 0 = size in absurd (omega arith))
@@ -116,11 +127,15 @@ inside (suc n) y set s t (a ∷ p) size lists stubborn listed runs goal =
       },
     )
 
-pub member : (y : System) (set : State → ℕ → Bool) (s t : State) (p : List ℕ) → ListsReached y → ((r : State) → Listed y.states r → Stubborn y (set r) r) → Listed y.states s → Runs y s p t → IsTrue (y.goal t) → (q : List ℕ) × StepsInside y set s q × Rearranges y s t p q
+pub member : (y : System) (set : State → ℕ → Bool) (s t : State) (p : List ℕ) → ListsReached y
+    → ((r : State) → Listed y.states r → Stubborn y (set r) r) → Listed y.states s → Runs y s p t
+    → IsTrue (y.goal t) → (q : List ℕ) × StepsInside y set s q × Rearranges y s t p q
 member y set s t p lists stubborn listed runs goal = inside (length p) y set s t p refl lists stubborn listed runs goal
 
 -- each step chosen, after the operators `before`
-chosen : (n : ℕ) (y : System) (set : List ℕ → ℕ → Bool) (o s t : State) (before p : List ℕ) → length p ≡ n → ListsReached y → ((e : List ℕ) (r : State) → Runs y o e r → Stubborn y (set e) r) → Runs y o before s → Listed y.states s → Runs y s p t → IsTrue (y.goal t)
+chosen : (n : ℕ) (y : System) (set : List ℕ → ℕ → Bool) (o s t : State) (before p : List ℕ) → length p ≡ n
+    → ListsReached y → ((e : List ℕ) (r : State) → Runs y o e r → Stubborn y (set e) r) → Runs y o before s
+    → Listed y.states s → Runs y s p t → IsTrue (y.goal t)
     → (q : List ℕ) × StepsChosen set before q × Rearranges y s t p q
 chosen n y set o s t before [] size lists stubborn from listed runs goal = ([], tt, record { runs = runs; same = λ a. refl; steps = refl; cost = refl })
 chosen zero y set o s t before (a ∷ p) size lists stubborn from listed runs goal = (let e : suc (length p) ≡ 0 = size in absurd (omega arith))
@@ -131,7 +146,8 @@ chosen (suc n) y set o s t before (a ∷ p) size lists stubborn from listed runs
     let m = re.runs.0 in
     let lead = re.runs.1 in
     let short : length r ≡ n = shorter f.before f.first f.later n (ap length (sym f.here) ∙ size) in
-    let rest = chosen n y set o m t (before ++ f.first ∷ []) r short lists stubborn (run_more y o before s f.first m from lead) (lists.steps f.first s m listed lead) re.runs.2 goal in (
+    let rest = chosen n y set o m t (before ++ f.first ∷ []) r short lists stubborn
+    (run_more y o before s f.first m from lead) (lists.steps f.first s m listed lead) re.runs.2 goal in (
       f.first ∷ rest.0,
       (f.inside, rest.1),
       record {
@@ -142,6 +158,8 @@ chosen (suc n) y set o s t before (a ∷ p) size lists stubborn from listed runs
       },
     )
 
-pub chosen_member : (y : System) (set : List ℕ → ℕ → Bool) (s t : State) (p : List ℕ) → ListsReached y → ((e : List ℕ) (r : State) → Runs y s e r → Stubborn y (set e) r) → Listed y.states s → Runs y s p t → IsTrue (y.goal t)
+pub chosen_member : (y : System) (set : List ℕ → ℕ → Bool) (s t : State) (p : List ℕ) → ListsReached y
+    → ((e : List ℕ) (r : State) → Runs y s e r → Stubborn y (set e) r) → Listed y.states s
+    → Runs y s p t → IsTrue (y.goal t)
     → (q : List ℕ) × StepsChosen set [] q × Rearranges y s t p q
 chosen_member y set s t p lists stubborn listed runs goal = chosen (length p) y set s s t [] p refl lists stubborn refl listed runs goal

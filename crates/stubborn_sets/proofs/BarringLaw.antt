@@ -16,7 +16,9 @@ use Rattle.stubborn_sets.specs.Depending.{is_in}
 use Rattle.stubborn_sets.specs.Barring.{HasMakers, RaisesBarred, Waits, IsBarredRule, AreBarredRules, IsBarred}
 
 -- a condition that is met after rules that derive holds
-met_holds : (task : TaskParts) (t : List ℕ) (layer : ℕ) (earlier : List Rule) (fact : Fact) → Derives task t (RaisedBelow layer task t) layer earlier → Met task t (RaisedBelow layer task t) layer earlier fact → Holds task t fact
+met_holds : (task : TaskParts) (t : List ℕ) (layer : ℕ) (earlier : List Rule) (fact : Fact)
+    → Derives task t (RaisedBelow layer task t) layer earlier
+    → Met task t (RaisedBelow layer task t) layer earlier fact → Holds task t fact
 unfolding RaisedBelow
 met_holds task t layer earlier fact d (base b e) = inl (b, e)
 met_holds task t layer earlier fact d (same l e h) =
@@ -28,19 +30,25 @@ met_holds task t layer earlier fact d (raised below l lt e low) =
 met_holds task t layer earlier fact d (default below l lt e none) =
     inr (below, l, ((λ k. absurd (omega (arith, k, e))), (λ r. absurd (none ((raised_by task t layer fact.var below l lt).1 r)))))
 
-met_of : (task : TaskParts) (t : List ℕ) (Low : ℕ → Type 0) (layer : ℕ) (earlier : List Rule) (facts : List Fact) (fact : Fact) → AllByRecursion (Met task t Low layer earlier) facts → Contains facts fact → Met task t Low layer earlier fact
-met_of task t Low layer earlier facts fact met among = All-contains (Met task t Low layer earlier) facts fact (All-from_recursion (Met task t Low layer earlier) facts met) among
+met_of : (task : TaskParts) (t : List ℕ) (Low : ℕ → Type 0) (layer : ℕ) (earlier : List Rule) (facts : List Fact)
+    (fact : Fact) → AllByRecursion (Met task t Low layer earlier) facts → Contains facts fact
+    → Met task t Low layer earlier fact
+met_of task t Low layer earlier facts fact met among = All-contains (Met task t Low layer earlier) facts fact
+    (All-from_recursion (Met task t Low layer earlier) facts met) among
 
 module _ (task : TaskParts) (t values : List ℕ) (barred marks : List Bool) (fits : Fits task) (rules : AreBarredRules task values barred marks task.rules)
     (keeps : (fact : Fact) → InRange task.variables fact → ¬ HasValue values fact → HasMakers task fact marks → Holds task t fact → ⊥) where
   -- no rule is the first to raise a barred variable
-  none_first : (n : ℕ) (rule : Rule) (earlier : List Rule) → ((var : ℕ) → IsTrue (is_in barred var) → RaisedBelow n task t var → ⊥) → ((var : ℕ) → IsTrue (is_in barred var) → HasRule var earlier → ⊥)
+  none_first : (n : ℕ) (rule : Rule) (earlier : List Rule) → ((var : ℕ) → IsTrue (is_in barred var) → RaisedBelow n
+      task t var → ⊥) → ((var : ℕ) → IsTrue (is_in barred var) → HasRule var earlier → ⊥)
       → Derives task t (RaisedBelow n task t) n (rule ∷ earlier) → IsTrue (is_in barred rule.var) → ⊥
   none_first n rule earlier low before d on =
       let bar = All-contains (IsBarredRule task values barred marks) task.rules rule rules d.0.0 on d.0.1 in
       let met = met_of task t (RaisedBelow n task t) n earlier rule.conds bar.fact d.2 bar.among in
       by bar.fact met bar.waits
-      (λ makers. keeps bar.fact (All-contains (InRange task.variables) rule.conds bar.fact (All-contains (FitsRule task) task.rules rule fits.each_rule d.0.0).conds.1 bar.among) bar.unmet makers (met_holds task t n earlier bar.fact d.3 met))
+      (λ makers. keeps bar.fact (All-contains (InRange task.variables) rule.conds bar.fact
+      (All-contains (FitsRule task) task.rules rule fits.each_rule d.0.0).conds.1 bar.among) bar.unmet makers
+      (met_holds task t n earlier bar.fact d.3 met))
     where
       by : (fact : Fact) → Met task t (RaisedBelow n task t) n earlier fact → Waits task barred marks fact → (HasMakers task fact marks → ⊥) → ⊥
       by fact met (inr makers) off = off makers
@@ -49,7 +57,8 @@ module _ (task : TaskParts) (t values : List ℕ) (barred marks : List Bool) (fi
       by fact (raised below l lt e h) (inl (raising, it_is)) off = low fact.var it_is h
       by fact (default below l lt e h) (inl (raising, it_is)) off = (let k = raising.1 in absurd (omega (arith, k, e)))
 
-  none_derived : (n : ℕ) → ((var : ℕ) → IsTrue (is_in barred var) → RaisedBelow n task t var → ⊥) → (list : List Rule) → Derives task t (RaisedBelow n task t) n list → (var : ℕ) → IsTrue (is_in barred var) → HasRule var list → ⊥
+  none_derived : (n : ℕ) → ((var : ℕ) → IsTrue (is_in barred var) → RaisedBelow n task t var → ⊥) → (list : List Rule)
+      → Derives task t (RaisedBelow n task t) n list → (var : ℕ) → IsTrue (is_in barred var) → HasRule var list → ⊥
   none_derived n low [] d var on h = h
   none_derived n low (rule ∷ earlier) d var on (inl e) =
       none_first n rule earlier low (none_derived n low earlier d.3) d (subst (λ (v : ℕ). IsTrue (is_in barred v)) (sym e) on)

@@ -43,7 +43,9 @@ module _ (task : TaskParts) (marks : List Bool) (shut : IsShut task.rules marks)
 
   mets_on : (s t : List ℕ) (Low Lower : ℕ → Type 0) (layer : ℕ) (earlier : List Rule) → AgreeOn task marks s t
       → ((var : ℕ) → IsTrue (is_in marks var) → Low var → Lower var) → ((var : ℕ) → IsTrue (is_in marks var) → Lower var → Low var)
-      → (facts : List Fact) → AllByRecursion (λ fact. IsTrue (is_in marks fact.var)) facts → AllByRecursion (Met task s Low layer earlier) facts → AllByRecursion (Met task t Lower layer (kept marks earlier)) facts
+      → (facts : List Fact) → AllByRecursion (λ fact. IsTrue (is_in marks fact.var)) facts
+      → AllByRecursion (Met task s Low layer earlier) facts
+      → AllByRecursion (Met task t Lower layer (kept marks earlier)) facts
   mets_on s t Low Lower layer earlier agree to back [] on h = tt
   mets_on s t Low Lower layer earlier agree to back (fact ∷ facts) on h =
       (met_on s t Low Lower layer earlier fact agree to back on.0 h.0, mets_on s t Low Lower layer earlier agree to back facts on.1 h.1)
@@ -76,8 +78,11 @@ module _ (task : TaskParts) (marks : List Bool) (shut : IsShut task.rules marks)
         last,
         kept marks earlier,
         is,
-        subst (λ (b : Bool). Derives task t (RaisedBelow n task t) n (cond b (last ∷ kept marks earlier) (kept marks earlier))) (subst (λ (v : ℕ). IsTrue (is_in marks v)) (sym is) on)
-            (derives_on s t (RaisedBelow n task s) (RaisedBelow n task t) n agree (raised_on n s t agree) (raised_on n t s (λ v b m. sym (agree v b m))) (last ∷ earlier) d),
+        subst (λ (b : Bool). Derives task t (RaisedBelow n task t) n
+            (cond b (last ∷ kept marks earlier) (kept marks earlier)))
+            (subst (λ (v : ℕ). IsTrue (is_in marks v)) (sym is) on)
+            (derives_on s t (RaisedBelow n task s) (RaisedBelow n task t) n agree (raised_on n s t agree)
+            (raised_on n t s (λ v b m. sym (agree v b m))) (last ∷ earlier) d),
       )
   raised_on (suc n) s t agree var on (inr h) = inr (raised_on n s t agree var on h)
 

@@ -25,13 +25,15 @@ either true = inl refl
 either false = inr (λ h. (cc))
 
 -- the makers of a fact, once they are in the set
-pub has_makers : (task : TaskParts) (fact : Fact) (ops : List ℕ) (marks : List Bool) → AreMakers task fact ops → All (λ op. IsTrue (is_in marks op)) ops → HasMakers task fact marks
+pub has_makers : (task : TaskParts) (fact : Fact) (ops : List ℕ) (marks : List Bool) → AreMakers task fact ops
+    → All (λ op. IsTrue (is_in marks op)) ops → HasMakers task fact marks
 has_makers task fact ops marks makers all a lt = elim (either (is_in marks a)) [
   | inl it_is ↦ inl it_is
   | inr off ↦ inr (makers.out a lt (λ h. off (All-contains (λ (op : ℕ). IsTrue (is_in marks op)) ops a all h)))
 ]
 
-pub has_conflicts : (task : TaskParts) (one : ℕ) (ops : List ℕ) (marks : List Bool) → AreConflicts task one ops → All (λ op. IsTrue (is_in marks op)) ops → HasConflicts task one marks
+pub has_conflicts : (task : TaskParts) (one : ℕ) (ops : List ℕ) (marks : List Bool) → AreConflicts task one ops
+    → All (λ op. IsTrue (is_in marks op)) ops → HasConflicts task one marks
 has_conflicts task one ops marks conflicts all a lt = elim (either (is_in marks a)) [
   | inl it_is ↦ inl it_is
   | inr off ↦ inr (conflicts.out a lt (λ h. off (All-contains (λ (op : ℕ). IsTrue (is_in marks op)) ops a all h)))
@@ -69,7 +71,8 @@ adds_new old new op lt off marks last = record {
   waits = waits;
   marked = λ a h. elim (Contains-push_cases old.waiting.items op a (subst (λ (z : List ℕ). Contains z a) last h)) [
     | inl was ↦ inl was
-    | inr is ↦ inr (subst (λ (z : ℕ). IsTrue (is_in new.marks.items z)) is (subst (λ (z : List Bool). IsTrue (is_in z op)) (sym marks) (here old.marks.items op lt)))
+    | inr is ↦ inr (subst (λ (z : ℕ). IsTrue (is_in new.marks.items z)) is
+        (subst (λ (z : List Bool). IsTrue (is_in z op)) (sym marks) (here old.marks.items op lt)))
   ];
   room = (
       let f = one_fewer old.marks.items op lt off in
@@ -81,13 +84,17 @@ adds_new old new op lt off marks last = record {
   where
     waits : (a : ℕ) → IsTrue (is_in new.marks.items a) → IsTrue (is_in old.marks.items a) ⊎ Contains new.waiting.items a
     waits a h = elim (cases_eq a op) [
-      | inl same ↦ inr (subst (λ (z : List ℕ). Contains z a) (sym last) (subst (λ (z : ℕ). Contains (old.waiting.items ++ op ∷ []) z) (sym same) (Contains-push old.waiting.items op)))
-      | inr off ↦ (let ne : a ≢ op = off in inl (sym (get_or-set_other old.marks.items op a true false ne) ∙ subst (λ (z : List Bool). IsTrue (is_in z a)) marks h))
+      | inl same ↦ inr (subst (λ (z : List ℕ). Contains z a) (sym last)
+          (subst (λ (z : ℕ). Contains (old.waiting.items ++ op ∷ []) z) (sym same)
+          (Contains-push old.waiting.items op)))
+      | inr off ↦ (let ne : a ≢ op = off in inl (sym (get_or-set_other old.marks.items op a true false ne) ∙ subst
+          (λ (z : List Bool). IsTrue (is_in z a)) marks h))
     ]
 
 -- A set of operators before its growth, and after each step.
 
-pub growing_begins : (task : TaskParts) (values : List ℕ) (set : Growing) (n : ℕ) → n ≡ length task.operators → set.marks.items ≡ replicate n false → set.waiting.items ≡ [] → IsGrowing task values set
+pub growing_begins : (task : TaskParts) (values : List ℕ) (set : Growing) (n : ℕ) → n ≡ length task.operators
+    → set.marks.items ≡ replicate n false → set.waiting.items ≡ [] → IsGrowing task values set
 growing_begins task values s n each marks last = record {
   each = ap (λ (z : List Bool). length z) marks ∙ length-replicate n false ∙ each;
   marked = λ a h. absurd (none_in a (subst (λ (z : List ℕ). Contains z a) last h));
@@ -108,7 +115,8 @@ growing_adds task values old new g d = record {
 }
 
 -- one that was popped has what it needs
-growing_served : (task : TaskParts) (values : List ℕ) (one : ℕ) (old new : Growing) → IsPopped task values one old → Adds old new → HasNeeds task values one new.marks.items → IsGrowing task values new
+growing_served : (task : TaskParts) (values : List ℕ) (one : ℕ) (old new : Growing) → IsPopped task values one old
+    → Adds old new → HasNeeds task values one new.marks.items → IsGrowing task values new
 growing_served task values one old new p d has = record {
   each = d.each ∙ p.each;
   marked = λ a h. elim (d.marked a h) [ inl was ↦ d.grows a (p.marked a was) | inr it_is ↦ it_is ];
@@ -136,7 +144,8 @@ pub served_conflicts : (task : TaskParts) (values : List ℕ) (one : ℕ) (opera
     → Adds old new → All (λ op. IsTrue (is_in new.marks.items op)) ops → IsGrowing task values new
 served_conflicts task values one operator ops old new is applies conflicts p d all =
     growing_served task values one old new p d
-    (subst (λ (o : Option Operator). IsSomeAnd o (Needs task values one new.marks.items)) (sym is) (inl (applies, has_conflicts task one ops new.marks.items conflicts all)))
+    (subst (λ (o : Option Operator). IsSomeAnd o (Needs task values one new.marks.items)) (sym is)
+    (inl (applies, has_conflicts task one ops new.marks.items conflicts all)))
 
 -- both of what is said of a value
 pub on_both : {T E : Type 0} (r : Result T E) (A B C : Type 0) → (A → B → C) → OnOk r A → OnOk r B → OnOk r C
@@ -153,11 +162,15 @@ pub all_within : {Fine : ℕ → Type 0} (n m : ℕ) (ops : List ℕ) → Leaves
 all_within n m ops h same k d lt = (let within = h.within (get_or ops k d) (Contains-get_or ops k d lt) in omega (arith, within, same))
 
 -- one is popped
-pub popped : (task : TaskParts) (values : List ℕ) (old new : Growing) (one : ℕ) → IsGrowing task values old → old.waiting.items ≡ new.waiting.items ++ one ∷ [] → new.marks.items ≡ old.marks.items → IsPopped task values one new
+pub popped : (task : TaskParts) (values : List ℕ) (old new : Growing) (one : ℕ) → IsGrowing task values old
+    → old.waiting.items ≡ new.waiting.items ++ one ∷ [] → new.marks.items ≡ old.marks.items
+    → IsPopped task values one new
 popped task values old new one g last marks = record {
   within = (let lt = is_there old.marks.items one member in omega (arith, lt, g.each));
   each = ap (λ (z : List Bool). length z) marks ∙ g.each;
-  marked = λ a h. subst (λ (z : List Bool). IsTrue (is_in z a)) (sym marks) (g.marked a (subst (λ (z : List ℕ). Contains z a) (sym last) (Contains-append_left new.waiting.items (one ∷ []) a h)));
+  marked = λ a h. subst (λ (z : List Bool). IsTrue (is_in z a)) (sym marks)
+      (g.marked a (subst (λ (z : List ℕ). Contains z a) (sym last)
+      (Contains-append_left new.waiting.items (one ∷ []) a h)));
   needs = λ a h. elim (g.needs a (subst (λ (z : List Bool). IsTrue (is_in z a)) marks h)) [
     | inl was ↦ elim (Contains-push_cases new.waiting.items one a (subst (λ (z : List ℕ). Contains z a) last was)) [
       | inl still ↦ inr (inl still)

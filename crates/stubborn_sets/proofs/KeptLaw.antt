@@ -39,7 +39,8 @@ puts_last Fine op ops new was put = record {
     | inr is ↦ omega (arith, is)
   ];
   out = λ a lt off. elim (cases_eq a op) [
-    | inl same ↦ absurd (off (subst (λ (z : List ℕ). Contains z a) (sym put) (subst (λ (z : ℕ). Contains (ops ++ op ∷ []) z) (sym same) (Contains-push ops op))))
+    | inl same ↦ absurd (off (subst (λ (z : List ℕ). Contains z a) (sym put)
+        (subst (λ (z : ℕ). Contains (ops ++ op ∷ []) z) (sym same) (Contains-push ops op))))
     | inr ne ↦ (
         let apart : a ≢ op = ne in
         was.out a (omega (arith, lt, apart)) (λ h. off (subst (λ (z : List ℕ). Contains z a) (sym put) (Contains-append_left ops (op ∷ []) a h))))
@@ -70,11 +71,16 @@ givers_more task firsts op operator old new is g adds has = record {
     | inr same ↦ omega (arith, same)
   ];
   each = λ a lt. elim (cases_eq a op) [
-    | inl same ↦ subst (λ (z : ℕ). IsSomeAnd (slice_get task.operators z) (λ (o : Operator). All (λ (effect : Effect). Contains (new (number_of firsts (given_by effect))) z) o.effects)) (sym same)
-        (subst (λ (z : Option Operator). IsSomeAnd z (λ (o : Operator). All (λ (effect : Effect). Contains (new (number_of firsts (given_by effect))) op) o.effects)) (sym is) has)
+    | inl same ↦ subst (λ (z : ℕ). IsSomeAnd (slice_get task.operators z)
+        (λ (o : Operator). All (λ (effect : Effect). Contains (new (number_of firsts (given_by effect))) z)
+        o.effects)) (sym same)
+        (subst (λ (z : Option Operator). IsSomeAnd z (λ (o : Operator). All
+        (λ (effect : Effect). Contains (new (number_of firsts (given_by effect))) op) o.effects)) (sym is) has)
     | inr ne ↦ (
         let apart : a ≢ op = ne in
-        some_and (λ (o : Operator). All (λ (effect : Effect). Contains (old (number_of firsts (given_by effect))) a) o.effects) (λ (o : Operator). All (λ (effect : Effect). Contains (new (number_of firsts (given_by effect))) a) o.effects)
+        some_and (λ (o : Operator). All (λ (effect : Effect). Contains (old (number_of firsts (given_by effect))) a)
+        o.effects) (λ (o : Operator). All (λ (effect : Effect). Contains
+        (new (number_of firsts (given_by effect))) a) o.effects)
         (λ o h k d below. adds.keeps (number_of firsts (given_by (get_or o.effects k d))) a (h k d below))
         (slice_get task.operators a) (g.each a (omega (arith, lt, apart))))
   ];
@@ -87,7 +93,11 @@ pub makers_given : (task : TaskParts) (lists : Fact → List ℕ) (fact : Fact) 
 makers_given task lists fact g base = record {
   within = λ a h. g.within fact a h;
   out = λ a lt off. some_and (λ (o : Operator). All (λ (effect : Effect). Contains (lists (given_by effect)) a) o.effects) (CannotMake task fact)
-      (λ o h. (inr (λ k d below var post. off (subst (λ (z : Fact). Contains (lists z) a) (same_fact (get_or o.effects k d) fact var post) (h k d below))), inl base))
+      (λ o h. (
+        inr (λ k d below var post. off (subst (λ (z : Fact). Contains (lists z) a)
+            (same_fact (get_or o.effects k d) fact var post) (h k d below))),
+        inl base,
+      ))
       (slice_get task.operators a) (g.each a lt);
 }
   where
@@ -101,14 +111,18 @@ pub makers_changers : (task : TaskParts) (ops : List ℕ) (fact : Fact) → AreC
 makers_changers task ops fact (inl base) derived = absurd (derived base)
 makers_changers task ops fact (inr g) derived = record {
   within = g.within;
-  out = λ a lt off. some_and (λ (o : Operator). LeavesAlone task fact.var o.effects) (CannotMake task fact) (λ o h. (inl derived, inr h)) (slice_get task.operators a) (g.out a lt off);
+  out = λ a lt off. some_and (λ (o : Operator). LeavesAlone task fact.var o.effects) (CannotMake task fact)
+      (λ o h. (inl derived, inr h)) (slice_get task.operators a) (g.out a lt off);
 }
 
 -- those off a set out of which no rule leads
-pub changers_off : (task : TaskParts) (var : ℕ) (marks : List Bool) (ops : List ℕ) → IsTrue (is_in marks var) → IsShut task.rules marks → LeavesOut (IsOff task marks) (length task.operators) ops → AreChangers task var ops
+pub changers_off : (task : TaskParts) (var : ℕ) (marks : List Bool) (ops : List ℕ) → IsTrue (is_in marks var)
+    → IsShut task.rules marks → LeavesOut (IsOff task marks) (length task.operators) ops → AreChangers task var ops
 changers_off task var marks ops on shut g = inr (record {
   within = g.within;
-  out = λ a lt off. some_and (λ (o : Operator). WritesOff marks o.effects) (λ (o : Operator). LeavesAlone task var o.effects) (λ o h. (marks, on, shut, h)) (slice_get task.operators a) (g.out a lt off);
+  out = λ a lt off. some_and (λ (o : Operator). WritesOff marks o.effects)
+      (λ (o : Operator). LeavesAlone task var o.effects) (λ o h. (marks, on, shut, h))
+      (slice_get task.operators a) (g.out a lt off);
 })
 
 -- The rules for a variable.
@@ -118,7 +132,8 @@ rules_none rules lists none var = leaves_none (IsForOther rules var) (lists var)
 
 -- those of one rule more
 pub rules_more : (rules : List Rule) (n : ℕ) (rule : Rule) (old new : ℕ → List ℕ) → n < length rules → rule ≡ get_or rules n rule
-    → ((var : ℕ) → LeavesOut (IsForOther rules var) n (old var)) → AddsOne old new n → Contains (new rule.var) n → (var : ℕ) → LeavesOut (IsForOther rules var) (n + 1) (new var)
+    → ((var : ℕ) → LeavesOut (IsForOther rules var) n (old var)) → AddsOne old new n → Contains (new rule.var) n
+    → (var : ℕ) → LeavesOut (IsForOther rules var) (n + 1) (new var)
 rules_more rules n rule old new within is was adds has var = record {
   within = λ a h. elim (adds.adds var a h) [
     | inl before ↦ (let lt = (was var).within a before in omega (arith, lt))
@@ -135,7 +150,8 @@ rules_more rules n rule old new within is was adds has var = record {
 
 -- The lists of operators that don't commute.
 
-pub conflicts_put : (task : TaskParts) (old new : Conflicts) (one : ℕ) (ops : List ℕ) → KnowsConflicts task old → PutsRow (row_at old) (row_at new) one ops → AreConflicts task one ops → KnowsConflicts task new
+pub conflicts_put : (task : TaskParts) (old new : Conflicts) (one : ℕ) (ops : List ℕ) → KnowsConflicts task old
+    → PutsRow (row_at old) (row_at new) one ops → AreConflicts task one ops → KnowsConflicts task new
 conflicts_put task old new one ops knows puts are = record {
   each = λ i list h. elim (puts i list h) [
     | inl was ↦ knows.each i list was

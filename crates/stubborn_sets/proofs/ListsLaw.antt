@@ -40,10 +40,12 @@ set_other (x ∷ xs) (suc n) zero v off = refl
 set_other (x ∷ xs) (suc n) (suc i) v off = set_other xs n i v (λ same. off (ap suc same))
 
 -- the operator was put into one
-pub put_has : (xs : List (Vec ℕ Global)) (n : ℕ) (v : Vec ℕ Global) (op : ℕ) → n < length xs → v.items ≡ list_in xs n ++ op ∷ [] → Contains (list_in (set xs n v) n) op
+pub put_has : (xs : List (Vec ℕ Global)) (n : ℕ) (v : Vec ℕ Global) (op : ℕ) → n < length xs
+    → v.items ≡ list_in xs n ++ op ∷ [] → Contains (list_in (set xs n v) n) op
 put_has xs n v op lt e = subst (λ (z : List ℕ). Contains z op) (sym (set_same xs n v lt ∙ e)) (Contains-push (list_in xs n) op)
 
-pub put_adds : (xs : List (Vec ℕ Global)) (n : ℕ) (v : Vec ℕ Global) (op : ℕ) → n < length xs → v.items ≡ list_in xs n ++ op ∷ [] → AddsOne (list_in xs) (list_in (set xs n v)) op
+pub put_adds : (xs : List (Vec ℕ Global)) (n : ℕ) (v : Vec ℕ Global) (op : ℕ) → n < length xs
+    → v.items ≡ list_in xs n ++ op ∷ [] → AddsOne (list_in xs) (list_in (set xs n v)) op
 put_adds xs n v op lt e = record { keeps = keeps; adds = adds }
   where
     here : list_in (set xs n v) n ≡ list_in xs n ++ op ∷ []
@@ -51,16 +53,20 @@ put_adds xs n v op lt e = record { keeps = keeps; adds = adds }
 
     keeps : (i a : ℕ) → Contains (list_in xs i) a → Contains (list_in (set xs n v) i) a
     keeps i a h = elim (cases_eq i n) [
-      | inl same ↦ subst (λ (k : ℕ). Contains (list_in (set xs n v) k) a) (sym same) (subst (λ (z : List ℕ). Contains z a) (sym here) (Contains-append_left (list_in xs n) (op ∷ []) a (subst (λ (k : ℕ). Contains (list_in xs k) a) same h)))
+      | inl same ↦ subst (λ (k : ℕ). Contains (list_in (set xs n v) k) a) (sym same)
+          (subst (λ (z : List ℕ). Contains z a) (sym here)
+          (Contains-append_left (list_in xs n) (op ∷ []) a (subst (λ (k : ℕ). Contains (list_in xs k) a) same h)))
       | inr off ↦ subst (λ (z : List ℕ). Contains z a) (sym (set_other xs n i v off)) h
     ]
 
     adds : (i a : ℕ) → Contains (list_in (set xs n v) i) a → Contains (list_in xs i) a ⊎ (a ≡ op)
     adds i a h = elim (cases_eq i n) [
-      | inl same ↦ elim (Contains-push_cases (list_in xs n) op a (subst (λ (z : List ℕ). Contains z a) here (subst (λ (k : ℕ). Contains (list_in (set xs n v) k) a) same h))) [
-        | inl old ↦ inl (subst (λ (k : ℕ). Contains (list_in xs k) a) (sym same) old)
-        | inr is ↦ inr (sym is)
-      ]
+      | inl same ↦ elim (Contains-push_cases (list_in xs n) op a
+          (subst (λ (z : List ℕ). Contains z a) here (subst (λ (k : ℕ). Contains (list_in (set xs n v) k) a) same
+          h))) [
+            | inl old ↦ inl (subst (λ (k : ℕ). Contains (list_in xs k) a) (sym same) old)
+            | inr is ↦ inr (sym is)
+          ]
       | inr off ↦ inl (subst (λ (z : List ℕ). Contains z a) (set_other xs n i v off) h)
     ]
 

@@ -58,8 +58,18 @@ spreads_new marks at lt off = record { grows = still marks at lt; none = λ h. a
 
 -- once more, and no more
 pub spreads_more : (a b c : List Bool) (more : Bool) → Spreads a b more → Spreads b c true → Spreads a c true
-spreads_more a b c true to on = record { grows = further a b c to.grows on.grows; none = λ h. absurd (cc); some = λ _. (let x = to.some refl in let y = on.some refl in omega (arith, x, y)) }
-spreads_more a b c false to on = record { grows = further a b c to.grows on.grows; none = λ h. absurd (cc); some = λ _. (let x = ap left (to.none refl) in let y = on.some refl in omega (arith, x, y)) }
+spreads_more a b c true to on = record {
+  grows = further a b c to.grows on.grows;
+  none = λ h. absurd (cc);
+  some = λ _.
+      (let x = to.some refl in let y = on.some refl in omega (arith, x, y));
+}
+spreads_more a b c false to on = record {
+  grows = further a b c to.grows on.grows;
+  none = λ h. absurd (cc);
+  some =
+      λ _. (let x = ap left (to.none refl) in let y = on.some refl in omega (arith, x, y));
+}
 
 pub spreads_no_more : (a b c : List Bool) (more : Bool) → Spreads a b more → Spreads b c false → Spreads a c more
 spreads_no_more a b c more to on = subst (λ (z : List Bool). Spreads a z more) (sym (on.none refl)) to

@@ -18,17 +18,27 @@ pub makers_grow : (task : TaskParts) (fact : Fact) (old new : List Bool) → Gro
 makers_grow task fact old new grows h a lt = elim (h a lt) [ inl it_is ↦ inl (grows a it_is) | inr off ↦ inr off ]
 
 -- a fact waits on, as more variables are barred and more operators marked
-pub waits_grow : (task : TaskParts) (fact : Fact) (bars more old new : List Bool) → Grows bars more → Grows old new → Waits task bars old fact → Waits task more new fact
+pub waits_grow : (task : TaskParts) (fact : Fact) (bars more old new : List Bool) → Grows bars more → Grows old new
+    → Waits task bars old fact → Waits task more new fact
 waits_grow task fact bars more old new to on (inl (raising, it_is)) = inl (raising, to fact.var it_is)
 waits_grow task fact bars more old new to on (inr makers) = inr (makers_grow task fact old new on makers)
 
-pub bar_grows : (task : TaskParts) (values : List ℕ) (bars more old new : List Bool) (conds : List Fact) → Grows bars more → Grows old new → HasBar task values bars old conds → HasBar task values more new conds
-bar_grows task values bars more old new conds to on b = record { fact = b.fact; among = b.among; unmet = b.unmet; waits = waits_grow task b.fact bars more old new to on b.waits }
+pub bar_grows : (task : TaskParts) (values : List ℕ) (bars more old new : List Bool) (conds : List Fact)
+    → Grows bars more → Grows old new → HasBar task values bars old conds → HasBar task values more new conds
+bar_grows task values bars more old new conds to on b = record {
+  fact = b.fact;
+  among = b.among;
+  unmet = b.unmet;
+  waits =
+      waits_grow task b.fact bars more old new to on b.waits;
+}
 
-pub stopped_grows : (task : TaskParts) (values : List ℕ) (bars more old new : List Bool) (rule : Rule) → Grows bars more → Grows old new → IsStopped task values bars old rule → IsStopped task values more new rule
+pub stopped_grows : (task : TaskParts) (values : List ℕ) (bars more old new : List Bool) (rule : Rule)
+    → Grows bars more → Grows old new → IsStopped task values bars old rule → IsStopped task values more new rule
 stopped_grows task values bars more old new rule to on h raises = bar_grows task values bars more old new rule.conds to on (h raises)
 
-pub false_grows : (task : TaskParts) (values : List ℕ) (fact : Fact) (old new : List Bool) → Grows old new → StaysFalse task values old fact → StaysFalse task values new fact
+pub false_grows : (task : TaskParts) (values : List ℕ) (fact : Fact) (old new : List Bool) → Grows old new
+    → StaysFalse task values old fact → StaysFalse task values new fact
 false_grows task values fact old new grows (inl makers) = inl (makers_grow task fact old new grows makers)
 false_grows task values fact old new grows (inr b) = inr (record {
   barred = b.barred;
@@ -41,15 +51,19 @@ conflicts_grow task one old new grows h a lt = elim (h a lt) [ inl it_is ↦ inl
 
 -- what one operator needs, by the operator
 abbrev pub Needs : TaskParts → List ℕ → ℕ → List Bool → Operator → Type 0
-Needs task values one marks operator = (AppliesBy values operator × HasConflicts task one marks) ⊎ ((fact : Fact) × IsMissing values operator fact × StaysFalse task values marks fact)
+Needs task values one marks operator = (AppliesBy values operator × HasConflicts task one marks)
+    ⊎ ((fact : Fact) × IsMissing values operator fact × StaysFalse task values marks fact)
 
-pub needs_grow : (task : TaskParts) (values : List ℕ) (one : ℕ) (old new : List Bool) (o : Option Operator) → Grows old new → IsSomeAnd o (Needs task values one old) → IsSomeAnd o (Needs task values one new)
+pub needs_grow : (task : TaskParts) (values : List ℕ) (one : ℕ) (old new : List Bool) (o : Option Operator)
+    → Grows old new → IsSomeAnd o (Needs task values one old) → IsSomeAnd o (Needs task values one new)
 needs_grow task values one old new None grows h = h
 needs_grow task values one old new (Some operator) grows (inl (applies, conflicts)) = inl (applies, conflicts_grow task one old new grows conflicts)
 needs_grow task values one old new (Some operator) grows (inr (fact, lacks, makers)) = inr (fact, lacks, false_grows task values fact old new grows makers)
 
 -- by what the code looked at
-module _ (task parts : TaskParts) (operators : List Operator) (one : ℕ) (operator : Operator) (values : List ℕ) (fits : Fits task) (same : parts ≡ task) (list : operators ≡ parts.operators) (lt : one < length task.operators) (is : operator ≡ get_or operators one operator) where
+module _ (task parts : TaskParts) (operators : List Operator) (one : ℕ) (operator : Operator) (values : List ℕ)
+    (fits : Fits task) (same : parts ≡ task) (list : operators ≡ parts.operators) (lt : one < length task.operators)
+    (is : operator ≡ get_or operators one operator) where
   all : operators ≡ task.operators
   all = list ∙ ap (λ (z : TaskParts). z.operators) same
 

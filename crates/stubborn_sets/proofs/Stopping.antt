@@ -31,14 +31,17 @@ either_in (y ∷ xs) x = elim (cases_eq y x) [
 
 -- the rules for a variable are stopped where those are that are listed for it
 pub all_stopped : (task : TaskParts) (values : List ℕ) (barred marks : List Bool) (var : ℕ) (numbers : List ℕ) → AreRules task.rules var numbers
-    → ((j d : ℕ) (e : Rule) → j < length numbers → IsStopped task values barred marks (get_or task.rules (get_or numbers j d) e)) → AreStopped task values barred marks var
+    → ((j d : ℕ) (e : Rule) → j < length numbers → IsStopped task values barred marks
+    (get_or task.rules (get_or numbers j d) e)) → AreStopped task values barred marks var
 all_stopped task values barred marks var numbers are each k d lt on = elim (either_in numbers k) [
   | inl has ↦ All-contains (λ (n : ℕ). IsStopped task values barred marks (get_or task.rules n d)) numbers k (λ j e below. each j e d below) has
   | inr off ↦ absurd (are.out k lt off d on)
 ]
 
 -- one variable is barred
-pub barring_begins : (task : TaskParts) (values : List ℕ) (first next set : Growing) (n : ℕ) → n ≡ length task.variables → first.marks.items ≡ replicate n false → first.waiting.items ≡ [] → Adds first next → IsBarring task values next set
+pub barring_begins : (task : TaskParts) (values : List ℕ) (first next set : Growing) (n : ℕ)
+    → n ≡ length task.variables → first.marks.items ≡ replicate n false → first.waiting.items ≡ [] → Adds first next
+    → IsBarring task values next set
 barring_begins task values first next set n each marks last d = record {
   each = d.each ∙ ap (λ (z : List Bool). length z) marks ∙ length-replicate n false ∙ each;
   marked = λ var h. elim (d.marked var h) [
@@ -52,8 +55,10 @@ barring_begins task values first next set n each marks last d = record {
 }
 
 -- the rules for one that waited are stopped
-pub barring_on : (task : TaskParts) (values : List ℕ) (bars next old new : Growing) (rest : Vec ℕ Global) (one : ℕ) → IsBarring task values bars old → bars.waiting.items ≡ rest.items ++ one ∷ []
-    → Adds (record { marks = bars.marks; waiting = rest }) next → Grows old.marks.items new.marks.items → AreStopped task values next.marks.items new.marks.items one → IsBarring task values next new
+pub barring_on : (task : TaskParts) (values : List ℕ) (bars next old new : Growing) (rest : Vec ℕ Global) (one : ℕ)
+    → IsBarring task values bars old → bars.waiting.items ≡ rest.items ++ one ∷ []
+    → Adds (record { marks = bars.marks; waiting = rest }) next → Grows old.marks.items new.marks.items
+    → AreStopped task values next.marks.items new.marks.items one → IsBarring task values next new
 barring_on task values bars next old new rest one g last d grows here = record {
   each = d.each ∙ g.each;
   marked = λ var h. elim (d.marked var h) [
@@ -66,14 +71,16 @@ barring_on task values bars next old new rest one g last d grows here = record {
         | inl still ↦ inl (d.keeps var still)
         | inr is ↦ inr (subst (λ (z : ℕ). AreStopped task values next.marks.items new.marks.items z) is here)
       ]
-      | inr stopped ↦ inr (λ k e lt on. stopped_grows task values bars.marks.items next.marks.items old.marks.items new.marks.items (get_or task.rules k e) d.grows grows (stopped k e lt on))
+      | inr stopped ↦ inr (λ k e lt on. stopped_grows task values bars.marks.items next.marks.items old.marks.items
+          new.marks.items (get_or task.rules k e) d.grows grows (stopped k e lt on))
     ]
     | inr new ↦ inl new
   ];
 }
 
 -- none waits
-pub barring_ends : (task : TaskParts) (values : List ℕ) (barred set : Growing) → IsBarring task values barred set → barred.waiting.items ≡ [] → AreBarredRules task values barred.marks.items set.marks.items task.rules
+pub barring_ends : (task : TaskParts) (values : List ℕ) (barred set : Growing) → IsBarring task values barred set
+    → barred.waiting.items ≡ [] → AreBarredRules task values barred.marks.items set.marks.items task.rules
 barring_ends task values barred set g last k d lt on = elim (g.rules (get_or task.rules k d).var on) [
   | inl waits ↦ absurd (none_in (get_or task.rules k d).var (subst (λ (z : List ℕ). Contains z (get_or task.rules k d).var) last waits))
   | inr stopped ↦ stopped k d lt refl

@@ -50,7 +50,15 @@ split set (a ∷ p) = elim (either (set a)) [
   | inl it_is ↦ inr (record { before = []; first = a; later = p; here = refl; inside = it_is; none = tt })
   | inr off ↦ elim (split set p) [
     | inl none ↦ inl (off, none)
-    | inr s ↦ inr (record { before = a ∷ s.before; first = s.first; later = s.later; here = ap (λ (z : List ℕ). a ∷ z) s.here; inside = s.inside; none = (off, s.none) })
+    | inr s ↦ inr (record {
+      before = a ∷ s.before;
+      first = s.first;
+      later = s.later;
+      here =
+          ap (λ (z : List ℕ). a ∷ z) s.here;
+      inside = s.inside;
+      none = (off, s.none);
+    })
   ]
 ]
 
@@ -65,35 +73,44 @@ both P Q R (a ∷ p) f h k = (f a h.0 k.0, both P Q R p f h.1 k.1)
 
 -- a precondition that an operator lacks
 
-missing_holds : (task : TaskParts) (values m : List ℕ) (operator : Operator) (fact : Fact) → IsMissing values operator fact → Allowed task m operator → Holds task m fact
+missing_holds : (task : TaskParts) (values m : List ℕ) (operator : Operator) (fact : Fact)
+    → IsMissing values operator fact → Allowed task m operator → Holds task m fact
 missing_holds task values m operator fact (inl h) allowed = All-contains (Holds task m) operator.prevail fact allowed.prevail h.0
 missing_holds task values m operator fact (inr (e, has, (on, asks, _))) allowed =
-    let k = subst (λ (o : Option ℕ). IfSome o (λ val. Holds task m (record { var = e.var; val = val }))) asks (All-contains (Allows task m) operator.effects e allowed.effects has) in
+    let k = subst (λ (o : Option ℕ). IfSome o (λ val. Holds task m (record { var = e.var; val = val }))) asks
+    (All-contains (Allows task m) operator.effects e allowed.effects has) in
     subst (λ (v : ℕ). Holds task m (record { var = v; val = fact.val })) (sym on) k
 
-pub missing_within : (task : TaskParts) (values : List ℕ) (operator : Operator) (fact : Fact) → FitsOperator task.variables operator → IsMissing values operator fact → InRange task.variables fact × ¬ HasValue values fact
+pub missing_within : (task : TaskParts) (values : List ℕ) (operator : Operator) (fact : Fact)
+    → FitsOperator task.variables operator → IsMissing values operator fact → InRange task.variables fact
+    × ¬ HasValue values fact
 missing_within task values operator fact fit (inl h) = (All-contains (InRange task.variables) operator.prevail fact fit.prevail.1 h.0, h.1)
 missing_within task values operator fact fit (inr (e, has, (on, asks, unlike))) =
-    let k = subst (λ (o : Option ℕ). IfSome o (λ val. InRange task.variables (record { var = e.var; val = val }))) asks (All-contains (FitsEffect task.variables) operator.effects e fit.each has).pre in
+    let k = subst (λ (o : Option ℕ). IfSome o (λ val. InRange task.variables (record { var = e.var; val = val })))
+    asks (All-contains (FitsEffect task.variables) operator.effects e fit.each has).pre in
     (subst (λ (v : ℕ). InRange task.variables (record { var = v; val = fact.val })) (sym on) k, unlike)
 
 module _ (task : TaskParts) (s values : List ℕ) (marks : List Bool) (fits : Fits task) (state : IsState task s) (valued : Valued task s values) where
   -- operators of a run that are not marked can't make the fact true
-  none_make : (fact : Fact) (p : List ℕ) (t : List ℕ) → HasMakers task fact marks → Runs (system_of task) s p t → NoneIn (is_in marks) p → AllByRecursion (IsNoMaker task fact) p
+  none_make : (fact : Fact) (p : List ℕ) (t : List ℕ) → HasMakers task fact marks → Runs (system_of task) s p t
+      → NoneIn (is_in marks) p → AllByRecursion (IsNoMaker task fact) p
   none_make fact p t makers runs none =
       both (λ a. a < length task.operators) (λ a. ¬ IsTrue (is_in marks a)) (IsNoMaker task fact) p
       (λ a lt off. elim (makers a lt) [ inl it_is ↦ absurd (off it_is) | inr cannot ↦ cannot ])
       (numbers (system_of task) p s t runs) none
 
   -- so what doesn't hold by the values, and stays false before a marked operator is applied, doesn't hold after them
-  false_after : (fact : Fact) (p : List ℕ) (t : List ℕ) → InRange task.variables fact → ¬ HasValue values fact → StaysFalse task values marks fact → Runs (system_of task) s p t → NoneIn (is_in marks) p → Holds task t fact → ⊥
+  false_after : (fact : Fact) (p : List ℕ) (t : List ℕ) → InRange task.variables fact → ¬ HasValue values fact
+      → StaysFalse task values marks fact → Runs (system_of task) s p t → NoneIn (is_in marks) p
+      → Holds task t fact → ⊥
   false_after fact p t within unmet stays runs none holds = elim stays [
     | inl makers ↦ kept fact within unmet makers holds
     | inr barred ↦ stays_false task t values marks fact fits barred kept holds
   ]
     where
       kept : (other : Fact) → InRange task.variables other → ¬ HasValue values other → HasMakers task other marks → Holds task t other → ⊥
-      kept other there off makers h = off ((valued.holds other there).0 (run_stays task p s t other fits there state runs (none_make other p t makers runs none) h))
+      kept other there off makers h = off ((valued.holds other there).0
+          (run_stays task p s t other fits there state runs (none_make other p t makers runs none) h))
 
   first_needs : (a : ℕ) (operator : Operator) (before later : List ℕ) (m t : List ℕ) → slice_get task.operators a ≡ Some operator
       → ((AppliesBy values operator × HasConflicts task a marks) ⊎ ((fact : Fact) × IsMissing values operator fact × StaysFalse task values marks fact))
@@ -118,24 +135,29 @@ module _ (task : TaskParts) (s values : List ℕ) (marks : List Bool) (fits : Fi
       run_state_of [] s m on h = subst (IsState task) h on
       run_state_of (b ∷ p) s m on (n, lead, rest) = run_state_of p n m (step_state task s b n fits on ((leads_law task s b n fits on).0 lead)) rest
 
-  at_needs : (a : ℕ) (before later : List ℕ) (m t : List ℕ) → HasNeeds task values a marks → NoneIn (is_in marks) before → Runs (system_of task) s before m → Runs (system_of task) m (a ∷ later) t
+  at_needs : (a : ℕ) (before later : List ℕ) (m t : List ℕ) → HasNeeds task values a marks
+      → NoneIn (is_in marks) before → Runs (system_of task) s before m → Runs (system_of task) m (a ∷ later) t
       → AppliesIn (system_of task) a s × AllByRecursion (Commute (system_of task) a) before
   at_needs a before later m t needs none runs rest = go (slice_get task.operators a) refl needs
     where
       go : (o : Option Operator) → slice_get task.operators a ≡ o
-          → IsSomeAnd o (λ operator. (AppliesBy values operator × HasConflicts task a marks) ⊎ ((fact : Fact) × IsMissing values operator fact × StaysFalse task values marks fact))
+          → IsSomeAnd o (λ operator. (AppliesBy values operator × HasConflicts task a marks)
+          ⊎ ((fact : Fact) × IsMissing values operator fact × StaysFalse task values marks fact))
           → AppliesIn (system_of task) a s × AllByRecursion (Commute (system_of task) a) before
       go None is h = absurd h
       go (Some operator) is h = first_needs a operator before later m t is h none runs rest
 
   -- begun with what a goal fact that doesn't hold waits for
-  pub stubborn_law : (fact : Fact) → IsUnmet values task.goal fact → StaysFalse task values marks fact → HaveNeeds task values marks marks → Stubborn (system_of task) (is_in marks) s
+  pub stubborn_law : (fact : Fact) → IsUnmet values task.goal fact → StaysFalse task values marks fact
+      → HaveNeeds task values marks marks → Stubborn (system_of task) (is_in marks) s
   stubborn_law fact unmet stays needs = record { first = λ a p t runs goal. by a p t runs goal (split (is_in marks) (a ∷ p)) }
     where
       within : InRange task.variables fact
       within = All-contains (InRange task.variables) task.goal fact fits.goal.1 unmet.0
 
-      by : (a : ℕ) (p : List ℕ) (t : List ℕ) → Runs (system_of task) s (a ∷ p) t → IsTrue ((system_of task).goal t) → NoneIn (is_in marks) (a ∷ p) ⊎ Split (is_in marks) (a ∷ p) → FirstOf (system_of task) (is_in marks) s (a ∷ p)
+      by : (a : ℕ) (p : List ℕ) (t : List ℕ) → Runs (system_of task) s (a ∷ p) t → IsTrue ((system_of task).goal t)
+          → NoneIn (is_in marks) (a ∷ p) ⊎ Split (is_in marks) (a ∷ p)
+          → FirstOf (system_of task) (is_in marks) s (a ∷ p)
       by a p t runs goal (inl none) =
           let holds = All-contains (Holds task t) task.goal fact ((goal_law task t fits).0 goal) unmet.0 in
           absurd (false_after fact (a ∷ p) t within unmet.1 stays runs none holds)
@@ -147,10 +169,20 @@ module _ (task : TaskParts) (s values : List ℕ) (marks : List Bool) (fits : Fi
 -- all operators
 pub all_stubborn : (task : TaskParts) (s : List ℕ) (set : ℕ → Bool) → ((a : ℕ) → a < length task.operators → IsTrue (set a)) → Stubborn (system_of task) set s
 all_stubborn task s set all = record {
-  first = λ a p t runs goal. record { before = []; first = a; later = p; here = refl; inside = all a runs.1.number; none = tt; applies = (runs.0, runs.1); commutes = tt };
+  first = λ a p t runs goal. record {
+    before = [];
+    first = a;
+    later = p;
+    here = refl;
+    inside = all a runs.1.number;
+    none = tt;
+    applies = (runs.0, runs.1);
+    commutes = tt;
+  };
 }
 
 -- by the slices that the code looked at
-pub unmet_goal : (task parts : TaskParts) (values read : List ℕ) (facts : List Fact) (fact : Fact) → parts ≡ task → facts ≡ parts.goal → read ≡ values → IsUnmet read facts fact → IsUnmet values task.goal fact
+pub unmet_goal : (task parts : TaskParts) (values read : List ℕ) (facts : List Fact) (fact : Fact) → parts ≡ task
+    → facts ≡ parts.goal → read ≡ values → IsUnmet read facts fact → IsUnmet values task.goal fact
 unmet_goal task parts values read facts fact same list is h =
     subst (λ (z : List ℕ). IsUnmet z task.goal fact) is (subst (λ (z : List Fact). IsUnmet read z fact) (list ∙ ap (λ (z : TaskParts). z.goal) same) h)

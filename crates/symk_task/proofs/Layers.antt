@@ -14,7 +14,8 @@ at_some P Q (Some x) f h k = f x h k
 
 -- a base variable is not derived
 pub base_derived : (task : TaskParts) (var layer : ℕ) → IsBase task var → HasLayer task var layer → ⊥
-base_derived task var layer h k = at_some (λ v. v.layer ≡ None) (λ v. v.layer ≡ Some layer) (slice_get task.variables var) (λ v a b. let e : None ≡ Some layer = sym a ∙ b in cc) h k
+base_derived task var layer h k = at_some (λ v. v.layer ≡ None) (λ v. v.layer ≡ Some layer)
+    (slice_get task.variables var) (λ v a b. let e : None ≡ Some layer = sym a ∙ b in cc) h k
 
 one : {X : Type 0} (P Q : X → Type 0) (R : Type 0) (o : Option X) → ((x : X) → P x → Q x → R) → IsSomeAnd o P → IsSomeAnd o Q → R
 one P Q R None f h k = absurd h
@@ -22,7 +23,8 @@ one P Q R (Some x) f h k = f x h k
 
 -- a derived variable has one layer
 pub one_layer : (task : TaskParts) (var a b : ℕ) → HasLayer task var a → HasLayer task var b → a ≡ b
-one_layer task var a b h k = one (λ v. v.layer ≡ Some a) (λ v. v.layer ≡ Some b) (a ≡ b) (slice_get task.variables var) (λ v x y. let e : Some a ≡ Some b = sym x ∙ y in cc) h k
+one_layer task var a b h k = one (λ v. v.layer ≡ Some a) (λ v. v.layer ≡ Some b) (a ≡ b)
+    (slice_get task.variables var) (λ v x y. let e : Some a ≡ Some b = sym x ∙ y in cc) h k
 
 -- a derived variable has two values
 pub record Two (task : TaskParts) (var layer : ℕ) : Type 0 where
@@ -44,7 +46,8 @@ two_values task var layer fits h = go (slice_get task.variables var) refl h
         let lt = slice_get_within task.variables var v e in
         let fit = subst FitsVariable (get_or_from_slice_get task.variables var v v e) (fits.each_variable var v lt) in
         let r : range v ≡ 2 = if_at (λ _. range v ≡ 2) v.layer layer h fit.range.derived in
-        let i : get_or task.initial var 0 < range v = if_at (λ v. get_or task.initial var 0 < range v) (slice_get task.variables var) v e (fits.each_value var) in
+        let i : get_or task.initial var 0 < range v = if_at (λ v. get_or task.initial var 0 < range v)
+        (slice_get task.variables var) v e (fits.each_value var) in
         record { v = v; is = e; range = r; initial = omega (arith, i, r); within = lt }
 
 -- the value of a fact on a derived variable is one of the two
@@ -62,14 +65,16 @@ which task fact within = go (slice_get task.variables fact.var) within
     by_layer None = inl refl
     by_layer (Some layer) = inr (layer, refl)
 
-    go : (o : Option Variable) → IsSomeAnd o (λ v. fact.val < range v) → IsSomeAnd o (λ v. v.layer ≡ None) ⊎ ((layer : ℕ) × IsSomeAnd o (λ v. v.layer ≡ Some layer))
+    go : (o : Option Variable) → IsSomeAnd o (λ v. fact.val < range v) → IsSomeAnd o (λ v. v.layer ≡ None)
+        ⊎ ((layer : ℕ) × IsSomeAnd o (λ v. v.layer ≡ Some layer))
     go None h = absurd h
     go (Some v) h = by_layer v.layer
 
 -- raised variables of lower layers stay what they were
 
 -- a layer raises its own variables alone
-pub down : (task : TaskParts) (s : List ℕ) (layer var at : ℕ) → HasLayer task var at → at < layer → RaisedBelow (suc layer) task s var → RaisedBelow layer task s var
+pub down : (task : TaskParts) (s : List ℕ) (layer var at : ℕ) → HasLayer task var at → at < layer
+    → RaisedBelow (suc layer) task s var → RaisedBelow layer task s var
 unfolding RaisedBelow
 down task s layer var at h lt (inl k) =
     let on : HasLayer task var layer = subst (λ (z : ℕ). HasLayer task z layer) k.2 k.3.1 in
@@ -83,11 +88,16 @@ up task s layer var h = inr h
 
 pub below_up : (task : TaskParts) (s : List ℕ) (n layer var : ℕ) → RaisedBelow layer task s var → RaisedBelow (n + layer) task s var
 below_up task s zero layer var h = subst (λ (z : ℕ). RaisedBelow z task s var) (let e : layer ≡ 0 + layer = omega arith in e) h
-below_up task s (suc n) layer var h = subst (λ (z : ℕ). RaisedBelow z task s var) (let e : suc (n + layer) ≡ suc n + layer = omega arith in e) (up task s (n + layer) var (below_up task s n layer var h))
+below_up task s (suc n) layer var h = subst (λ (z : ℕ). RaisedBelow z task s var)
+    (let e : suc (n + layer) ≡ suc n + layer = omega arith in e)
+    (up task s (n + layer) var (below_up task s n layer var h))
 
-pub below_down : (task : TaskParts) (s : List ℕ) (n layer var at : ℕ) → HasLayer task var at → at < layer → RaisedBelow (n + layer) task s var → RaisedBelow layer task s var
+pub below_down : (task : TaskParts) (s : List ℕ) (n layer var at : ℕ) → HasLayer task var at → at < layer
+    → RaisedBelow (n + layer) task s var → RaisedBelow layer task s var
 below_down task s zero layer var at l lt h = subst (λ (z : ℕ). RaisedBelow z task s var) (let e : 0 + layer ≡ layer = omega arith in e) h
-below_down task s (suc n) layer var at l lt h = below_down task s n layer var at l lt (down task s (n + layer) var at l (omega arith) (subst (λ (z : ℕ). RaisedBelow z task s var) (let e : suc n + layer ≡ suc (n + layer) = omega arith in e) h))
+below_down task s (suc n) layer var at l lt h = below_down task s n layer var at l lt
+    (down task s (n + layer) var at l (omega arith) (subst (λ (z : ℕ). RaisedBelow z task s var)
+    (let e : suc n + layer ≡ suc (n + layer) = omega arith in e) h))
 
 -- a raised variable has a layer
 pub raised_layer : (layer : ℕ) (task : TaskParts) (s : List ℕ) (var : ℕ) → RaisedBelow layer task s var → (at : ℕ) × HasLayer task var at × (at < layer)
@@ -99,8 +109,15 @@ raised_layer (suc layer) task s var (inr k) = (let r = raised_layer layer task s
 -- what the layers below a number raise is what is raised, once the variable's layer is below it
 pub raised_by : (task : TaskParts) (s : List ℕ) (n var layer : ℕ) → HasLayer task var layer → layer < n → RaisedBelow n task s var ↔ Raised task s var
 raised_by task s n var layer on lt = (
-  (λ h. (layer, on, below_down task s (n - (layer + 1)) (layer + 1) var layer on (omega arith) (subst (λ (z : ℕ). RaisedBelow z task s var) (let e : n ≡ (n - (layer + 1)) + (layer + 1) = omega (arith, lt) in e) h))),
+  (λ h. (
+    layer,
+    on,
+    below_down task s (n - (layer + 1)) (layer + 1) var layer on (omega arith)
+        (subst (λ (z : ℕ). RaisedBelow z task s var) (let e : n ≡ (n - (layer + 1)) + (layer + 1) = omega
+        (arith, lt) in e) h),
+  )),
   (λ h.
       let e = one_layer task var layer h.0 on h.1 in
-      subst (λ (z : ℕ). RaisedBelow z task s var) (let k : (n - (h.0 + 1)) + (h.0 + 1) ≡ n = omega (arith, lt, e) in k) (below_up task s (n - (h.0 + 1)) (h.0 + 1) var h.2)),
+      subst (λ (z : ℕ). RaisedBelow z task s var) (let k : (n - (h.0 + 1)) + (h.0 + 1) ≡ n = omega
+      (arith, lt, e) in k) (below_up task s (n - (h.0 + 1)) (h.0 + 1) var h.2)),
 )

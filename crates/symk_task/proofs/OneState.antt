@@ -11,7 +11,9 @@ none_at : (F : Effect → Type 0) (var : ℕ) (before later : List Effect) (e : 
 none_at F var [] later e h on f = h.0 on f
 none_at F var (x ∷ before) later e h on f = none_at F var before later e h.1 on f
 
-last_one : (F : Effect → Type 0) (var : ℕ) (b1 r1 b2 r2 : List Effect) (l1 l2 : Effect) → b1 ++ l1 ∷ r1 ≡ b2 ++ l2 ∷ r2 → l1.var ≡ var → F l1 → NoneOn F var r1 → l2.var ≡ var → F l2 → NoneOn F var r2 → l1 ≡ l2
+last_one : (F : Effect → Type 0) (var : ℕ) (b1 r1 b2 r2 : List Effect) (l1 l2 : Effect)
+    → b1 ++ l1 ∷ r1 ≡ b2 ++ l2 ∷ r2 → l1.var ≡ var → F l1 → NoneOn F var r1 → l2.var ≡ var → F l2
+    → NoneOn F var r2 → l1 ≡ l2
 last_one F var [] r1 [] r2 l1 l2 e on1 f1 n1 on2 f2 n2 = (let same : l1 ≡ l2 = cc in same)
 last_one F var [] r1 (x ∷ b2) r2 l1 l2 e on1 f1 n1 on2 f2 n2 =
     let t : r1 ≡ b2 ++ l2 ∷ r2 = cc in absurd (none_at F var b2 r2 l2 (subst (NoneOn F var) t n1) on2 f2)
@@ -23,7 +25,8 @@ last_one F var (x ∷ b1) r1 (y ∷ b2) r2 l1 l2 e on1 f1 n1 on2 f2 n2 =
 pub value_one : (F : Effect → Type 0) (es : List Effect) (var old x y : ℕ) → ValueAfter F es var old x → ValueAfter F es var old y → x ≡ y
 value_one F es var old x y (inl p) (inl q) =
     let a = p.1 in let b = q.1 in
-    p.2 ∙ ap (λ (z : Effect). z.post) (last_one F var a.before a.later b.before b.later p.0 q.0 (sym a.here ∙ b.here) a.on a.fires a.none b.on b.fires b.none) ∙ sym q.2
+    p.2 ∙ ap (λ (z : Effect). z.post) (last_one F var a.before a.later b.before b.later p.0 q.0 (sym a.here ∙ b.here)
+    a.on a.fires a.none b.on b.fires b.none) ∙ sym q.2
 value_one F es var old x y (inl p) (inr q) = (let a = p.1 in absurd (none_at F var a.before a.later p.0 (subst (NoneOn F var) a.here q.0) a.on a.fires))
 value_one F es var old x y (inr p) (inl q) = (let a = q.1 in absurd (none_at F var a.before a.later q.0 (subst (NoneOn F var) a.here p.0) a.on a.fires))
 value_one F es var old x y (inr p) (inr q) = p.1 ∙ sym q.1
@@ -36,6 +39,8 @@ one_state task s x y a state p q =
     Says : List ℕ → Operator → Type 0
     Says t operator = (var : ℕ) → IsBase task var → ValueAfter (Fires task s) operator.effects var (get_or s (place task var) 0) (get_or t (place task var) 0)
 
-    same_at : (o : Option Operator) (var : ℕ) → IsBase task var → IsSomeAnd o (Says x) → IsSomeAnd o (Says y) → get_or x (place task var) 0 ≡ get_or y (place task var) 0
+    same_at : (o : Option Operator) (var : ℕ) → IsBase task var → IsSomeAnd o (Says x) → IsSomeAnd o (Says y)
+        → get_or x (place task var) 0 ≡ get_or y (place task var) 0
     same_at None var base h k = absurd h
-    same_at (Some operator) var base h k = value_one (Fires task s) operator.effects var (get_or s (place task var) 0) (get_or x (place task var) 0) (get_or y (place task var) 0) (h var base) (k var base)
+    same_at (Some operator) var base h k = value_one (Fires task s) operator.effects var (get_or s (place task var) 0)
+        (get_or x (place task var) 0) (get_or y (place task var) 0) (h var base) (k var base)

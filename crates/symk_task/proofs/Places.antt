@@ -23,10 +23,12 @@ none_is : (o : Option ℕ) → is_none o ≡ true → o ≡ None
 none_is None e = refl
 none_is (Some x) e = cc
 
-count : (v : Variable) (variables : List Variable) (b : Bool) → is_base v ≡ b → (var : ℕ) → count_by is_base (v ∷ take var variables) ≡ cond b 1 0 + count_by is_base (take var variables)
+count : (v : Variable) (variables : List Variable) (b : Bool) → is_base v ≡ b → (var : ℕ)
+    → count_by is_base (v ∷ take var variables) ≡ cond b 1 0 + count_by is_base (take var variables)
 count v variables b t var = rw (sum_by-cons (λ (y : Variable). cond (is_base y) 1 0) v (take var variables), t) refl
 
-first : (v : Variable) (variables : List Variable) → ((k : ℕ) → k < count_by is_base variables → At variables k) → (b : Bool) → is_base v ≡ b → (k : ℕ) → k < cond b 1 0 + count_by is_base variables → At (v ∷ variables) k
+first : (v : Variable) (variables : List Variable) → ((k : ℕ) → k < count_by is_base variables → At variables k)
+    → (b : Bool) → is_base v ≡ b → (k : ℕ) → k < cond b 1 0 + count_by is_base variables → At (v ∷ variables) k
 first v variables ih true t zero lt = record { var = 0; base = none_is v.layer t; here = refl }
 first v variables ih true t (suc k) lt =
     let a = ih k (omega arith) in
@@ -37,7 +39,8 @@ first v variables ih false t k lt =
 
 base_at : (variables : List Variable) (k : ℕ) → k < count_by is_base variables → At variables k
 base_at [] k lt = absurd (omega arith)
-base_at (v ∷ variables) k lt = first v variables (base_at variables) (is_base v) refl k (subst (λ z. k < z) (sum_by-cons (λ (y : Variable). cond (is_base y) 1 0) v variables) lt)
+base_at (v ∷ variables) k lt = first v variables (base_at variables) (is_base v) refl k
+    (subst (λ z. k < z) (sum_by-cons (λ (y : Variable). cond (is_base y) 1 0) v variables) lt)
 
 same_lists : (x y : List ℕ) → length x ≡ length y → ((k : ℕ) → k < length x → get_or x k 0 ≡ get_or y k 0) → x ≡ y
 same_lists [] [] e h = refl
@@ -59,7 +62,8 @@ same_states task x y full far h =
 
 -- The values of the base variables among all values.
 
-pub base_length : (variables : List Variable) (values : List ℕ) → length values ≡ length variables → length (base_values variables values) ≡ count_by is_base variables
+pub base_length : (variables : List Variable) (values : List ℕ) → length values ≡ length variables
+    → length (base_values variables values) ≡ count_by is_base variables
 base_length [] values e = refl
 base_length (v ∷ variables) [] e = (let z : 0 ≡ suc (length variables) = e in absurd (omega arith))
 base_length (v ∷ variables) (x ∷ values) e =
@@ -68,7 +72,9 @@ base_length (v ∷ variables) (x ∷ values) e =
     let s = sum_by-cons (λ (y : Variable). cond (is_base y) 1 0) v variables in
     later (is_base v) refl ih
   where
-    later : (b : Bool) → is_base v ≡ b → length (base_values variables values) ≡ count_by is_base variables → length (cond b (x ∷ base_values variables values) (base_values variables values)) ≡ count_by is_base (v ∷ variables)
+    later : (b : Bool) → is_base v ≡ b → length (base_values variables values) ≡ count_by is_base variables
+        → length (cond b (x ∷ base_values variables values) (base_values variables values)) ≡ count_by
+        is_base (v ∷ variables)
     later true t ih = rw (sum_by-cons (λ (y : Variable). cond (is_base y) 1 0) v variables, t) (omega (arith, ih))
     later false t ih = rw (sum_by-cons (λ (y : Variable). cond (is_base y) 1 0) v variables, t) (omega (arith, ih))
 
@@ -82,7 +88,9 @@ base_by None false e = cc
 base_by (Some x) true e = cc
 base_by (Some x) false e = refl
 
-pub value_at : (variables : List Variable) (values : List ℕ) (var : ℕ) → length values ≡ length variables → IsSomeAnd (slice_get variables var) (λ v. v.layer ≡ None) → get_or (base_values variables values) (count_by is_base (take var variables)) 0 ≡ get_or values var 0
+pub value_at : (variables : List Variable) (values : List ℕ) (var : ℕ) → length values ≡ length variables
+    → IsSomeAnd (slice_get variables var) (λ v. v.layer ≡ None)
+    → get_or (base_values variables values) (count_by is_base (take var variables)) 0 ≡ get_or values var 0
 value_at [] values var e h = absurd h
 value_at (v ∷ variables) [] var e h = (let z : 0 ≡ suc (length variables) = e in absurd (omega arith))
 value_at (v ∷ variables) (x ∷ values) zero e h = (let b : is_none v.layer ≡ true = none_true v.layer h in rw b refl)
@@ -91,23 +99,36 @@ value_at (v ∷ variables) (x ∷ values) (suc var) e h =
     let ih = value_at variables values var (omega arith) h in
     later (is_base v) refl ih
   where
-    later : (b : Bool) → is_base v ≡ b → get_or (base_values variables values) (count_by is_base (take var variables)) 0 ≡ get_or values var 0 → get_or (cond b (x ∷ base_values variables values) (base_values variables values)) (count_by is_base (v ∷ take var variables)) 0 ≡ get_or values var 0
+    later : (b : Bool) → is_base v ≡ b → get_or (base_values variables values) (count_by is_base (take var variables))
+        0 ≡ get_or values var 0 → get_or (cond b (x ∷ base_values variables values) (base_values variables values))
+        (count_by is_base (v ∷ take var variables)) 0 ≡ get_or values var 0
     later true t ih =
-        let n : count_by is_base (v ∷ take var variables) ≡ suc (count_by is_base (take var variables)) = (rw (sum_by-cons (λ (y : Variable). cond (is_base y) 1 0) v (take var variables), t) (omega arith)) in
+        let n : count_by is_base (v ∷ take var variables) ≡ suc (count_by is_base (take var variables)) =
+        (rw (sum_by-cons (λ (y : Variable). cond (is_base y) 1 0) v (take var variables), t) (omega arith)) in
         rw n ih
     later false t ih =
-        let n : count_by is_base (v ∷ take var variables) ≡ count_by is_base (take var variables) = (rw (sum_by-cons (λ (y : Variable). cond (is_base y) 1 0) v (take var variables), t) (omega arith)) in
+        let n : count_by is_base (v ∷ take var variables) ≡ count_by is_base (take var variables) =
+        (rw (sum_by-cons (λ (y : Variable). cond (is_base y) 1 0) v (take var variables), t) (omega arith)) in
         rw n ih
 
 -- the next variable, and its value if it is a base variable
-pub base_more : (variables : List Variable) (values : List ℕ) (i : ℕ) (v : Variable) (base : List ℕ) (total : List ℕ) → i < length variables → length values ≡ length variables → v ≡ get_or variables i v
-    → base ++ base_values (drop i variables) (drop i values) ≡ total → cond (is_base v) (base ++ get_or values i 0 ∷ []) base ++ base_values (drop (i + 1) variables) (drop (i + 1) values) ≡ total
+pub base_more : (variables : List Variable) (values : List ℕ) (i : ℕ) (v : Variable) (base : List ℕ) (total : List ℕ)
+    → i < length variables → length values ≡ length variables → v ≡ get_or variables i v
+    → base ++ base_values (drop i variables) (drop i values) ≡ total
+    → cond (is_base v) (base ++ get_or values i 0 ∷ []) base ++ base_values (drop (i + 1) variables)
+    (drop (i + 1) values) ≡ total
 base_more variables values i v base total within same is h =
     let inner : i < length values = omega arith in
     let e1 : drop i variables ≡ v ∷ drop (i + 1) variables = drop-cons variables i v within ∙ rw (← is) (ap (λ z. v ∷ drop z variables) (sym (add-one i))) in
-    let e2 : drop i values ≡ get_or values i 0 ∷ drop (i + 1) values = drop-cons values i 0 inner ∙ ap (λ z. get_or values i 0 ∷ drop z values) (sym (add-one i)) in
-    go (is_base v) refl (sym (ap (λ (z : List Variable). base ++ base_values z (drop i values)) e1 ∙ ap (λ (z : List ℕ). base ++ base_values (v ∷ drop (i + 1) variables) z) e2) ∙ h)
+    let e2 : drop i values ≡ get_or values i 0 ∷ drop (i + 1) values = drop-cons values i 0 inner
+    ∙ ap (λ z. get_or values i 0 ∷ drop z values) (sym (add-one i)) in
+    go (is_base v) refl (sym (ap (λ (z : List Variable). base ++ base_values z (drop i values)) e1
+    ∙ ap (λ (z : List ℕ). base ++ base_values (v ∷ drop (i + 1) variables) z) e2) ∙ h)
   where
-    go : (b : Bool) → is_base v ≡ b → base ++ cond (is_base v) (get_or values i 0 ∷ base_values (drop (i + 1) variables) (drop (i + 1) values)) (base_values (drop (i + 1) variables) (drop (i + 1) values)) ≡ total → cond b (base ++ get_or values i 0 ∷ []) base ++ base_values (drop (i + 1) variables) (drop (i + 1) values) ≡ total
+    go : (b : Bool) → is_base v ≡ b → base ++ cond (is_base v)
+        (get_or values i 0 ∷ base_values (drop (i + 1) variables) (drop (i + 1) values))
+        (base_values (drop (i + 1) variables) (drop (i + 1) values)) ≡ total
+        → cond b (base ++ get_or values i 0 ∷ []) base ++ base_values (drop (i + 1) variables)
+        (drop (i + 1) values) ≡ total
     go true t k = append_assoc base (get_or values i 0 ∷ []) (base_values (drop (i + 1) variables) (drop (i + 1) values)) ∙ (rw t at k)
     go false t k = rw t at k

@@ -64,7 +64,8 @@ moved : (a : ℕ) (p r : List ℕ) → IsPermutation p r → count a r ≡ count
 moved a p r h = sum_by-IsPermutation (λ b. cond (eqb a b) 1 0) p r h
 
 -- two lists hold each number equally often exactly where they are one list once sorted
-pub sorted_same : (p q r s : List ℕ) → IsPermutation p r → IsPermutation q s → IsNonDecreasing r → IsNonDecreasing s → (r ≡ s) ↔ ((a : ℕ) → count_by (λ b. eqb a b) p ≡ count_by (λ b. eqb a b) q)
+pub sorted_same : (p q r s : List ℕ) → IsPermutation p r → IsPermutation q s → IsNonDecreasing r → IsNonDecreasing s
+    → (r ≡ s) ↔ ((a : ℕ) → count_by (λ b. eqb a b) p ≡ count_by (λ b. eqb a b) q)
 sorted_same p q r s left right up vp = (
   (λ e a. sym (moved a p r left) ∙ ap (count a) e ∙ moved a q s right),
   (λ h. one_rising r s (rising_from r up) (rising_from s vp) (λ a. moved a p r left ∙ h a ∙ sym (moved a q s right))),

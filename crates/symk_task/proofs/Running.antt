@@ -14,15 +14,19 @@ use Rattle.symk_task.specs.Fits.{FitsEffect, FitsOperator, Fits}
 use Rattle.symk_task.proofs.OneState.{one_state}
 
 -- the operator of a number fits
-pub fits_operator : (task : TaskParts) (a : ℕ) (operator : Operator) → Fits task → slice_get task.operators a ≡ Some operator → FitsOperator task.variables operator
+pub fits_operator : (task : TaskParts) (a : ℕ) (operator : Operator) → Fits task
+    → slice_get task.operators a ≡ Some operator → FitsOperator task.variables operator
 fits_operator task a operator fits is =
-    subst (FitsOperator task.variables) (get_or_from_slice_get task.operators a operator operator is) (fits.each_operator a operator (slice_get_within task.operators a operator is))
+    subst (FitsOperator task.variables) (get_or_from_slice_get task.operators a operator operator is)
+    (fits.each_operator a operator (slice_get_within task.operators a operator is))
 
 all_parts : {X : Type 0} (P : X → Type 0) (xs : List X) (x : X) (ys : List X) → AllByRecursion P (xs ++ x ∷ ys) → P x
 all_parts P [] x ys h = h.0
 all_parts P (y ∷ xs) x ys h = all_parts P xs x ys h.1
 
-new_in_range : (F : Effect → Type 0) (variables : List Variable) (effects : List Effect) (var old new : ℕ) (v : Variable) → AllByRecursion (FitsEffect variables) effects → slice_get variables var ≡ Some v → old < range v → ValueAfter F effects var old new → new < range v
+new_in_range : (F : Effect → Type 0) (variables : List Variable) (effects : List Effect) (var old new : ℕ)
+    (v : Variable) → AllByRecursion (FitsEffect variables) effects → slice_get variables var ≡ Some v
+    → old < range v → ValueAfter F effects var old new → new < range v
 new_in_range F variables effects var old new v fit is lt (inl h) =
     let l = h.1 in
     let f = all_parts (FitsEffect variables) l.before h.0 l.later (subst (AllByRecursion (FitsEffect variables)) l.here fit) in
@@ -35,11 +39,16 @@ new_in_range F variables effects var old new v fit is lt (inr h) = omega (arith,
 pub step_state : (task : TaskParts) (s : List ℕ) (a : ℕ) (t : List ℕ) → Fits task → IsState task s → Step task s a t → IsState task t
 step_state task s a t fits state h = go (slice_get task.operators a) refl h.1.values
   where
-    go : (o : Option Operator) → slice_get task.operators a ≡ o → IsSomeAnd o (λ operator. (var : ℕ) → IsBase task var → ValueAfter (Fires task s) operator.effects var (get_or s (place task var) 0) (get_or t (place task var) 0)) → IsState task t
+    go : (o : Option Operator) → slice_get task.operators a ≡ o
+        → IsSomeAnd o (λ operator. (var : ℕ) → IsBase task var
+        → ValueAfter (Fires task s) operator.effects var (get_or s (place task var) 0)
+        (get_or t (place task var) 0)) → IsState task t
     go None e k = absurd k
     go (Some operator) e k = record { each = h.1.each ∙ state.each; in_range = λ var. at var (slice_get task.variables var) refl (state.in_range var) }
       where
-        at : (var : ℕ) (o : Option Variable) → slice_get task.variables var ≡ o → IfSome o (λ v. v.layer ≡ None → get_or s (place task var) 0 < range v) → IfSome o (λ v. v.layer ≡ None → get_or t (place task var) 0 < range v)
+        at : (var : ℕ) (o : Option Variable) → slice_get task.variables var ≡ o
+            → IfSome o (λ v. v.layer ≡ None → get_or s (place task var) 0 < range v)
+            → IfSome o (λ v. v.layer ≡ None → get_or t (place task var) 0 < range v)
         at var None is old = old
         at var (Some v) is old = (λ base.
             let b : IsBase task var = subst (λ (z : Option Variable). IsSomeAnd z (λ v. v.layer ≡ None)) (sym is) base in
@@ -67,7 +76,8 @@ unfolding Trace
 one_trace task [] s xs ys fits state h k = h ∙ sym k
 one_trace task (a ∷ p) s xs ys fits state (m, rest, first, is, h) (n, others, second, from, k) =
     let same : m ≡ n = one_state task s m n a state first.1 second.1 in
-    let tails : rest ≡ others = one_trace task p m rest others fits (step_state task s a m fits state first) h (subst (λ (z : List ℕ). Trace task z p others) (sym same) k) in
+    let tails : rest ≡ others = one_trace task p m rest others fits (step_state task s a m fits state first) h
+    (subst (λ (z : List ℕ). Trace task z p others) (sym same) k) in
     is ∙ ap (λ (z : List (List ℕ)). s ∷ z) tails ∙ sym from
 
 -- a run has a trace

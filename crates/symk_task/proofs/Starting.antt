@@ -17,11 +17,15 @@ start_law task fits = record {
   values = λ var base. value_at task.variables task.initial var fits.initial base;
 }
   where
-    at : (var : ℕ) (o : Option Variable) → slice_get task.variables var ≡ o → IfSome o (λ v. get_or task.initial var 0 < range v) → IfSome o (λ v. v.layer ≡ None → get_or (base_values task.variables task.initial) (place task var) 0 < range v)
+    at : (var : ℕ) (o : Option Variable) → slice_get task.variables var ≡ o
+        → IfSome o (λ v. get_or task.initial var 0 < range v)
+        → IfSome o (λ v. v.layer ≡ None → get_or (base_values task.variables task.initial) (place task var) 0
+        < range v)
     at var None e h = h
     at var (Some v) e h = (λ base.
         let b : IsBase task var = subst (λ (z : Option Variable). IsSomeAnd z (λ v. v.layer ≡ None)) (sym e) base in
-        let k : get_or (base_values task.variables task.initial) (place task var) 0 ≡ get_or task.initial var 0 = value_at task.variables task.initial var fits.initial b in
+        let k : get_or (base_values task.variables task.initial) (place task var) 0 ≡ get_or task.initial var 0 =
+        value_at task.variables task.initial var fits.initial b in
         omega (arith, h, k))
 
 -- two initial states are one

@@ -35,7 +35,9 @@ unfolding doublings
 fewest zero b c n h = omega arith
 fewest (suc most) b c n h = go (leb n (2 ^ b)) refl c h (λ d k. fewest most (suc b) d n k)
   where
-    go : (t : Bool) → leb n (2 ^ b) ≡ t → (c : ℕ) → n ≤ 2 ^ (b + c) → ((d : ℕ) → n ≤ 2 ^ (suc b + d) → doublings most (2 ^ suc b) n ≤ d) → cond t 0 (doublings most (2 * 2 ^ b) n + 1) ≤ c
+    go : (t : Bool) → leb n (2 ^ b) ≡ t → (c : ℕ) → n ≤ 2 ^ (b + c)
+        → ((d : ℕ) → n ≤ 2 ^ (suc b + d) → doublings most (2 ^ suc b) n ≤ d)
+        → cond t 0 (doublings most (2 * 2 ^ b) n + 1) ≤ c
     go true is c h ih = omega arith
     go false is zero h ih = (let above = leb-false n (2 ^ b) is in let low = at_power n (b + 0) b (omega arith) h in absurd (omega (arith, above, low)))
     go false is (suc c) h ih =

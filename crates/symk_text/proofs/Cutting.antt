@@ -22,13 +22,16 @@ more_pieces piece (p ∷ ps) h = refl
 passes_not : (b : ℕ) → (b ≡ 10 → ⊥) → is_feed b ≡ false
 passes_not b h = grind (arith, nat_tests)
 
-no_feed_in : (bytes : List ℕ) (from at : ℕ) → from ≤ at → at ≤ length bytes → NoFeed bytes from at → All (λ b. is_feed b ≡ false) (take (at - from) (drop from bytes))
+no_feed_in : (bytes : List ℕ) (from at : ℕ) → from ≤ at → at ≤ length bytes → NoFeed bytes from at
+    → All (λ b. is_feed b ≡ false) (take (at - from) (drop from bytes))
 no_feed_in bytes from at le within none =
     All-from_get_or (λ b. is_feed b ≡ false) (take (at - from) (drop from bytes)) 0 (λ i lt.
     let short : i < at - from = omega (arith, length-take (at - from) (drop from bytes), lt) in
-    rw (get_or-take (at - from) (drop from bytes) i 0 short, get_or-drop from bytes i 0) (passes_not (get_or bytes (from + i) 0) (none (from + i) (omega arith) (omega arith))))
+    rw (get_or-take (at - from) (drop from bytes) i 0 short, get_or-drop from bytes i 0)
+    (passes_not (get_or bytes (from + i) 0) (none (from + i) (omega arith) (omega arith))))
 
-cut : (bytes : List ℕ) (from at : ℕ) → from ≤ at → at < length bytes → get_or bytes at 0 ≡ 10 → drop from bytes ≡ take (at - from) (drop from bytes) ++ 10 ∷ drop (at + 1) bytes
+cut : (bytes : List ℕ) (from at : ℕ) → from ≤ at → at < length bytes → get_or bytes at 0 ≡ 10
+    → drop from bytes ≡ take (at - from) (drop from bytes) ++ 10 ∷ drop (at + 1) bytes
 cut bytes from at le lt feed =
     let here : drop at bytes ≡ 10 ∷ drop (at + 1) bytes = drop_more bytes at 0 lt ∙ ap (λ (b : ℕ). b ∷ drop (at + 1) bytes) feed in
     let sum : from + (at - from) ≡ at = omega arith in
@@ -50,11 +53,14 @@ one_piece : (last : List ℕ) → 1 ≤ length last → lines_of_pieces (last �
 one_piece last h = (let t : eqb (length last) 0 ≡ false = grind (arith, nat_tests) in rw t refl)
 
 -- what stands after the last LF
-pub last_line : (bytes : List ℕ) (from : ℕ) → from < length bytes → NoFeed bytes from (length bytes) → lines (drop from bytes) ≡ without_return (drop from bytes) ∷ []
+pub last_line : (bytes : List ℕ) (from : ℕ) → from < length bytes → NoFeed bytes from (length bytes)
+    → lines (drop from bytes) ≡ without_return (drop from bytes) ∷ []
 unfolding lines
 last_line bytes from lt none =
     let whole : take (length bytes - from) (drop from bytes) ≡ drop from bytes = take_rest bytes from in
-    ap lines_of_pieces (slice_split_none is_feed (drop from bytes) (subst (All (λ b. is_feed b ≡ false)) whole (no_feed_in bytes from (length bytes) (omega arith) (omega arith) none)))
+    ap lines_of_pieces (slice_split_none is_feed (drop from bytes)
+    (subst (All (λ b. is_feed b ≡ false)) whole (no_feed_in bytes from (length bytes) (omega arith)
+    (omega arith) none)))
     ∙ one_piece (drop from bytes) (omega (arith, length-drop from bytes))
 
 pub no_lines : (bytes : List ℕ) (from : ℕ) → length (drop from bytes) ≡ 0 → lines (drop from bytes) ≡ []
@@ -73,7 +79,9 @@ pieces_have_none : (bytes : List ℕ) → AllByRecursion HasNone (slice_split is
 pieces_have_none [] = (All-nil (λ c. is_feed c ≡ false), tt)
 pieces_have_none (b ∷ bytes) = by_test (is_feed b) refl (pieces_have_none bytes)
   where
-    by_test : (t : Bool) → is_feed b ≡ t → AllByRecursion HasNone (slice_split is_feed bytes) → AllByRecursion HasNone (cond t ([] ∷ slice_split is_feed bytes) (onto_first b (slice_split is_feed bytes)))
+    by_test : (t : Bool) → is_feed b ≡ t → AllByRecursion HasNone (slice_split is_feed bytes)
+        → AllByRecursion HasNone (cond t ([] ∷ slice_split is_feed bytes)
+        (onto_first b (slice_split is_feed bytes)))
     by_test true e h = (All-nil (λ c. is_feed c ≡ false), h)
     by_test false e h = no_feed_added b (slice_split is_feed bytes) e h
 
@@ -98,16 +106,21 @@ lines_have_none (piece ∷ next ∷ pieces) h = (is_line (without_return piece) 
 
 pub lines_are_lines : (bytes : List ℕ) → All IsLine (lines bytes)
 unfolding lines
-lines_are_lines bytes = All-from_recursion IsLine (lines_of_pieces (slice_split is_feed bytes)) (lines_have_none (slice_split is_feed bytes) (pieces_have_none bytes))
+lines_are_lines bytes = All-from_recursion IsLine (lines_of_pieces (slice_split is_feed bytes))
+    (lines_have_none (slice_split is_feed bytes) (pieces_have_none bytes))
 
 -- one byte more of the loop: an LF ends a line
-pub one_line_more : (bytes : List ℕ) (items : List (List ℕ)) (from at : ℕ) → from ≤ at → at < length bytes → get_or bytes at 0 ≡ 10 → NoFeed bytes from at → items ++ lines (drop from bytes) ≡ lines bytes
+pub one_line_more : (bytes : List ℕ) (items : List (List ℕ)) (from at : ℕ) → from ≤ at → at < length bytes
+    → get_or bytes at 0 ≡ 10 → NoFeed bytes from at → items ++ lines (drop from bytes) ≡ lines bytes
     → (items ++ without_return (take (at - from) (drop from bytes)) ∷ []) ++ lines (drop (at + 1) bytes) ≡ lines bytes
 one_line_more bytes items from at le lt feed none so_far =
-    append_assoc items (without_return (take (at - from) (drop from bytes)) ∷ []) (lines (drop (at + 1) bytes)) ∙ ap (λ (rest : List (List ℕ)). items ++ rest) (sym (line_at bytes from at le lt feed none)) ∙ so_far
+    append_assoc items (without_return (take (at - from) (drop from bytes)) ∷ []) (lines (drop (at + 1) bytes))
+    ∙ ap (λ (rest : List (List ℕ)). items ++ rest) (sym (line_at bytes from at le lt feed none)) ∙ so_far
 
 -- the rest after the last LF is a line
-pub with_last : (bytes : List ℕ) (items : List (List ℕ)) (from : ℕ) → (let last : List ℕ = take (length bytes - from) (drop from bytes) in eqb (length last) 0 ≡ false) → NoFeed bytes from (length bytes) → items ++ lines (drop from bytes) ≡ lines bytes
+pub with_last : (bytes : List ℕ) (items : List (List ℕ)) (from : ℕ)
+    → (let last : List ℕ = take (length bytes - from) (drop from bytes) in eqb (length last) 0 ≡ false)
+    → NoFeed bytes from (length bytes) → items ++ lines (drop from bytes) ≡ lines bytes
     → items ++ without_return (take (length bytes - from) (drop from bytes)) ∷ [] ≡ lines bytes
 with_last bytes items from some none so_far =
     let whole : take (length bytes - from) (drop from bytes) ≡ drop from bytes = take_rest bytes from in
@@ -116,7 +129,9 @@ with_last bytes items from some none so_far =
     rw whole (ap (λ (rest : List (List ℕ)). items ++ rest) (sym (last_line bytes from lt none)) ∙ so_far)
 
 -- nothing is left
-pub without_last : (bytes : List ℕ) (items : List (List ℕ)) (from : ℕ) → (let last : List ℕ = take (length bytes - from) (drop from bytes) in eqb (length last) 0 ≡ true) → items ++ lines (drop from bytes) ≡ lines bytes → items ≡ lines bytes
+pub without_last : (bytes : List ℕ) (items : List (List ℕ)) (from : ℕ)
+    → (let last : List ℕ = take (length bytes - from) (drop from bytes) in eqb (length last) 0 ≡ true)
+    → items ++ lines (drop from bytes) ≡ lines bytes → items ≡ lines bytes
 without_last bytes items from empty so_far =
     let whole : take (length bytes - from) (drop from bytes) ≡ drop from bytes = take_rest bytes from in
     let n : length (take (length bytes - from) (drop from bytes)) ≡ 0 = grind (arith, nat_tests) in
@@ -124,10 +139,12 @@ without_last bytes items from empty so_far =
     sym (append-nil items) ∙ ap (λ (rest : List (List ℕ)). items ++ rest) (sym (no_lines bytes from e)) ∙ so_far
 
 pub no_feed_more : (bytes : List ℕ) (from at : ℕ) → NoFeed bytes from at → (get_or bytes at 0 ≡ 10 → ⊥) → NoFeed bytes from (at + 1)
-no_feed_more bytes from at none here k low high feed = elim (cases_eq k at) [ inl e ↦ here (subst (λ (n : ℕ). get_or bytes n 0 ≡ 10) e feed) | inr ne ↦ none k low (omega arith) feed ]
+no_feed_more bytes from at none here k low high feed = elim (cases_eq k at)
+    [ inl e ↦ here (subst (λ (n : ℕ). get_or bytes n 0 ≡ 10) e feed) | inr ne ↦ none k low (omega arith) feed ]
 
 -- what is between two places without an LF is a line
-pub piece_is_line : (bytes : List ℕ) (from at : ℕ) → from ≤ at → at ≤ length bytes → NoFeed bytes from at → IsLine (without_return (take (at - from) (drop from bytes)))
+pub piece_is_line : (bytes : List ℕ) (from at : ℕ) → from ≤ at → at ≤ length bytes → NoFeed bytes from at
+    → IsLine (without_return (take (at - from) (drop from bytes)))
 piece_is_line bytes from at le within none =
     let piece : List ℕ = take (at - from) (drop from bytes) in
     is_line (without_return piece) (without_return_has_none piece (no_feed_in bytes from at le within none))

@@ -11,7 +11,8 @@ pub length_up_to : {X : Type 0} (f : ℕ → X) (n : ℕ) → length (up_to f n)
 length_up_to f zero = refl
 length_up_to f (suc n) = length_push (up_to f n) (f n) ∙ ap (λ k. k + 1) (length_up_to f n) ∙ add-one n
 
-get_push : {X : Type 0} (f : ℕ → X) (n i : ℕ) (d : X) → (i < n → get_or (up_to f n) i d ≡ f i) → i < n + 1 → (i < n) ⊎ (n ≤ i) → get_or (up_to f n ++ f n ∷ []) i d ≡ f i
+get_push : {X : Type 0} (f : ℕ → X) (n i : ℕ) (d : X) → (i < n → get_or (up_to f n) i d ≡ f i) → i < n + 1 → (i < n)
+    ⊎ (n ≤ i) → get_or (up_to f n ++ f n ∷ []) i d ≡ f i
 get_push f n i d below h (inl lt) =
     let within : i < length (up_to f n) = subst (λ (k : ℕ). i < k) (sym (length_up_to f n)) lt in
     get_or_append_left (up_to f n) (f n ∷ []) d i within ∙ below lt

@@ -57,7 +57,8 @@ fits_switch : (i : ℕ) → i < 64 → FitsVariable (switch i)
 unfolding goes_on
 fits_switch i lt = record {
   name = numbered (codes "s") i refl lt;
-  values = All-cons IsName (codes "off") (codes "on" ∷ []) (literal (codes "off") refl) (All-cons IsName (codes "on") [] (literal (codes "on") refl) (All-nil IsName));
+  values = All-cons IsName (codes "off") (codes "on" ∷ []) (literal (codes "off") refl)
+      (All-cons IsName (codes "on") [] (literal (codes "on") refl) (All-nil IsName));
   range = two_values;
 }
 
@@ -65,7 +66,8 @@ fits_all_on : FitsVariable all_on
 unfolding goes_on
 fits_all_on = record {
   name = literal (codes "all") refl;
-  values = All-cons IsName (codes "no") (codes "yes" ∷ []) (literal (codes "no") refl) (All-cons IsName (codes "yes") [] (literal (codes "yes") refl) (All-nil IsName));
+  values = All-cons IsName (codes "no") (codes "yes" ∷ []) (literal (codes "no") refl)
+      (All-cons IsName (codes "yes") [] (literal (codes "yes") refl) (All-nil IsName));
   range = record { some = lit≤ tt; most = lit≤ tt; derived = refl; layer_most = lit< tt };
 }
 
@@ -135,16 +137,22 @@ fits_flip n i most lt =
       name = numbered (codes "flip ") i refl (omega arith);
       prevail = (lit≤ tt, All-nil (InRange (variables n)));
       effects = lit≤ tt;
-      each = All-cons P (effect i 0 1) (effect i 1 0 ∷ []) (fits_effect n i 0 1 lt (lit< tt) (lit< tt)) (All-cons P (effect i 1 0) [] (fits_effect n i 1 0 lt (lit< tt) (lit< tt)) (All-nil P));
+      each = All-cons P (effect i 0 1) (effect i 1 0 ∷ []) (fits_effect n i 0 1 lt (lit< tt) (lit< tt))
+          (All-cons P (effect i 1 0) [] (fits_effect n i 1 0 lt (lit< tt) (lit< tt)) (All-nil P));
     }
 
 fits_rule : (n : ℕ) → n ≤ 64 → FitsRule (switches n) (rule n)
 fits_rule n most = record {
-  conds = (subst (λ (k : ℕ). k ≤ 65536) (sym (length_up_to is_on n)) (omega arith), All_up_to (InRange (variables n)) is_on n (λ i lt. switch_in_range n i 1 lt (lit< tt)));
+  conds = (
+    subst (λ (k : ℕ). k ≤ 65536) (sym (length_up_to is_on n)) (omega arith),
+    All_up_to (InRange (variables n))
+        is_on n (λ i lt. switch_in_range n i 1 lt (lit< tt)),
+  );
   layer = 0;
   on = subst (λ (v : Option Variable). IsSomeAnd v (λ x. x.layer ≡ Some 0)) (sym (at_last n)) refl;
   new = lit< tt;
-  kept = (λ _. All_up_to (MayStand (switches n) 0) is_on n (λ i lt. inl (subst (λ (v : Option Variable). IsSomeAnd v (λ x. x.layer ≡ None)) (sym (at_switch n i lt)) refl)));
+  kept = (λ _. All_up_to (MayStand (switches n) 0) is_on n (λ i lt. inl
+      (subst (λ (v : Option Variable). IsSomeAnd v (λ x. x.layer ≡ None)) (sym (at_switch n i lt)) refl)));
 }
 
 pub switches_fit : (n : ℕ) → n ≤ 64 → Fits (switches n)

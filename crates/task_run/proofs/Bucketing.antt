@@ -33,15 +33,21 @@ abbrev counting_at : ℕ → ℕ → Counting
 counting_at layer rule = record { layer = layer; rule = rule }
 
 -- what the number says of the rule
-own_at : (task : TaskParts) (i : ℕ) (rule : Rule) (counting : Counting) → slice_get task.rules i ≡ Some rule → counting.rule ≡ i → IsCounting task counting → IsOwn task counting.layer rule
+own_at : (task : TaskParts) (i : ℕ) (rule : Rule) (counting : Counting) → slice_get task.rules i ≡ Some rule
+    → counting.rule ≡ i → IsCounting task counting → IsOwn task counting.layer rule
 own_at task i rule counting at e h =
     let at2 : slice_get task.rules counting.rule ≡ Some rule = ap (λ (z : ℕ). slice_get task.rules z) e ∙ at in
     subst (λ (z : Option Rule). IsSomeAnd z (IsOwn task counting.layer)) at2 h
 
-pub counting_one : (task : TaskParts) (list : List Counting) (i layer : ℕ) (rule : Rule) → slice_get task.rules i ≡ Some rule → IsOwn task layer rule → All (IsCounting task) list → All (IsCounting task) (list ++ counting_at layer i ∷ [])
-counting_one task list i layer rule at own h = all_more (IsCounting task) list (counting_at layer i) h (subst (λ (z : Option Rule). IsSomeAnd z (IsOwn task layer)) (sym at) own)
+pub counting_one : (task : TaskParts) (list : List Counting) (i layer : ℕ) (rule : Rule)
+    → slice_get task.rules i ≡ Some rule → IsOwn task layer rule → All (IsCounting task) list
+    → All (IsCounting task) (list ++ counting_at layer i ∷ [])
+counting_one task list i layer rule at own h = all_more (IsCounting task) list (counting_at layer i) h
+    (subst (λ (z : Option Rule). IsSomeAnd z (IsOwn task layer)) (sym at) own)
 
-pub each_one : (task : TaskParts) (list : List Counting) (i layer : ℕ) (rule : Rule) → slice_get task.rules i ≡ Some rule → IsOwn task layer rule → ((x : Counting) → x.rule < i → IsCounting task x → Contains list x)
+pub each_one : (task : TaskParts) (list : List Counting) (i layer : ℕ) (rule : Rule)
+    → slice_get task.rules i ≡ Some rule → IsOwn task layer rule
+    → ((x : Counting) → x.rule < i → IsCounting task x → Contains list x)
     → (x : Counting) → x.rule < i + 1 → IsCounting task x → Contains (list ++ counting_at layer i ∷ []) x
 each_one task list i layer rule at own h x lt is = elim (cases_eq x.rule i) [
   | inl e ↦ (
@@ -51,7 +57,9 @@ each_one task list i layer rule at own h x lt is = elim (cases_eq x.rule i) [
   | inr ne ↦ (let ne2 : x.rule ≡ i → ⊥ = ne in contains_left list (counting_at layer i) x (h x (omega (arith, ne2, lt)) is))
 ]
 
-pub each_same : (task : TaskParts) (list : List Counting) (i : ℕ) (rule : Rule) → slice_get task.rules i ≡ Some rule → rule.new ≡ get_or task.initial rule.var 0 → ((x : Counting) → x.rule < i → IsCounting task x → Contains list x)
+pub each_same : (task : TaskParts) (list : List Counting) (i : ℕ) (rule : Rule) → slice_get task.rules i ≡ Some rule
+    → rule.new ≡ get_or task.initial rule.var 0 → ((x : Counting) → x.rule < i → IsCounting task x → Contains list
+    x)
     → (x : Counting) → x.rule < i + 1 → IsCounting task x → Contains list x
 each_same task list i rule at default h x lt is = elim (cases_eq x.rule i) [
   | inl e ↦ absurd ((own_at task i rule x at e is).counts default)
@@ -62,14 +70,18 @@ pub counting_within : (task : TaskParts) (x : Counting) → IsCounting task x �
 counting_within task x is = Rattle.symk_task.proofs.Places.within_some (IsOwn task x.layer) task.rules x.rule is
 
 -- the rules of a layer, one after the other
-pub same_more : (rules : List Counting) (layer from end : ℕ) (c : Counting) → end < length rules → (get_or rules end c).layer ≡ layer → ((k : ℕ) (d : Counting) → from ≤ k → k < end → (get_or rules k d).layer ≡ layer)
+pub same_more : (rules : List Counting) (layer from end : ℕ) (c : Counting) → end < length rules
+    → (get_or rules end c).layer ≡ layer → ((k : ℕ) (d : Counting) → from ≤ k → k < end → (get_or rules k d).layer
+    ≡ layer)
     → (k : ℕ) (d : Counting) → from ≤ k → k < end + 1 → (get_or rules k d).layer ≡ layer
 same_more rules layer from end c within e h k d low lt = elim (cases_eq k end) [
-  | inl same ↦ (let it : get_or rules k d ≡ get_or rules end c = ap (λ (z : ℕ). get_or rules z d) same ∙ get_or_default rules end d c within in ap (λ (z : Counting). z.layer) it ∙ e)
+  | inl same ↦ (let it : get_or rules k d ≡ get_or rules end c = ap (λ (z : ℕ). get_or rules z d) same
+      ∙ get_or_default rules end d c within in ap (λ (z : Counting). z.layer) it ∙ e)
   | inr ne ↦ (let ne2 : k ≡ end → ⊥ = ne in h k d low (omega (arith, ne2, lt)))
 ]
 
-pub stacked_more : (rules : List Counting) (stack : List ℕ) (from end : ℕ) (c : Counting) → end < length rules → ((k : ℕ) (d : Counting) → from ≤ k → k < end → Stands stack (get_or rules k d).rule)
+pub stacked_more : (rules : List Counting) (stack : List ℕ) (from end : ℕ) (c : Counting) → end < length rules
+    → ((k : ℕ) (d : Counting) → from ≤ k → k < end → Stands stack (get_or rules k d).rule)
     → (k : ℕ) (d : Counting) → from ≤ k → k < end + 1 → Stands (stack ++ (get_or rules end c).rule ∷ []) (get_or rules k d).rule
 stacked_more rules stack from end c within h k d low lt = elim (cases_eq k end) [
   | inl same ↦ (
@@ -78,12 +90,14 @@ stacked_more rules stack from end c within h k d low lt = elim (cases_eq k end) 
   | inr ne ↦ (let ne2 : k ≡ end → ⊥ = ne in stands_left stack ((get_or rules end c).rule ∷ []) (get_or rules k d).rule (h k d low (omega (arith, ne2, lt))))
 ]
 
-pub only_more : (rules : List Counting) (old stack : List ℕ) (end : ℕ) (c : Counting) → end < length rules → ((x : ℕ) → Stands stack x → Stands old x ⊎ Any (λ (counting : Counting). counting.rule ≡ x) rules)
+pub only_more : (rules : List Counting) (old stack : List ℕ) (end : ℕ) (c : Counting) → end < length rules
+    → ((x : ℕ) → Stands stack x → Stands old x ⊎ Any (λ (counting : Counting). counting.rule ≡ x) rules)
     → (x : ℕ) → Stands (stack ++ (get_or rules end c).rule ∷ []) x → Stands old x ⊎ Any (λ (counting : Counting). counting.rule ≡ x) rules
 only_more rules old stack end c within h x s = elim (stands_parts stack ((get_or rules end c).rule ∷ []) x s) [
   | inl p ↦ h x p
   | inr p ↦ elim p [
-    | inl e ↦ (let it : get_or rules end (get_or rules end c) ≡ get_or rules end c = get_or_default rules end (get_or rules end c) c within in inr (end, get_or rules end c, within, it, e))
+    | inl e ↦ (let it : get_or rules end (get_or rules end c) ≡ get_or rules end c =
+        get_or_default rules end (get_or rules end c) c within in inr (end, get_or rules end c, within, it, e))
     | inr n ↦ absurd n
   ]
 ]

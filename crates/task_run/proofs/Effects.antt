@@ -14,7 +14,8 @@ none_append F var (x ∷ es) e h k = (h.0, none_append F var es e h.1 k)
 pub changed : (F : Effect → Type 0) (es : List Effect) (e : Effect) (var old : ℕ) → e.var ≡ var → F e → ValueAfter F (es ++ e ∷ []) var old e.post
 changed F es e var old on fires = inl (e, record { before = es; later = []; here = refl; on = on; fires = fires; none = tt }, refl)
 
-pub unchanged : (F : Effect → Type 0) (es : List Effect) (e : Effect) (var old new : ℕ) → (e.var ≡ var → F e → ⊥) → ValueAfter F es var old new → ValueAfter F (es ++ e ∷ []) var old new
+pub unchanged : (F : Effect → Type 0) (es : List Effect) (e : Effect) (var old new : ℕ) → (e.var ≡ var → F e → ⊥)
+    → ValueAfter F es var old new → ValueAfter F (es ++ e ∷ []) var old new
 unchanged F es e var old new idle (inl p) =
     let l = p.1 in
     inl (
@@ -31,15 +32,23 @@ unchanged F es e var old new idle (inl p) =
     )
 unchanged F es e var old new idle (inr p) = inr (none_append F var es e p.0 idle, p.1)
 
-pub written : (F : Effect → Type 0) (es : List Effect) (e : Effect) (var old : ℕ) (next : List ℕ) → F e → e.var < length next → ValueAfter F es var old (get_or next var 0) → ValueAfter F (es ++ e ∷ []) var old (get_or (set next e.var e.post) var 0)
+pub written : (F : Effect → Type 0) (es : List Effect) (e : Effect) (var old : ℕ) (next : List ℕ) → F e
+    → e.var < length next → ValueAfter F es var old (get_or next var 0)
+    → ValueAfter F (es ++ e ∷ []) var old (get_or (set next e.var e.post) var 0)
 written F es e var old next fires within h =
     elim (cases_eq var e.var) [
-      | inl same ↦ (let on : get_or (set next e.var e.post) var 0 ≡ e.post = rw same (get_or-set_same next e.var e.post 0 within) in rw on (changed F es e var old (sym same) fires))
-      | inr other ↦ (let ne : var ≢ e.var = other in let off : get_or (set next e.var e.post) var 0 ≡ get_or next var 0 = get_or-set_other next e.var var e.post 0 ne in rw off (unchanged F es e var old (get_or next var 0) (λ on _. other (sym on)) h))
+      | inl same ↦ (let on : get_or (set next e.var e.post) var 0 ≡ e.post =
+          rw same (get_or-set_same next e.var e.post 0 within) in rw on (changed F es e var old (sym same) fires))
+      | inr other ↦ (let ne : var ≢ e.var = other in
+          let off : get_or (set next e.var e.post) var 0 ≡ get_or next var 0 =
+          get_or-set_other next e.var var e.post 0 ne in rw off
+          (unchanged F es e var old (get_or next var 0) (λ on _. other (sym on)) h))
     ]
 
 -- what was found of the first i effects, and the effect at i
-pub one_more : (F : Effect → Type 0) (es : List Effect) (i : ℕ) (e : Effect) (var old new : ℕ) → i < length es → e ≡ get_or es i e → ValueAfter F (take i es ++ e ∷ []) var old new → ValueAfter F (take (i + 1) es) var old new
+pub one_more : (F : Effect → Type 0) (es : List Effect) (i : ℕ) (e : Effect) (var old new : ℕ) → i < length es
+    → e ≡ get_or es i e → ValueAfter F (take i es ++ e ∷ []) var old new
+    → ValueAfter F (take (i + 1) es) var old new
 one_more F es i e var old new within is h =
     let t : take (i + 1) es ≡ take i es ++ e ∷ [] = take_more es i e within ∙ ap (λ (z : Effect). take i es ++ z ∷ []) (sym is) in
     subst (λ (z : List Effect). ValueAfter F z var old new) (sym t) h
@@ -50,13 +59,28 @@ all_parts : {X : Type 0} (P : X → Type 0) (xs ys : List X) → AllByRecursion 
 all_parts P [] ys h = (tt, h)
 all_parts P (x ∷ xs) ys h = (let r = all_parts P xs ys h.1 in ((h.0, r.0), r.1))
 
-none_as : (F G Fit : Effect → Type 0) (var : ℕ) (es : List Effect) → AllByRecursion Fit es → ((e : Effect) → Fit e → G e → F e) → NoneOn F var es → NoneOn G var es
+none_as : (F G Fit : Effect → Type 0) (var : ℕ) (es : List Effect) → AllByRecursion Fit es
+    → ((e : Effect) → Fit e → G e → F e) → NoneOn F var es → NoneOn G var es
 none_as F G Fit var [] fit back h = tt
 none_as F G Fit var (e ∷ es) fit back h = (λ on g. h.0 on (back e fit.0 g), none_as F G Fit var es fit.1 back h.1)
 
-pub after_as : (F G Fit : Effect → Type 0) (es : List Effect) (var old new : ℕ) → AllByRecursion Fit es → ((e : Effect) → Fit e → F e → G e) → ((e : Effect) → Fit e → G e → F e) → ValueAfter F es var old new → ValueAfter G es var old new
+pub after_as : (F G Fit : Effect → Type 0) (es : List Effect) (var old new : ℕ) → AllByRecursion Fit es
+    → ((e : Effect) → Fit e → F e → G e) → ((e : Effect) → Fit e → G e → F e) → ValueAfter F es var old new
+    → ValueAfter G es var old new
 after_as F G Fit es var old new fit to back (inl p) =
     let l = p.1 in
     let parts = all_parts Fit l.before (p.0 ∷ l.later) (subst (AllByRecursion Fit) l.here fit) in
-    inl (p.0, record { before = l.before; later = l.later; here = l.here; on = l.on; fires = to p.0 parts.1.0 l.fires; none = none_as F G Fit var l.later parts.1.1 back l.none }, p.2)
+    inl (
+      p.0,
+      record {
+        before = l.before;
+        later = l.later;
+        here = l.here;
+        on = l.on;
+        fires =
+            to p.0 parts.1.0 l.fires;
+        none = none_as F G Fit var l.later parts.1.1 back l.none;
+      },
+      p.2,
+    )
 after_as F G Fit es var old new fit to back (inr p) = inr (none_as F G Fit var es fit back p.0, p.1)

@@ -13,20 +13,25 @@ use Rattle.symk_task.proofs.Places.{within_some}
 use Rattle.task_run.specs.Layer.{Grows, at_default, start_value}
 use Rattle.task_run.specs.Layer.Grows.{done, by}
 
-pub at_default_falls : (initial values : List ℕ) (var new : ℕ) → var < length values → var < length initial → get_or values var 0 ≡ get_or initial var 0 → (new ≡ get_or initial var 0 → ⊥) → at_default initial (set values var new) < at_default initial values
+pub at_default_falls : (initial values : List ℕ) (var new : ℕ) → var < length values → var < length initial
+    → get_or values var 0 ≡ get_or initial var 0 → (new ≡ get_or initial var 0 → ⊥)
+    → at_default initial (set values var new) < at_default initial values
 at_default_falls [] values var new lt within e ne = absurd (omega arith)
 at_default_falls (x ∷ initial) [] var new lt within e ne = absurd (omega arith)
 at_default_falls (x ∷ initial) (y ∷ values) zero new lt within e ne =
     let a : (new == x) ≡ false = ne_eqb new x ne in
     let b : (y == x) ≡ true = eq-eqb y x e in
     rw (a, b) (omega arith)
-at_default_falls (x ∷ initial) (y ∷ values) (suc var) new lt within e ne = omega (arith, at_default_falls initial values var new (omega arith) (omega arith) e ne)
+at_default_falls (x ∷ initial) (y ∷ values) (suc var) new lt within e ne =
+    omega (arith, at_default_falls initial values var new (omega arith) (omega arith) e ne)
 
 pub grows_on : (task : TaskParts) (layer : ℕ) (a b c : List ℕ) → Grows task layer a b → Grows task layer b c → Grows task layer a c
 grows_on task layer a b c g (done v) = g
 grows_on task layer a b c g (by v more rule h in_rules raises) = by a more rule (grows_on task layer a b more g h) in_rules raises
 
-pub rule_within : (task : TaskParts) (rules : List Rule) (i : ℕ) (rule : Rule) → Fits task → rules ≡ task.rules → i < length task.rules → rule ≡ get_or rules i rule → FitsRule task rule × (rule.var < length task.variables) × Contains task.rules rule
+pub rule_within : (task : TaskParts) (rules : List Rule) (i : ℕ) (rule : Rule) → Fits task → rules ≡ task.rules
+    → i < length task.rules → rule ≡ get_or rules i rule → FitsRule task rule × (rule.var < length task.variables)
+    × Contains task.rules rule
 rule_within task rules i rule fits same lt is =
     let at : rule ≡ get_or task.rules i rule = is ∙ ap (λ (z : List Rule). get_or z i rule) same in
     let fit = subst (FitsRule task) (sym at) (fits.each_rule i rule lt) in
@@ -46,13 +51,17 @@ pub length_push : (xs : List ℕ) (y : ℕ) → length (xs ++ y ∷ []) ≡ leng
 length_push [] y = omega arith
 length_push (x ∷ xs) y = omega (arith, length_push xs y)
 
-pub start_push : (f : ℕ → ℕ) (values : List ℕ) (i y : ℕ) → length values ≡ i → f i ≡ y → ((k : ℕ) → k < i → get_or values k 0 ≡ f k) → (k : ℕ) → k < i + 1 → get_or (values ++ y ∷ []) k 0 ≡ f k
+pub start_push : (f : ℕ → ℕ) (values : List ℕ) (i y : ℕ) → length values ≡ i → f i ≡ y
+    → ((k : ℕ) → k < i → get_or values k 0 ≡ f k) → (k : ℕ) → k < i + 1 → get_or (values ++ y ∷ []) k 0 ≡ f k
 start_push f values i y e at h k lt = elim (cases_eq k i) [
   | inl same ↦ (let n : k ≡ length values = omega (arith, same, e) in rw n (get_or_pushed values y) ∙ sym (ap f same ∙ at))
   | inr ne ↦ (let ne2 : k ≡ i → ⊥ = ne in get_or_push values y k (omega (arith, ne2, e)) ∙ h k (omega (arith, ne2)))
 ]
 
-pub start_at : (variables : List Variable) (defaults s : List ℕ) (i : ℕ) (v : Variable) (b : Bool) → i < length variables → v ≡ get_or variables i v → is_base v ≡ b → start_value variables defaults s i ≡ cond b (get_or s (count_by is_base (take i variables)) 0) (get_or defaults i 0)
+pub start_at : (variables : List Variable) (defaults s : List ℕ) (i : ℕ) (v : Variable) (b : Bool)
+    → i < length variables → v ≡ get_or variables i v → is_base v ≡ b
+    → start_value variables defaults s i ≡ cond b (get_or s (count_by is_base (take i variables)) 0)
+    (get_or defaults i 0)
 start_at variables defaults s i v b lt is t =
     let e = slice_get_read variables (length variables) i v refl lt is in
     rw e (rw t refl)

@@ -57,7 +57,9 @@ begin task s layer values fits b = record {
 
 module _ (task : TaskParts) (s : List ℕ) (layer : ℕ) (fits : Fits task) where
   -- a condition that may stand has its value exactly where it is met
-  met : (values : List ℕ) (fired : List Rule) (fact : Fact) → Amid task s layer values fired → InRange task.variables fact → MayStand task layer fact → HasValue values fact ↔ Met task s (RaisedBelow layer task s) layer fired fact
+  met : (values : List ℕ) (fired : List Rule) (fact : Fact) → Amid task s layer values fired
+      → InRange task.variables fact → MayStand task layer fact → HasValue values fact
+      ↔ Met task s (RaisedBelow layer task s) layer fired fact
   met values fired fact a within (inl b) = ((λ e. base b (sym (a.base fact.var b) ∙ e)), back)
     where
       back : Met task s (RaisedBelow layer task s) layer fired fact → HasValue values fact
@@ -79,7 +81,8 @@ module _ (task : TaskParts) (s : List ℕ) (layer : ℕ) (fits : Fits task) wher
       to : HasValue values fact → Met task s (RaisedBelow layer task s) layer fired fact
       to e = elim (cases_eq fact.val (other_value task fact.var)) [
         | inl k ↦ raised at l lt k (low.0 (e ∙ k))
-        | inr ne ↦ default at l lt (let ne2 : fact.val ≡ 1 - get_or task.initial fact.var 0 → ⊥ = ne in omega (arith, val, t.initial, ne2)) (λ h. ne (sym e ∙ low.1 h))
+        | inr ne ↦ default at l lt (let ne2 : fact.val ≡ 1 - get_or task.initial fact.var 0 → ⊥ = ne in omega
+            (arith, val, t.initial, ne2)) (λ h. ne (sym e ∙ low.1 h))
       ]
 
       back : Met task s (RaisedBelow layer task s) layer fired fact → HasValue values fact
@@ -88,7 +91,8 @@ module _ (task : TaskParts) (s : List ℕ) (layer : ℕ) (fits : Fits task) wher
       back (raised below l2 lt2 e h) = low.1 h ∙ sym e
       back (default below l2 lt2 e h) = elim (cases_eq (get_or values fact.var 0) (other_value task fact.var)) [
         | inl k ↦ absurd (h (low.0 k))
-        | inr ne ↦ (let ne2 : get_or values fact.var 0 ≡ 1 - get_or task.initial fact.var 0 → ⊥ = ne in let two = a.two fact.var at l in omega (arith, two, t.initial, e, ne2))
+        | inr ne ↦ (let ne2 : get_or values fact.var 0 ≡ 1 - get_or task.initial fact.var 0 → ⊥ = ne in
+            let two = a.two fact.var at l in omega (arith, two, t.initial, e, ne2))
       ]
   met values fired fact a within (inr (at, l, inr (is, other))) = (to, back)
     where
@@ -105,22 +109,28 @@ module _ (task : TaskParts) (s : List ℕ) (layer : ℕ) (fits : Fits task) wher
       back (default below l2 lt2 e h) = (let k = one_layer task fact.var layer below on l2 in absurd (omega (arith, k, lt2)))
 
   -- a rule that raises its variable counts
-  pub counts : (values : List ℕ) (rule : Rule) → FitsRule task rule → HasLayer task rule.var layer → (rule.new ≡ get_or task.initial rule.var 0 → ⊥) → rule.new ≡ other_value task rule.var
+  pub counts : (values : List ℕ) (rule : Rule) → FitsRule task rule → HasLayer task rule.var layer
+      → (rule.new ≡ get_or task.initial rule.var 0 → ⊥) → rule.new ≡ other_value task rule.var
   counts values rule fit on ne = (let t = two_values task rule.var layer fits on in let new = fit.new in omega (arith, new, t.initial, ne))
 
   pub may : (rule : Rule) → FitsRule task rule → HasLayer task rule.var layer → rule.new ≡ other_value task rule.var → All (MayStand task layer) rule.conds
   may rule fit on new = subst (λ (z : ℕ). All (MayStand task z) rule.conds) (one_layer task rule.var fit.layer layer fit.on on) (fit.kept new)
 
-  fire : (values : List ℕ) (fired : List Rule) (rule : Rule) → Amid task s layer values fired → Contains task.rules rule → Raises task layer values rule → Amid task s layer (set values rule.var rule.new) (rule ∷ fired)
+  fire : (values : List ℕ) (fired : List Rule) (rule : Rule) → Amid task s layer values fired
+      → Contains task.rules rule → Raises task layer values rule
+      → Amid task s layer (set values rule.var rule.new) (rule ∷ fired)
   fire values fired rule a in_rules r = record {
     each = length-set values rule.var rule.new ∙ a.each;
-    base = λ var b. get_or-set_other values rule.var var rule.new 0 (λ e. base_derived task var layer b (subst (λ (z : ℕ). HasLayer task z layer) (sym e) r.opened.own.on)) ∙ a.base var b;
+    base = λ var b. get_or-set_other values rule.var var rule.new 0
+        (λ e. base_derived task var layer b (subst (λ (z : ℕ). HasLayer task z layer) (sym e) r.opened.own.on))
+        ∙ a.base var b;
     two = λ var at l. elim (cases_eq var rule.var) [
       | inl e ↦ (let n = fit.new in let g = get_or-set_same values rule.var rule.new 0 within in rw e (omega (arith, n, g)))
       | inr ne ↦ (let g = get_or-set_other values rule.var var rule.new 0 ne in let k = a.two var at l in omega (arith, g, k))
     ];
     low = λ var at l lt. (
-        let g = get_or-set_other values rule.var var rule.new 0 (λ e. let k = one_layer task var at layer l (subst (λ (z : ℕ). HasLayer task z layer) (sym e) r.opened.own.on) in omega (arith, k, lt)) in
+        let g = get_or-set_other values rule.var var rule.new 0
+        (λ e. let k = one_layer task var at layer l (subst (λ (z : ℕ). HasLayer task z layer) (sym e) r.opened.own.on) in omega (arith, k, lt)) in
         let k = a.low var at l lt in ((λ e. k.0 (sym g ∙ e)), (λ h. g ∙ k.1 h)));
     own = λ var l. elim (cases_eq var rule.var) [
       | inl e ↦ ((λ _. inl (sym e)), (λ _. rw e (get_or-set_same values rule.var rule.new 0 within ∙ new)))
@@ -129,12 +139,15 @@ module _ (task : TaskParts) (s : List ℕ) (layer : ℕ) (fits : Fits task) wher
           let k = a.own var l in ((λ e. inr (k.0 (sym g ∙ e))), later var ne g k))
     ];
     high = λ var at l lt. (
-        let g = get_or-set_other values rule.var var rule.new 0 (λ e. let k = one_layer task var at layer l (subst (λ (z : ℕ). HasLayer task z layer) (sym e) r.opened.own.on) in omega (arith, k, lt)) in
+        let g = get_or-set_other values rule.var var rule.new 0
+        (λ e. let k = one_layer task var at layer l (subst (λ (z : ℕ). HasLayer task z layer) (sym e) r.opened.own.on) in omega (arith, k, lt)) in
         g ∙ a.high var at l lt);
     derives = (
       (in_rules, new),
       r.opened.own.on,
-      recursion_from_All (Met task s (RaisedBelow layer task s) layer fired) rule.conds (λ k d lt. (met values fired (get_or rule.conds k d) a (fit.conds.1 k d lt) (may rule fit r.opened.own.on new k d lt)).0 (r.conds k d lt)),
+      recursion_from_All (Met task s (RaisedBelow layer task s) layer fired) rule.conds
+          (λ k d lt. (met values fired (get_or rule.conds k d) a (fit.conds.1 k d lt)
+          (may rule fit r.opened.own.on new k d lt)).0 (r.conds k d lt)),
       a.derives,
     );
   }
@@ -148,7 +161,9 @@ module _ (task : TaskParts) (s : List ℕ) (layer : ℕ) (fits : Fits task) wher
       new : rule.new ≡ other_value task rule.var
       new = counts values rule fit r.opened.own.on r.opened.own.counts
 
-      later : (var : ℕ) → (var ≡ rule.var → ⊥) → get_or (set values rule.var rule.new) var 0 ≡ get_or values var 0 → ((get_or values var 0 ≡ other_value task var) ↔ HasRule var fired) → HasRule var (rule ∷ fired) → get_or (set values rule.var rule.new) var 0 ≡ other_value task var
+      later : (var : ℕ) → (var ≡ rule.var → ⊥) → get_or (set values rule.var rule.new) var 0 ≡ get_or values var 0
+          → ((get_or values var 0 ≡ other_value task var) ↔ HasRule var fired) → HasRule var (rule ∷ fired)
+          → get_or (set values rule.var rule.new) var 0 ≡ other_value task var
       later var ne g k (inl e) = absurd (ne (sym e))
       later var ne g k (inr h) = g ∙ k.1 h
 
@@ -156,7 +171,8 @@ module _ (task : TaskParts) (s : List ℕ) (layer : ℕ) (fits : Fits task) wher
   grown old values a (done v) = ([], a)
   grown old values a (by v more rule g in_rules r) = (let k = grown old more a g in (rule ∷ k.0, fire more k.0 rule k.1 in_rules r))
 
-  closed : (values : List ℕ) (fired : List Rule) → Amid task s layer values fired → IsStuck task layer values → Closed task s (RaisedBelow layer task s) layer fired
+  closed : (values : List ℕ) (fired : List Rule) → Amid task s layer values fired → IsStuck task layer values
+      → Closed task s (RaisedBelow layer task s) layer fired
   closed values fired a stuck = record {
     closed = λ rule c on met_all. elim (cases_eq (get_or values rule.var 0) (other_value task rule.var)) [
       | inl e ↦ (a.own rule.var on).0 e
@@ -201,34 +217,52 @@ module _ (task : TaskParts) (s : List ℕ) (layer : ℕ) (fits : Fits task) wher
         high = λ var at l lt. a.high var at l (omega arith);
       }
     where
-      own_back : (values : List ℕ) (fired : List Rule) → Amid task s layer values fired → Closed task s (RaisedBelow layer task s) layer fired → (var : ℕ) → HasLayer task var layer → RaisedBelow (suc layer) task s var → get_or values var 0 ≡ other_value task var
+      own_back : (values : List ℕ) (fired : List Rule) → Amid task s layer values fired
+          → Closed task s (RaisedBelow layer task s) layer fired → (var : ℕ) → HasLayer task var layer
+          → RaisedBelow (suc layer) task s var → get_or values var 0 ≡ other_value task var
       own_back values fired a c var on (inl h) = (a.own var on).1 (complete task s (RaisedBelow layer task s) layer fired (h.0 ∷ h.1) c h.3 var (inl h.2))
-      own_back values fired a c var on (inr h) = (let r = raised_layer layer task s var h in let e = one_layer task var layer r.0 on r.1 in absurd (omega (arith, e, r.2)))
+      own_back values fired a c var on (inr h) = (let r = raised_layer layer task s var h in
+          let e = one_layer task var layer r.0 on r.1 in absurd (omega (arith, e, r.2)))
 
 -- layers that no rule is for
-pub skip : (task : TaskParts) (s values : List ℕ) (k n : ℕ) → Fits task → ((rule : Rule) (at : ℕ) → Contains task.rules rule → IsOwn task at rule → n ≤ at → at < k + n → ⊥) → Below task s n values → Below task s (k + n) values
+pub skip : (task : TaskParts) (s values : List ℕ) (k n : ℕ) → Fits task
+    → ((rule : Rule) (at : ℕ) → Contains task.rules rule → IsOwn task at rule → n ≤ at → at < k + n → ⊥)
+    → Below task s n values → Below task s (k + n) values
 skip task s values zero n fits none b = subst (λ (z : ℕ). Below task s z values) (let e : n ≡ 0 + n = omega arith in e) b
 skip task s values (suc k) n fits none b =
     let ih = skip task s values k n fits (λ rule at in_rules own low lt. none rule at in_rules own low (omega arith)) b in
     subst (λ (z : ℕ). Below task s z values) (let e : suc (k + n) ≡ suc k + n = omega arith in e)
-    (layer_done task s (k + n) fits values values ih (done values) (λ i d lt raises. none (get_or task.rules i d) (k + n) (Contains-get_or task.rules i d lt) raises.opened.own (omega arith) (omega arith)))
+    (layer_done task s (k + n) fits values values ih (done values)
+    (λ i d lt raises. none (get_or task.rules i d) (k + n) (Contains-get_or task.rules i d lt) raises.opened.own
+    (omega arith) (omega arith)))
 
 -- before any layer
-start_base : (variables : List Variable) (defaults s : List ℕ) (var : ℕ) → IsSomeAnd (slice_get variables var) (λ v. v.layer ≡ None) → start_value variables defaults s var ≡ get_or s (count_by is_base (take var variables)) 0
+start_base : (variables : List Variable) (defaults s : List ℕ) (var : ℕ)
+    → IsSomeAnd (slice_get variables var) (λ v. v.layer ≡ None)
+    → start_value variables defaults s var ≡ get_or s (count_by is_base (take var variables)) 0
 start_base variables defaults s var h = go (slice_get variables var) h
   where
-    go : (o : Option Variable) → IsSomeAnd o (λ v. v.layer ≡ None) → cond (Rattle.std.specs.Option.option_map_or is_base o false) (get_or s (count_by is_base (take var variables)) 0) (get_or defaults var 0) ≡ get_or s (count_by is_base (take var variables)) 0
+    go : (o : Option Variable) → IsSomeAnd o (λ v. v.layer ≡ None)
+        → cond (Rattle.std.specs.Option.option_map_or is_base o false)
+        (get_or s (count_by is_base (take var variables)) 0) (get_or defaults var 0) ≡ get_or s
+        (count_by is_base (take var variables)) 0
     go None h = absurd h
     go (Some v) h = (let b : is_base v ≡ true = ap (λ (z : Option ℕ). is_none z) h in rw b refl)
 
-start_derived : (variables : List Variable) (defaults s : List ℕ) (var layer : ℕ) → IsSomeAnd (slice_get variables var) (λ v. v.layer ≡ Some layer) → start_value variables defaults s var ≡ get_or defaults var 0
+start_derived : (variables : List Variable) (defaults s : List ℕ) (var layer : ℕ)
+    → IsSomeAnd (slice_get variables var) (λ v. v.layer ≡ Some layer)
+    → start_value variables defaults s var ≡ get_or defaults var 0
 start_derived variables defaults s var layer h = go (slice_get variables var) h
   where
-    go : (o : Option Variable) → IsSomeAnd o (λ v. v.layer ≡ Some layer) → cond (Rattle.std.specs.Option.option_map_or is_base o false) (get_or s (count_by is_base (take var variables)) 0) (get_or defaults var 0) ≡ get_or defaults var 0
+    go : (o : Option Variable) → IsSomeAnd o (λ v. v.layer ≡ Some layer)
+        → cond (Rattle.std.specs.Option.option_map_or is_base o false)
+        (get_or s (count_by is_base (take var variables)) 0) (get_or defaults var 0) ≡ get_or defaults var 0
     go None h = absurd h
     go (Some v) h = (let b : is_base v ≡ false = ap (λ (z : Option ℕ). is_none z) h in rw b refl)
 
-pub started : (task : TaskParts) (s values : List ℕ) → Fits task → length values ≡ length task.variables → ((var : ℕ) → var < length task.variables → get_or values var 0 ≡ start_value task.variables task.initial s var) → Below task s 0 values
+pub started : (task : TaskParts) (s values : List ℕ) → Fits task → length values ≡ length task.variables
+    → ((var : ℕ) → var < length task.variables → get_or values var 0 ≡ start_value task.variables task.initial s
+    var) → Below task s 0 values
 started task s values fits each h = record {
   each = each;
   base = λ var b. h var (within_some (λ v. v.layer ≡ None) task.variables var b) ∙ start_base task.variables task.initial s var b;
@@ -251,10 +285,12 @@ layer_within task n var at most h = go (slice_get task.variables var) refl h
         let k2 = subst (λ (z : Variable). IfSome z.layer (λ layer. layer < n)) (get_or_from_slice_get task.variables var v v e) k in
         subst (λ (z : Option ℕ). IfSome z (λ layer. layer < n)) h k2
 
-pub valued : (task : TaskParts) (s : List ℕ) (n : ℕ) (values : List ℕ) → Fits task → All (λ v. IfSome v.layer (λ layer. layer < n)) task.variables → Below task s n values → Valued task s values
+pub valued : (task : TaskParts) (s : List ℕ) (n : ℕ) (values : List ℕ) → Fits task
+    → All (λ v. IfSome v.layer (λ layer. layer < n)) task.variables → Below task s n values → Valued task s values
 valued task s n values fits most b = record { each = b.each; holds = λ fact within. go fact within (which task fact within) }
   where
-    go : (fact : Fact) → InRange task.variables fact → IsBase task fact.var ⊎ ((layer : ℕ) × HasLayer task fact.var layer) → Holds task s fact ↔ HasValue values fact
+    go : (fact : Fact) → InRange task.variables fact → IsBase task fact.var
+        ⊎ ((layer : ℕ) × HasLayer task fact.var layer) → Holds task s fact ↔ HasValue values fact
     go fact within (inl h) = (to, (λ e. inl (h, sym (b.base fact.var h) ∙ e)))
       where
         to : Holds task s fact → HasValue values fact
@@ -272,12 +308,20 @@ valued task s n values fits most b = record { each = b.each; holds = λ fact wit
         low = b.low fact.var layer on lt
 
         into : RaisedBelow n task s fact.var → Raised task s fact.var
-        into h = (layer, on, below_down task s (n - (layer + 1)) (layer + 1) fact.var layer on (omega arith) (subst (λ (z : ℕ). RaisedBelow z task s fact.var) (let e : n ≡ (n - (layer + 1)) + (layer + 1) = omega (arith, lt) in e) h))
+        into h = (
+          layer,
+          on,
+          below_down task s (n - (layer + 1)) (layer + 1) fact.var layer on (omega arith)
+              (subst (λ (z : ℕ). RaisedBelow z task s fact.var)
+              (let e : n ≡ (n - (layer + 1)) + (layer + 1) = omega (arith, lt) in e) h),
+        )
 
         from : Raised task s fact.var → RaisedBelow n task s fact.var
         from h =
             let e = one_layer task fact.var layer h.0 on h.1 in
-            subst (λ (z : ℕ). RaisedBelow z task s fact.var) (let k : (n - (h.0 + 1)) + (h.0 + 1) ≡ n = omega (arith, lt, e) in k) (below_up task s (n - (h.0 + 1)) (h.0 + 1) fact.var h.2)
+            subst (λ (z : ℕ). RaisedBelow z task s fact.var)
+            (let k : (n - (h.0 + 1)) + (h.0 + 1) ≡ n = omega (arith, lt, e) in k)
+            (below_up task s (n - (h.0 + 1)) (h.0 + 1) fact.var h.2)
 
         val : fact.val < 2
         val = fact_two task fact layer fits within on

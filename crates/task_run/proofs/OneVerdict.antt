@@ -24,7 +24,8 @@ through : (task : TaskParts) (p s u : List ℕ) (i : ℕ) → i < length p → R
 unfolding Runs
 through task [] s u i lt h = absurd (omega arith)
 through task (a ∷ p) s u zero lt (n, first, rest) = record { m = s; n = n; front = refl; step = first }
-through task (a ∷ p) s u (suc i) lt (n, first, rest) = (let r = through task p n u i (omega arith) rest in record { m = r.m; n = r.n; front = (n, first, r.front); step = r.step })
+through task (a ∷ p) s u (suc i) lt (n, first, rest) = (let r = through task p n u i (omega arith) rest in record
+    { m = r.m; n = r.n; front = (n, first, r.front); step = r.step })
 
 -- what runs has operators' numbers alone
 in_range : (task : TaskParts) (p s u : List ℕ) (i : ℕ) → i < length p → Runs task s p u → get_or p i 0 < length task.operators
@@ -39,7 +40,8 @@ take_less (x ∷ p) zero (suc j) lt le = (refl, refl, omega arith)
 take_less (x ∷ p) (suc i) (suc j) lt le = (let r = take_less p i j (omega arith) (omega arith) in (ap (λ (z : List ℕ). x ∷ z) r.0, r.1, omega (arith, r.2)))
 
 -- where a run stops, no longer one goes on
-not_further : (task : TaskParts) (p : List ℕ) (i : ℕ) (s q u : List ℕ) → Fits task → Stops task p i → IsInitial task s → take i q ≡ take i p → get_or q i 0 ≡ get_or p i 0 → i < length q → Runs task s q u → ⊥
+not_further : (task : TaskParts) (p : List ℕ) (i : ℕ) (s q u : List ℕ) → Fits task → Stops task p i → IsInitial task s
+    → take i q ≡ take i p → get_or q i 0 ≡ get_or p i 0 → i < length q → Runs task s q u → ⊥
 not_further task p i s q u fits stops init front here lt h =
     let e : stops.s ≡ s = one_initial task stops.s s stops.initial init in
     let r = through task q s u i lt h in

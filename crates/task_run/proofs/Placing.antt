@@ -34,7 +34,8 @@ stands_parts (y ∷ xs) ys x (inr h) = elim (stands_parts xs ys x h) [ inl k ↦
 
 module _ (task : TaskParts) (layer : ℕ) where
   -- a number is taken from the stack
-  pub popped : (values stack rest : List ℕ) (waiting : List (List ℕ)) (x : ℕ) → stack ≡ rest ++ x ∷ [] → AllPlaced task layer values stack waiting → AllBut x task layer values rest waiting
+  pub popped : (values stack rest : List ℕ) (waiting : List (List ℕ)) (x : ℕ) → stack ≡ rest ++ x ∷ []
+      → AllPlaced task layer values stack waiting → AllBut x task layer values rest waiting
   popped values stack rest waiting x is all y rule at = go (all y rule at)
     where
       go : Placed task layer values stack waiting y rule → (x ≡ y) ⊎ Placed task layer values rest waiting y rule
@@ -45,7 +46,9 @@ module _ (task : TaskParts) (layer : ℕ) where
       go (idle h) = inr (idle h)
       go (waits fact c n h) = inr (waits fact c n h)
 
-  pub back_idle : (values stack : List ℕ) (waiting : List (List ℕ)) (x : ℕ) (rule : Rule) → slice_get task.rules x ≡ Some rule → ¬ IsOpen task layer values rule → AllBut x task layer values stack waiting → AllPlaced task layer values stack waiting
+  pub back_idle : (values stack : List ℕ) (waiting : List (List ℕ)) (x : ℕ) (rule : Rule)
+      → slice_get task.rules x ≡ Some rule → ¬ IsOpen task layer values rule
+      → AllBut x task layer values stack waiting → AllPlaced task layer values stack waiting
   back_idle values stack waiting x rule at not_so all y other at2 = elim (all y other at2) [
     | inl e ↦ (
         let same : rule ≡ other = (let k : slice_get task.rules x ≡ Some other = ap (λ (z : ℕ). slice_get task.rules z) e ∙ at2 in cc) in
@@ -53,25 +56,32 @@ module _ (task : TaskParts) (layer : ℕ) where
     | inr p ↦ p
   ]
 
-  more_wait : (waiting : List (List ℕ)) (var x u y : ℕ) → var < length waiting → Stands (waiting_at waiting u) y → Stands (waiting_at (set waiting var (waiting_at waiting var ++ x ∷ [])) u) y
+  more_wait : (waiting : List (List ℕ)) (var x u y : ℕ) → var < length waiting → Stands (waiting_at waiting u) y
+      → Stands (waiting_at (set waiting var (waiting_at waiting var ++ x ∷ [])) u) y
   more_wait waiting var x u y lt h = elim (cases_eq u var) [
     | inl e ↦ (
-        let k : waiting_at (set waiting var (waiting_at waiting var ++ x ∷ [])) u ≡ waiting_at waiting var ++ x ∷ [] = (rw e (get_or-set_same waiting var (waiting_at waiting var ++ x ∷ []) [] lt)) in
+        let k : waiting_at (set waiting var (waiting_at waiting var ++ x ∷ [])) u ≡ waiting_at waiting var ++ x ∷ [] =
+        (rw e (get_or-set_same waiting var (waiting_at waiting var ++ x ∷ []) [] lt)) in
         subst (λ (z : List ℕ). Stands z y) (sym k) (stands_left (waiting_at waiting var) (x ∷ []) y (subst (λ (z : ℕ). Stands (waiting_at waiting z) y) e h)))
     | inr ne ↦ subst (λ (z : List ℕ). Stands z y) (sym (get_or-set_other waiting var u (waiting_at waiting var ++ x ∷ []) [] ne)) h
   ]
 
-  pub back_waits : (values stack : List ℕ) (waiting : List (List ℕ)) (x : ℕ) (rule : Rule) (fact : Fact) → slice_get task.rules x ≡ Some rule → Contains rule.conds fact → ¬ HasValue values fact → fact.var < length waiting
+  pub back_waits : (values stack : List ℕ) (waiting : List (List ℕ)) (x : ℕ) (rule : Rule) (fact : Fact)
+      → slice_get task.rules x ≡ Some rule → Contains rule.conds fact → ¬ HasValue values fact
+      → fact.var < length waiting
       → AllBut x task layer values stack waiting → AllPlaced task layer values stack (set waiting fact.var (waiting_at waiting fact.var ++ x ∷ []))
   back_waits values stack waiting x rule fact at in_conds not_so lt all y other at2 = elim (all y other at2) [
     | inl e ↦ (
         let same : rule ≡ other = (let k : slice_get task.rules x ≡ Some other = ap (λ (z : ℕ). slice_get task.rules z) e ∙ at2 in cc) in
         waits fact (subst (λ (z : Rule). Contains z.conds fact) same in_conds) not_so
-        (subst (λ (z : List ℕ). Stands z y) (sym (get_or-set_same waiting fact.var (waiting_at waiting fact.var ++ x ∷ []) [] lt)) (stands_right (waiting_at waiting fact.var) (x ∷ []) y (inl e))))
+        (subst (λ (z : List ℕ). Stands z y)
+        (sym (get_or-set_same waiting fact.var (waiting_at waiting fact.var ++ x ∷ []) [] lt))
+        (stands_right (waiting_at waiting fact.var) (x ∷ []) y (inl e))))
     | inr p ↦ go p
   ]
     where
-      go : Placed task layer values stack waiting y other → Placed task layer values stack (set waiting fact.var (waiting_at waiting fact.var ++ x ∷ [])) y other
+      go : Placed task layer values stack waiting y other → Placed task layer values stack
+          (set waiting fact.var (waiting_at waiting fact.var ++ x ∷ [])) y other
       go (stacked h) = stacked h
       go (idle h) = idle h
       go (waits f c n h) = waits f c n (more_wait waiting fact.var x f.var y lt h)
@@ -86,44 +96,56 @@ module _ (task : TaskParts) (layer : ℕ) where
       go (waits fact c n h) = n (All-contains (HasValue values) (get_or task.rules k d).conds fact raises.conds c)
 
   -- a variable is raised
-  pub raised_on : (values stack : List ℕ) (waiting : List (List ℕ)) (x : ℕ) (rule : Rule) → slice_get task.rules x ≡ Some rule → Raises task layer values rule → rule.var < length values → rule.var < length waiting
-      → AllBut x task layer values stack waiting → AllPlaced task layer (set values rule.var rule.new) (stack ++ waiting_at waiting rule.var) (set waiting rule.var [])
+  pub raised_on : (values stack : List ℕ) (waiting : List (List ℕ)) (x : ℕ) (rule : Rule)
+      → slice_get task.rules x ≡ Some rule → Raises task layer values rule → rule.var < length values
+      → rule.var < length waiting
+      → AllBut x task layer values stack waiting → AllPlaced task layer (set values rule.var rule.new)
+      (stack ++ waiting_at waiting rule.var) (set waiting rule.var [])
   raised_on values stack waiting x rule at raises lt lt2 all y other at2 = elim (all y other at2) [
     | inl e ↦ (
         let same : rule ≡ other = (let k : slice_get task.rules x ≡ Some other = ap (λ (z : ℕ). slice_get task.rules z) e ∙ at2 in cc) in
-        idle (subst (λ (z : Rule). ¬ IsOpen task layer (set values rule.var rule.new) z) same (λ o. raises.opened.own.counts (sym (get_or-set_same values rule.var rule.new 0 lt) ∙ o.unraised))))
+        idle (subst (λ (z : Rule). ¬ IsOpen task layer (set values rule.var rule.new) z) same
+        (λ o. raises.opened.own.counts (sym (get_or-set_same values rule.var rule.new 0 lt) ∙ o.unraised))))
     | inr p ↦ go p
   ]
     where
       still : ¬ IsOpen task layer values other → IsOpen task layer (set values rule.var rule.new) other → ⊥
       still not_so o = elim (cases_eq other.var rule.var) [
         | inl e ↦ raises.opened.own.counts (
-            sym (get_or-set_same values rule.var rule.new 0 lt) ∙ ap (λ (z : ℕ). get_or (set values rule.var rule.new) z 0) (sym e) ∙ o.unraised ∙ ap (λ (z : ℕ). get_or task.initial z 0) e)
+            sym (get_or-set_same values rule.var rule.new 0 lt)
+            ∙ ap (λ (z : ℕ). get_or (set values rule.var rule.new) z 0) (sym e) ∙ o.unraised
+            ∙ ap (λ (z : ℕ). get_or task.initial z 0) e)
         | inr ne ↦ not_so (record { own = o.own; unraised = sym (get_or-set_other values rule.var other.var rule.new 0 ne) ∙ o.unraised })
       ]
 
-      go : Placed task layer values stack waiting y other → Placed task layer (set values rule.var rule.new) (stack ++ waiting_at waiting rule.var) (set waiting rule.var []) y other
+      go : Placed task layer values stack waiting y other → Placed task layer (set values rule.var rule.new)
+          (stack ++ waiting_at waiting rule.var) (set waiting rule.var []) y other
       go (stacked h) = stacked (stands_left stack (waiting_at waiting rule.var) y h)
       go (idle h) = idle (still h)
       go (waits fact c n h) = elim (cases_eq fact.var rule.var) [
         | inl e ↦ stacked (stands_right stack (waiting_at waiting rule.var) y (subst (λ (z : ℕ). Stands (waiting_at waiting z) y) e h))
-        | inr ne ↦ waits fact c (λ v. n (sym (get_or-set_other values rule.var fact.var rule.new 0 ne) ∙ v)) (subst (λ (z : List ℕ). Stands z y) (sym (get_or-set_other waiting rule.var fact.var [] [] ne)) h)
+        | inr ne ↦ waits fact c (λ v. n (sym (get_or-set_other values rule.var fact.var rule.new 0 ne) ∙ v))
+            (subst (λ (z : List ℕ). Stands z y) (sym (get_or-set_other waiting rule.var fact.var [] [] ne)) h)
       ]
 
 -- the numbers stay numbers of rules
-pub kept_pop : (task : TaskParts) (stack rest : List ℕ) (waiting : List (List ℕ)) (x : ℕ) → stack ≡ rest ++ x ∷ [] → Kept task stack waiting → Kept task rest waiting × (x < length task.rules)
+pub kept_pop : (task : TaskParts) (stack rest : List ℕ) (waiting : List (List ℕ)) (x : ℕ) → stack ≡ rest ++ x ∷ []
+    → Kept task stack waiting → Kept task rest waiting × (x < length task.rules)
 kept_pop task stack rest waiting x is k = (
   record { each = k.each; stacked = λ y h. k.stacked y (subst (λ (z : List ℕ). Stands z y) (sym is) (stands_left rest (x ∷ []) y h)); waits = k.waits },
   k.stacked x (subst (λ (z : List ℕ). Stands z x) (sym is) (stands_right rest (x ∷ []) x (inl refl))),
 )
 
-pub kept_wait : (task : TaskParts) (stack : List ℕ) (waiting : List (List ℕ)) (var x : ℕ) → var < length waiting → x < length task.rules → Kept task stack waiting → Kept task stack (set waiting var (waiting_at waiting var ++ x ∷ []))
+pub kept_wait : (task : TaskParts) (stack : List ℕ) (waiting : List (List ℕ)) (var x : ℕ) → var < length waiting
+    → x < length task.rules → Kept task stack waiting → Kept task stack
+    (set waiting var (waiting_at waiting var ++ x ∷ []))
 kept_wait task stack waiting var x lt in_rules k = record {
   each = length-set waiting var (waiting_at waiting var ++ x ∷ []) ∙ k.each;
   stacked = k.stacked;
   waits = λ u y h. elim (cases_eq u var) [
     | inl e ↦ (
-        let at : waiting_at (set waiting var (waiting_at waiting var ++ x ∷ [])) u ≡ waiting_at waiting var ++ x ∷ [] = (rw e (get_or-set_same waiting var (waiting_at waiting var ++ x ∷ []) [] lt)) in
+        let at : waiting_at (set waiting var (waiting_at waiting var ++ x ∷ [])) u ≡ waiting_at waiting var ++ x
+        ∷ [] = (rw e (get_or-set_same waiting var (waiting_at waiting var ++ x ∷ []) [] lt)) in
         elim (stands_parts (waiting_at waiting var) (x ∷ []) y (subst (λ (z : List ℕ). Stands z y) at h)) [
           | inl p ↦ k.waits var y p
           | inr p ↦ elim p [ inl e2 ↦ subst (λ (z : ℕ). z < length task.rules) e2 in_rules | inr n ↦ absurd n ]
@@ -132,7 +154,8 @@ kept_wait task stack waiting var x lt in_rules k = record {
   ];
 }
 
-pub kept_wake : (task : TaskParts) (stack : List ℕ) (waiting : List (List ℕ)) (var : ℕ) → var < length waiting → Kept task stack waiting → Kept task (stack ++ waiting_at waiting var) (set waiting var [])
+pub kept_wake : (task : TaskParts) (stack : List ℕ) (waiting : List (List ℕ)) (var : ℕ) → var < length waiting
+    → Kept task stack waiting → Kept task (stack ++ waiting_at waiting var) (set waiting var [])
 kept_wake task stack waiting var lt k = record {
   each = length-set waiting var [] ∙ k.each;
   stacked = λ y h. elim (stands_parts stack (waiting_at waiting var) y h) [ inl p ↦ k.stacked y p | inr p ↦ k.waits var y p ];
@@ -144,20 +167,24 @@ kept_wake task stack waiting var lt k = record {
   ];
 }
 
-pub lacks_within : (task : TaskParts) (layer : ℕ) (values : List ℕ) (rule : Rule) (from place var : ℕ) → FitsRule task rule → Lacks task layer values rule from place var → var < length task.variables
+pub lacks_within : (task : TaskParts) (layer : ℕ) (values : List ℕ) (rule : Rule) (from place var : ℕ)
+    → FitsRule task rule → Lacks task layer values rule from place var → var < length task.variables
 lacks_within task layer values rule from place var fit l =
     let fact = get_or rule.conds place (record { var = 0; val = 0 }) in
     let r : InRange task.variables fact = fit.conds.1 place (record { var = 0; val = 0 }) l.first.within in
     subst (λ (z : ℕ). z < length task.variables) (l.on (record { var = 0; val = 0 })) (within_some (λ v. fact.val < range v) task.variables fact.var r)
 
-pub lacks_waits : (task : TaskParts) (layer : ℕ) (values stack : List ℕ) (waiting : List (List ℕ)) (x : ℕ) (rule : Rule) (from place var : ℕ) → slice_get task.rules x ≡ Some rule → Lacks task layer values rule from place var → var < length waiting
+pub lacks_waits : (task : TaskParts) (layer : ℕ) (values stack : List ℕ) (waiting : List (List ℕ)) (x : ℕ)
+    (rule : Rule) (from place var : ℕ) → slice_get task.rules x ≡ Some rule
+    → Lacks task layer values rule from place var → var < length waiting
     → AllBut x task layer values stack waiting → AllPlaced task layer values stack (set waiting var (waiting_at waiting var ++ x ∷ []))
 lacks_waits task layer values stack waiting x rule from place var at l lt all =
     let d : Fact = record { var = 0; val = 0 } in
     let fact = get_or rule.conds place d in
     let e : fact.var ≡ var = l.on d in
     subst (λ (z : ℕ). AllPlaced task layer values stack (set waiting z (waiting_at waiting z ++ x ∷ []))) e
-    (back_waits task layer values stack waiting x rule fact at (Contains-get_or rule.conds place d l.first.within) (l.first.unmet d) (subst (λ (z : ℕ). z < length waiting) (sym e) lt) all)
+    (back_waits task layer values stack waiting x rule fact at (Contains-get_or rule.conds place d l.first.within)
+    (l.first.unmet d) (subst (λ (z : ℕ). z < length waiting) (sym e) lt) all)
 
 -- the rule of a number
 pub record Rule_at (task : TaskParts) (x : ℕ) (rule : Rule) : Type 0 where
@@ -166,10 +193,17 @@ pub record Rule_at (task : TaskParts) (x : ℕ) (rule : Rule) : Type 0 where
   pub within : rule.var < length task.variables
   pub in_rules : Contains task.rules rule
 
-pub rule_at : (task : TaskParts) (rules : List Rule) (x : ℕ) (rule : Rule) → Fits task → rules ≡ task.rules → x < length task.rules → rule ≡ get_or rules x rule → Rule_at task x rule
+pub rule_at : (task : TaskParts) (rules : List Rule) (x : ℕ) (rule : Rule) → Fits task → rules ≡ task.rules
+    → x < length task.rules → rule ≡ get_or rules x rule → Rule_at task x rule
 rule_at task rules x rule fits same lt is =
     let r = rule_within task rules x rule fits same lt is in
-    record { fit = r.0; at = slice_get_read task.rules (length task.rules) x rule refl lt (is ∙ ap (λ (z : List Rule). get_or z x rule) same); within = r.1; in_rules = r.2 }
+    record {
+      fit = r.0;
+      at = slice_get_read task.rules (length task.rules) x rule refl lt
+          (is ∙ ap (λ (z : List Rule). get_or z x rule) same);
+      within = r.1;
+      in_rules = r.2;
+    }
 
 pub none_left : (xs : List ℕ) → length xs ≡ 0 → xs ≡ []
 none_left [] e = refl

@@ -20,7 +20,8 @@ use Rattle.task_run.proofs.Layers.{Below, skip, layer_done, started, valued}
 use Rattle.task_run.proofs.Bucketing.{counting_within}
 
 -- The layers below a number are closed: those of the rules before the place. The rules from it on are for others.
-pub record IsClosedTo (task : TaskParts) (s : List ℕ) (rules : List Counting) (at : ℕ) (values stack : List ℕ) (waiting : List (List ℕ)) (places : List ℕ) : Type 0 where
+pub record IsClosedTo (task : TaskParts) (s : List ℕ) (rules : List Counting) (at : ℕ) (values stack : List ℕ)
+    (waiting : List (List ℕ)) (places : List ℕ) : Type 0 where
   pub layer : ℕ
   pub within : at ≤ length rules
   pub below : Below task s layer values
@@ -39,8 +40,11 @@ length_all zero a = refl
 length_all (suc n) a = (let ih = length_all n a in omega (arith, ih))
 
 -- before the first layer
-pub none_closed : (task : TaskParts) (s : List ℕ) (rules : List Counting) (values stack : List ℕ) (waiting : List (List ℕ)) (places : List ℕ) → Fits task → length values ≡ length task.variables
-    → ((var : ℕ) → var < length task.variables → get_or values var 0 ≡ start_value task.variables task.initial s var) → stack ≡ [] → waiting ≡ replicate (length task.variables) [] → places ≡ replicate (length task.rules) 0 → IsClosedTo task s rules 0 values stack waiting places
+pub none_closed : (task : TaskParts) (s : List ℕ) (rules : List Counting) (values stack : List ℕ)
+    (waiting : List (List ℕ)) (places : List ℕ) → Fits task → length values ≡ length task.variables
+    → ((var : ℕ) → var < length task.variables → get_or values var 0 ≡ start_value task.variables task.initial s var)
+    → stack ≡ [] → waiting ≡ replicate (length task.variables) [] → places ≡ replicate (length task.rules) 0
+    → IsClosedTo task s rules 0 values stack waiting places
 none_closed task s rules values stack waiting places fits each start_values no_stack no_waiting no_places = record {
   layer = 0;
   within = omega arith;
@@ -52,7 +56,8 @@ none_closed task s rules values stack waiting places fits each start_values no_s
   kept = record {
     each = ap (λ (z : List (List ℕ)). length z) no_waiting ∙ length_all (length task.variables) [];
     stacked = λ x h. absurd (subst (λ (z : List ℕ). Stands z x) no_stack h);
-    waits = λ var x h. absurd (subst (λ (z : List ℕ). Stands z x) (ap (λ (z : List (List ℕ)). get_or z var []) no_waiting ∙ same_all (length task.variables) var []) h);
+    waits = λ var x h. absurd (subst (λ (z : List ℕ). Stands z x)
+        (ap (λ (z : List (List ℕ)). get_or z var []) no_waiting ∙ same_all (length task.variables) var []) h);
   };
   past = λ k d lt. absurd (omega arith);
   left = λ k d low lt. omega arith;
@@ -65,7 +70,8 @@ record Found (rules : List Counting) (layer x : ℕ) : Type 0 where
   at_layer : (d : Counting) → (get_or rules k d).layer ≡ layer
   at_rule : (d : Counting) → (get_or rules k d).rule ≡ x
 
-found : (task : TaskParts) (rules : List Counting) (x : ℕ) (rule : Rule) (layer : ℕ) → AreRulesOf task rules → slice_get task.rules x ≡ Some rule → IsOwn task layer rule → Found rules layer x
+found : (task : TaskParts) (rules : List Counting) (x : ℕ) (rule : Rule) (layer : ℕ) → AreRulesOf task rules
+    → slice_get task.rules x ≡ Some rule → IsOwn task layer rule → Found rules layer x
 found task rules x rule layer are at own =
     let it : Counting = record { layer = layer; rule = x } in
     let c = are.each it (subst (λ (z : Option Rule). IsSomeAnd z (IsOwn task layer)) (sym at) own) in
@@ -86,12 +92,15 @@ pub record IsReady (task : TaskParts) (s : List ℕ) (layer : ℕ) (values stack
   pub kept : Kept task stack waiting
   pub placed : AllPlaced task layer values stack waiting
 
-pub begin_layer : (task : TaskParts) (s : List ℕ) (rules : List Counting) (at end layer : ℕ) (c : Counting) (values stack new : List ℕ) (waiting : List (List ℕ)) (places : List ℕ) → Fits task → AreRulesOf task rules → IsClosedTo task s rules at values stack waiting places
+pub begin_layer : (task : TaskParts) (s : List ℕ) (rules : List Counting) (at end layer : ℕ) (c : Counting)
+    (values stack new : List ℕ) (waiting : List (List ℕ)) (places : List ℕ) → Fits task → AreRulesOf task rules
+    → IsClosedTo task s rules at values stack waiting places
     → at < length rules → (get_or rules at c).layer ≡ layer → IsLayer rules layer at end
     → ((k : ℕ) (d : Counting) → at ≤ k → k < end → Stands new (get_or rules k d).rule)
     → ((x : ℕ) → Stands new x → Stands stack x ⊎ Any (λ (counting : Counting). counting.rule ≡ x) rules) → IsReady task s layer values new waiting places
 begin_layer task s rules at end layer c values stack new waiting places fits are i lt is l stand only = record {
-  below = subst (λ (z : ℕ). Below task s z values) (let e : (layer - i.layer) + i.layer ≡ layer = omega (arith, low) in e) (skip task s values (layer - i.layer) i.layer fits none i.below);
+  below = subst (λ (z : ℕ). Below task s z values) (let e : (layer - i.layer) + i.layer ≡ layer = omega
+      (arith, low) in e) (skip task s values (layer - i.layer) i.layer fits none i.below);
   fresh = record { each = i.fresh.each; later = λ x rule high at own far. i.fresh.later x rule high at own (λ k. far (omega (arith, k, low))) };
   kept = record { each = i.kept.each; stacked = in_rules; waits = i.kept.waits };
   placed = λ x rule at. go x rule at (fit_at x rule at);
@@ -101,7 +110,8 @@ begin_layer task s rules at end layer c values stack new waiting places fits are
     low = (let k = i.left at c (omega arith) lt in omega (arith, k, is))
 
     above : (k : ℕ) (d : Counting) → at ≤ k → k < length rules → layer ≤ (get_or rules k d).layer
-    above k d le far = (let h = are.by_layer at k c le far in let e = ap (λ (z : Counting). z.layer) (get_or_default rules k c d far) in omega (arith, h, e, is))
+    above k d le far = (let h = are.by_layer at k c le far in
+        let e = ap (λ (z : Counting). z.layer) (get_or_default rules k c d far) in omega (arith, h, e, is))
 
     none : (rule : Rule) (high : ℕ) → Contains task.rules rule → IsOwn task high rule → i.layer ≤ high → high < (layer - i.layer) + i.layer → ⊥
     none rule high in_all own far near =
@@ -115,7 +125,8 @@ begin_layer task s rules at end layer c values stack new waiting places fits are
     in_rules : (x : ℕ) → Stands new x → x < length task.rules
     in_rules x h = elim (only x h) [
       | inl old ↦ i.kept.stacked x old
-      | inr (k, counting, far, e, it) ↦ subst (λ (z : ℕ). z < length task.rules) it (counting_within task counting (subst (IsCounting task) e (are.counting k counting far)))
+      | inr (k, counting, far, e, it) ↦ subst (λ (z : ℕ). z < length task.rules) it
+          (counting_within task counting (subst (IsCounting task) e (are.counting k counting far)))
     ]
 
     fit_at : (x : ℕ) (rule : Rule) → slice_get task.rules x ≡ Some rule → FitsRule task rule
@@ -146,31 +157,40 @@ begin_layer task s rules at end layer c values stack new waiting places fits are
       ]
     ]
 
-pub end_layer : (task : TaskParts) (s : List ℕ) (rules : List Counting) (at end layer : ℕ) (c : Counting) (values stack next next_stack : List ℕ) (waiting next_waiting : List (List ℕ)) (places next_places : List ℕ) → Fits task → AreRulesOf task rules
-    → IsClosedTo task s rules at values stack waiting places → Below task s layer values → at < length rules → (get_or rules at c).layer ≡ layer → IsLayer rules layer at end
-    → Grows task layer values next → IsStuck task layer next → Kept task next_stack next_waiting → IsFresh task (layer + 1) next_places → IsClosedTo task s rules end next next_stack next_waiting next_places
-end_layer task s rules at end layer c values stack next next_stack waiting next_waiting places next_places fits are i below lt is l grows stuck kept fresh = record {
-  layer = layer + 1;
-  within = l.within;
-  below = subst (λ (z : ℕ). Below task s z next) (let e : suc layer ≡ layer + 1 = omega arith in e) (layer_done task s layer fits values next below grows stuck);
-  fresh = fresh;
-  kept = kept;
-  past = λ k d near. elim (cases_lt k at) [
-    | inl before ↦ (let h = i.past k d before in let h2 = i.left at c (omega arith) lt in omega (arith, h, h2, is))
-    | inr after ↦ (let h = l.same k d after near in omega (arith, h))
-  ];
-  left = λ k d far within. (
-      let inside : end < length rules = omega (arith, far, within) in
-      let up = l.rising in
-      let a = are.by_layer at end c up inside in
-      let b = are.by_layer end k c far within in
-      let e = ap (λ (z : Counting). z.layer) (get_or_default rules k c d within) in
-      let ne = l.last inside c in
-      omega (arith, a, b, e, is, ne));
-}
+pub end_layer : (task : TaskParts) (s : List ℕ) (rules : List Counting) (at end layer : ℕ) (c : Counting)
+    (values stack next next_stack : List ℕ) (waiting next_waiting : List (List ℕ)) (places next_places : List ℕ)
+    → Fits task → AreRulesOf task rules
+    → IsClosedTo task s rules at values stack waiting places → Below task s layer values → at < length rules
+    → (get_or rules at c).layer ≡ layer → IsLayer rules layer at end
+    → Grows task layer values next → IsStuck task layer next → Kept task next_stack next_waiting
+    → IsFresh task (layer + 1) next_places → IsClosedTo task s rules end next next_stack next_waiting
+    next_places
+end_layer task s rules at end layer c values stack next next_stack waiting next_waiting places next_places fits are i
+    below lt is l grows stuck kept fresh = record {
+      layer = layer + 1;
+      within = l.within;
+      below = subst (λ (z : ℕ). Below task s z next) (let e : suc layer ≡ layer + 1 = omega arith in e)
+          (layer_done task s layer fits values next below grows stuck);
+      fresh = fresh;
+      kept = kept;
+      past = λ k d near. elim (cases_lt k at) [
+        | inl before ↦ (let h = i.past k d before in let h2 = i.left at c (omega arith) lt in omega (arith, h, h2, is))
+        | inr after ↦ (let h = l.same k d after near in omega (arith, h))
+      ];
+      left = λ k d far within. (
+          let inside : end < length rules = omega (arith, far, within) in
+          let up = l.rising in
+          let a = are.by_layer at end c up inside in
+          let b = are.by_layer end k c far within in
+          let e = ap (λ (z : Counting). z.layer) (get_or_default rules k c d within) in
+          let ne = l.last inside c in
+          omega (arith, a, b, e, is, ne));
+    }
 
 -- after the last layer
-pub all_closed : (task : TaskParts) (s : List ℕ) (rules : List Counting) (at : ℕ) (values stack : List ℕ) (waiting : List (List ℕ)) (places : List ℕ) → Fits task → AreRulesOf task rules → IsClosedTo task s rules at values stack waiting places → length rules ≤ at → Valued task s values
+pub all_closed : (task : TaskParts) (s : List ℕ) (rules : List Counting) (at : ℕ) (values stack : List ℕ)
+    (waiting : List (List ℕ)) (places : List ℕ) → Fits task → AreRulesOf task rules
+    → IsClosedTo task s rules at values stack waiting places → length rules ≤ at → Valued task s values
 all_closed task s rules at values stack waiting places fits are i all =
     valued task s (65536 + i.layer) values fits most (skip task s values 65536 i.layer fits none i.below)
   where
@@ -191,4 +211,5 @@ all_closed task s rules at values stack waiting places fits are i all =
     most k d lt = (let v = get_or task.variables k d in more v.layer (fits.each_variable k d lt).range.layer_most)
 
 pub same_rules : (task parts : TaskParts) (rules counting : List Counting) → parts ≡ task → counting ≡ rules → AreRulesOf task rules → AreRulesOf parts counting
-same_rules task parts rules counting e f are = subst (λ (z : List Counting). AreRulesOf parts z) (sym f) (subst (λ (z : TaskParts). AreRulesOf z rules) (sym e) are)
+same_rules task parts rules counting e f are = subst (λ (z : List Counting). AreRulesOf parts z) (sym f)
+    (subst (λ (z : TaskParts). AreRulesOf z rules) (sym e) are)

@@ -14,5 +14,7 @@ unfolding Runs
 runs_append task s [] m a t e h = (t, subst (λ (x : List ℕ). Step task x a t) (sym e) h, refl)
 runs_append task s (b ∷ p) m a t (n, first, rest) h = (n, first, runs_append task n p m a t rest h)
 
-pub runs_more : (task : TaskParts) (s p : List ℕ) (i : ℕ) (m t : List ℕ) → i < length p → Runs task s (take i p) m → Step task m (get_or p i 0) t → Runs task s (take (i + 1) p) t
-runs_more task s p i m t lt h step = subst (λ (q : List ℕ). Runs task s q t) (sym (take_more p i 0 lt)) (runs_append task s (take i p) m (get_or p i 0) t h step)
+pub runs_more : (task : TaskParts) (s p : List ℕ) (i : ℕ) (m t : List ℕ) → i < length p → Runs task s (take i p) m
+    → Step task m (get_or p i 0) t → Runs task s (take (i + 1) p) t
+runs_more task s p i m t lt h step = subst (λ (q : List ℕ). Runs task s q t) (sym (take_more p i 0 lt))
+    (runs_append task s (take i p) m (get_or p i 0) t h step)

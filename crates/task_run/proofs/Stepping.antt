@@ -19,18 +19,27 @@ both : {X : Type 0} (P Q : X → Type 0) (o : Option X) → IsSomeAnd o P → If
 both P Q None h k = h
 both P Q (Some x) h k = k h
 
-pub step_after : (task : TaskParts) (s : List ℕ) (a : ℕ) (operator : Operator) (values next : List ℕ) → IsState task s → slice_get task.operators a ≡ Some operator → All (FitsEffect task.variables) operator.effects → Valued task s values
-    → ((var : ℕ) → ValueAfter (FiresBy values) operator.effects var (get_or values var 0) (get_or next var 0)) → length next ≡ length values → After task s a (base_values task.variables next)
+pub step_after : (task : TaskParts) (s : List ℕ) (a : ℕ) (operator : Operator) (values next : List ℕ) → IsState task s
+    → slice_get task.operators a ≡ Some operator → All (FitsEffect task.variables) operator.effects
+    → Valued task s values
+    → ((var : ℕ) → ValueAfter (FiresBy values) operator.effects var (get_or values var 0) (get_or next var 0))
+    → length next ≡ length values → After task s a (base_values task.variables next)
 step_after task s a operator values next state is fit valued after same =
     let far : length next ≡ length task.variables = same ∙ valued.each in
-    let Goal : Option Operator → Type 0 = λ o. IsSomeAnd o (λ x. (var : ℕ) → IsBase task var → ValueAfter (Fires task s) x.effects var (get_or s (place task var) 0) (get_or (base_values task.variables next) (place task var) 0)) in
+    let Goal : Option Operator → Type 0 = λ o. IsSomeAnd o (λ x. (var : ℕ) → IsBase task var → ValueAfter
+    (Fires task s) x.effects var (get_or s (place task var) 0)
+    (get_or (base_values task.variables next) (place task var) 0)) in
     record {
       each = base_length task.variables next far ∙ sym state.each;
       values = subst Goal (sym is) (λ var base.
           let within = both (λ v. v.layer ≡ None) (λ v. get_or s (place task var) 0 < range v) (slice_get task.variables var) base (state.in_range var) in
-          let old : get_or values var 0 ≡ get_or s (place task var) 0 = (valued.holds (record { var = var; val = get_or s (place task var) 0 }) within).0 (inl (base, refl)) in
+          let old : get_or values var 0 ≡ get_or s (place task var) 0 =
+          (valued.holds (record { var = var; val = get_or s (place task var) 0 }) within).0
+          (inl (base, refl)) in
           let new : get_or (base_values task.variables next) (place task var) 0 ≡ get_or next var 0 = value_at task.variables next var far base in
-          let moved = after_as (FiresBy values) (Fires task s) (FitsEffect task.variables) operator.effects var (get_or values var 0) (get_or next var 0) (recursion_from_All (FitsEffect task.variables) operator.effects fit)
+          let moved = after_as (FiresBy values) (Fires task s) (FitsEffect task.variables) operator.effects var
+          (get_or values var 0) (get_or next var 0) (recursion_from_All (FitsEffect task.variables)
+          operator.effects fit)
           (λ e f h. λ k d lt. (valued.holds (get_or e.conds k d) (f.conds.1 k d lt)).1 (h k d lt))
           (λ e f h. λ k d lt. (valued.holds (get_or e.conds k d) (f.conds.1 k d lt)).0 (h k d lt)) (after var) in
           subst (λ (z : ℕ). ValueAfter (Fires task s) operator.effects var z (get_or (base_values task.variables next) (place task var) 0)) old
@@ -41,11 +50,15 @@ pub if_ok : {T E : Type 0} (r : Result T E) (P Q : T → Type 0) → ((t : T) �
 if_ok (Ok t) P Q f h = f t h
 if_ok (Err e) P Q f h = h
 
-pub operator_at : (task : TaskParts) (operators : List Operator) (a : ℕ) (operator : Operator) → Fits task → operators ≡ task.operators → a < length task.operators → operator ≡ get_or operators a operator
+pub operator_at : (task : TaskParts) (operators : List Operator) (a : ℕ) (operator : Operator) → Fits task
+    → operators ≡ task.operators → a < length task.operators → operator ≡ get_or operators a operator
     → (slice_get task.operators a ≡ Some operator) × FitsOperator task.variables operator
 operator_at task operators a operator fits same lt is =
-    let is2 : operator ≡ get_or task.operators a operator = is ∙ ap (λ (z : List Operator). get_or z a operator) same in
-    (slice_get_read task.operators (length task.operators) a operator refl lt is2, subst (FitsOperator task.variables) (sym is2) (fits.each_operator a operator lt))
+    let is2 : operator ≡ get_or task.operators a operator = is ∙ ap (λ (z : List Operator). get_or z a operator) same in (
+      slice_get_read task.operators (length task.operators) a operator refl lt is2,
+      subst (FitsOperator task.variables)
+          (sym is2) (fits.each_operator a operator lt),
+    )
 
 pub effect_on : (variables : List Variable) (values : List ℕ) (e : Effect) → length values ≡ length variables → FitsEffect variables e → IsOn (length values) e
 effect_on variables values e same f = record {

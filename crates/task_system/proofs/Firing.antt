@@ -63,7 +63,8 @@ is_at_decides task layer var = go (layer_at task var) refl
 -- The conditions of a rule.
 
 -- the test of a condition decides whether it is met
-meets_decides : (task : TaskParts) (s : List ℕ) (low : ℕ → Bool) (Low : ℕ → Type 0) (layer : ℕ) (earlier : List Rule) (fact : Fact) → ((var : ℕ) → Decides (low var) (Low var))
+meets_decides : (task : TaskParts) (s : List ℕ) (low : ℕ → Bool) (Low : ℕ → Type 0) (layer : ℕ) (earlier : List Rule)
+    (fact : Fact) → ((var : ℕ) → Decides (low var) (Low var))
     → Decides (meets task s low layer earlier fact (layer_at task fact.var)) (Met task s Low layer earlier fact)
 meets_decides task s low Low layer earlier fact lows = go (layer_at task fact.var) refl
   where
@@ -84,7 +85,8 @@ meets_decides task s low Low layer earlier fact lows = go (layer_at task fact.va
         out (default below l lt e h) = (let k = derived_layer task fact.var below l in cc)
     go (Some (Some at)) is = (into, out)
       where
-        by_low : (r : Bool) → low fact.var ≡ r → at < layer → (fact.val == cond r (other_value task fact.var) (slice_index task.initial fact.var)) ≡ true → Met task s Low layer earlier fact
+        by_low : (r : Bool) → low fact.var ≡ r → at < layer → (fact.val == cond r (other_value task fact.var)
+            (slice_index task.initial fact.var)) ≡ true → Met task s Low layer earlier fact
         by_low true t lt e = raised at (layer_derived task fact.var at is) lt (eqb-true _ _ e) ((lows fact.var).0 t)
         by_low false t lt e = default at (layer_derived task fact.var at is) lt (eqb-true _ _ e) (λ h. false≢true (sym t ∙ (lows fact.var).1 h))
 
@@ -114,11 +116,14 @@ meets_decides task s low Low layer earlier fact lows = go (layer_at task fact.va
         out (raised below l lt e h) = or_right _ _ (and_from _ _ (lower below l lt) (rw ((lows fact.var).1 h) (eq-eqb _ _ e)))
         out (default below l lt e h) = or_right _ _ (and_from _ _ (lower below l lt) (rw (not_low (low fact.var) refl h) (eq-eqb _ _ e)))
 
-meets_all_decides : (task : TaskParts) (s : List ℕ) (low : ℕ → Bool) (Low : ℕ → Type 0) (layer : ℕ) (earlier : List Rule) (facts : List Fact) → ((var : ℕ) → Decides (low var) (Low var))
+meets_all_decides : (task : TaskParts) (s : List ℕ) (low : ℕ → Bool) (Low : ℕ → Type 0) (layer : ℕ)
+    (earlier : List Rule) (facts : List Fact) → ((var : ℕ) → Decides (low var) (Low var))
     → Decides (meets_all task s low layer earlier facts) (AllByRecursion (Met task s Low layer earlier) facts)
 meets_all_decides task s low Low layer earlier [] lows = ((λ e. tt), (λ h. refl))
 meets_all_decides task s low Low layer earlier (fact ∷ facts) lows =
-    Decides-and (meets task s low layer earlier fact (layer_at task fact.var)) (meets_all task s low layer earlier facts) (meets_decides task s low Low layer earlier fact lows) (meets_all_decides task s low Low layer earlier facts lows)
+    Decides-and (meets task s low layer earlier fact (layer_at task fact.var))
+    (meets_all task s low layer earlier facts) (meets_decides task s low Low layer earlier fact lows)
+    (meets_all_decides task s low Low layer earlier facts lows)
 
 -- The first rule that derives something new.
 
@@ -134,7 +139,9 @@ find_none : {X : Type 0} (p : X → Bool) (xs : List X) → find p xs ≡ None �
 find_none p [] e x i lt is = absurd (omega arith)
 find_none {X} p (y ∷ xs) e x i lt is = go (p y) refl e i lt is (λ h. find_none p xs h x)
   where
-    go : (b : Bool) → p y ≡ b → cond b (Some y) (find p xs) ≡ None → (i : ℕ) → i < suc (length xs) → get_or (y ∷ xs) i x ≡ x → (find p xs ≡ None → (i : ℕ) → i < length xs → get_or xs i x ≡ x → p x ≡ false) → p x ≡ false
+    go : (b : Bool) → p y ≡ b → cond b (Some y) (find p xs) ≡ None → (i : ℕ) → i < suc (length xs)
+        → get_or (y ∷ xs) i x ≡ x → (find p xs ≡ None → (i : ℕ) → i < length xs → get_or xs i x ≡ x → p x ≡ false)
+        → p x ≡ false
     go true t h i lt is ih = cc
     go false t h zero lt is ih = subst (λ (z : X). p z ≡ false) is t
     go false t h (suc i) lt is ih = ih h i (omega arith) is
@@ -165,7 +172,8 @@ unfired_less : (fired rules : List Rule) (rule : Rule) → unfired (rule ∷ fir
 unfired_less fired [] rule = omega arith
 unfired_less fired (r ∷ rules) rule = omega (arith, unfired_less fired rules rule, unfired_step fired rule r.var)
 
-unfired_falls : (fired rules : List Rule) (rule : Rule) (i : ℕ) → i < length rules → get_or rules i rule ≡ rule → has_rule rule.var fired ≡ false → unfired (rule ∷ fired) rules < unfired fired rules
+unfired_falls : (fired rules : List Rule) (rule : Rule) (i : ℕ) → i < length rules → get_or rules i rule ≡ rule
+    → has_rule rule.var fired ≡ false → unfired (rule ∷ fired) rules < unfired fired rules
 unfired_falls fired [] rule i lt is new = absurd (omega arith)
 unfired_falls fired (r ∷ rules) rule zero lt is new =
     let a : has_rule r.var fired ≡ false = ap (λ (z : Rule). has_rule z.var fired) is ∙ new in
@@ -173,11 +181,15 @@ unfired_falls fired (r ∷ rules) rule zero lt is new =
     rw (b, a) (omega (arith, unfired_less fired rules rule))
 unfired_falls fired (r ∷ rules) rule (suc i) lt is new = omega (arith, unfired_step fired rule r.var, unfired_falls fired rules rule i (omega arith) is new)
 
-all_fired : (fired rules : List Rule) → unfired fired rules ≡ 0 → (rule : Rule) (i : ℕ) → i < length rules → get_or rules i rule ≡ rule → has_rule rule.var fired ≡ true
+all_fired : (fired rules : List Rule) → unfired fired rules ≡ 0 → (rule : Rule) (i : ℕ) → i < length rules
+    → get_or rules i rule ≡ rule → has_rule rule.var fired ≡ true
 all_fired fired [] e rule i lt is = absurd (omega arith)
 all_fired fired (r ∷ rules) e rule i lt is = go (has_rule r.var fired) refl e (λ h. all_fired fired rules h rule) i lt is
   where
-    go : (b : Bool) → has_rule r.var fired ≡ b → cond b 0 1 + unfired fired rules ≡ 0 → (unfired fired rules ≡ 0 → (i : ℕ) → i < length rules → get_or rules i rule ≡ rule → has_rule rule.var fired ≡ true) → (i : ℕ) → i < suc (length rules) → get_or (r ∷ rules) i rule ≡ rule → has_rule rule.var fired ≡ true
+    go : (b : Bool) → has_rule r.var fired ≡ b → cond b 0 1 + unfired fired rules ≡ 0
+        → (unfired fired rules ≡ 0 → (i : ℕ) → i < length rules → get_or rules i rule ≡ rule
+        → has_rule rule.var fired ≡ true) → (i : ℕ) → i < suc (length rules) → get_or (r ∷ rules) i rule ≡ rule
+        → has_rule rule.var fired ≡ true
     go true t h ih zero lt is = subst (λ (z : Rule). has_rule z.var fired ≡ true) is t
     go true t h ih (suc i) lt is = ih (omega arith) i (omega arith) is
     go false t h ih i lt is = absurd (omega arith)
@@ -193,17 +205,28 @@ module _ (task : TaskParts) (s : List ℕ) (low : ℕ → Bool) (Low : ℕ → T
   grown zero = record { derives = tt; far = inr (omega (arith, unfired_most task.rules [])) }
   grown (suc most) = go (find (derives_more task s low layer (fired_rules task s low layer most)) task.rules) refl (grown most)
     where
-      go : (o : Option Rule) → find (derives_more task s low layer (fired_rules task s low layer most)) task.rules ≡ o → Grown most (fired_rules task s low layer most) → Grown (suc most) (cons_option o (fired_rules task s low layer most))
-      go None e g = record { derives = g.derives; far = inl (record { closed = λ rule counts at met. closed rule counts at met (has_rule rule.var fired) refl }) }
+      go : (o : Option Rule) → find (derives_more task s low layer (fired_rules task s low layer most)) task.rules ≡ o
+          → Grown most (fired_rules task s low layer most)
+          → Grown (suc most) (cons_option o (fired_rules task s low layer most))
+      go None e g = record {
+        derives = g.derives;
+        far = inl (record
+            { closed = λ rule counts at met. closed rule counts at met (has_rule rule.var fired) refl });
+      }
         where
           fired : List Rule
           fired = fired_rules task s low layer most
 
-          closed : (rule : Rule) → Counts task rule → HasLayer task rule.var layer → AllByRecursion (Met task s Low layer fired) rule.conds → (b : Bool) → has_rule rule.var fired ≡ b → HasRule rule.var fired
+          closed : (rule : Rule) → Counts task rule → HasLayer task rule.var layer
+              → AllByRecursion (Met task s Low layer fired) rule.conds → (b : Bool) → has_rule rule.var fired ≡ b
+              → HasRule rule.var fired
           closed rule counts at met true t = (has_rule_decides rule.var fired).0 t
           closed rule counts at met false t =
               let c = counts.0 in
-              let passes : derives_more task s low layer fired rule ≡ true = and_from _ _ (eq-eqb _ _ counts.1) (and_from _ _ ((is_at_decides task layer rule.var).1 at) (and_from _ _ (not_from_false _ t) ((meets_all_decides task s low Low layer fired rule.conds lows).1 met))) in
+              let passes : derives_more task s low layer fired rule ≡ true =
+              and_from _ _ (eq-eqb _ _ counts.1) (and_from _ _ ((is_at_decides task layer rule.var).1 at)
+              (and_from _ _ (not_from_false _ t)
+              ((meets_all_decides task s low Low layer fired rule.conds lows).1 met))) in
               let fails : derives_more task s low layer fired rule ≡ false = find_none (derives_more task s low layer fired) task.rules e rule c.0 c.1 c.2 in
               absurd (false≢true (sym fails ∙ passes))
       go (Some rule) e g =
@@ -214,9 +237,16 @@ module _ (task : TaskParts) (s : List ℕ) (low : ℕ → Bool) (Low : ℕ → T
           let r = and_parts _ _ q.1 in
           let new : has_rule rule.var fired ≡ false = not-true _ r.0 in
           record {
-            derives = ((f.0, eqb-true _ _ p.0), (is_at_decides task layer rule.var).0 q.0, (meets_all_decides task s low Low layer fired rule.conds lows).0 r.1, g.derives);
+            derives = (
+              (f.0, eqb-true _ _ p.0),
+              (is_at_decides task layer rule.var).0 q.0,
+              (meets_all_decides task s low Low layer fired rule.conds lows).0 r.1,
+              g.derives,
+            );
             far = elim g.far [
-              | inl c ↦ absurd (false≢true (sym new ∙ (has_rule_decides rule.var fired).1 (c.closed rule (f.0, eqb-true _ _ p.0) ((is_at_decides task layer rule.var).0 q.0) ((meets_all_decides task s low Low layer fired rule.conds lows).0 r.1))))
+              | inl c ↦ absurd (false≢true (sym new ∙ (has_rule_decides rule.var fired).1
+                  (c.closed rule (f.0, eqb-true _ _ p.0) ((is_at_decides task layer rule.var).0 q.0)
+                  ((meets_all_decides task s low Low layer fired rule.conds lows).0 r.1))))
               | inr h ↦ inr (omega (arith, h, unfired_falls fired task.rules rule f.0.0 f.0.1 f.0.2 new))
             ];
           }
@@ -225,11 +255,15 @@ module _ (task : TaskParts) (s : List ℕ) (low : ℕ → Bool) (Low : ℕ → T
   fired_closed : Closed task s Low layer (fired_rules task s low layer (length task.rules))
   fired_closed = elim (grown (length task.rules)).far [
     | inl c ↦ c
-    | inr h ↦ record { closed = λ rule counts at met. (has_rule_decides rule.var _).0 (all_fired _ task.rules (omega (arith, h)) rule counts.0.0 counts.0.1 counts.0.2) }
+    | inr h ↦ record {
+      closed = λ rule counts at met. (has_rule_decides rule.var _).0
+          (all_fired _ task.rules (omega (arith, h)) rule counts.0.0 counts.0.1 counts.0.2);
+    }
   ]
 
   -- a rule for var fires exactly where a list of rules of the layer derives var
-  pub fired_decides : (var : ℕ) → Decides (has_rule var (fired_rules task s low layer (length task.rules))) ((last : Rule) × (earlier : List Rule) × (last.var ≡ var) × Derives task s Low layer (last ∷ earlier))
+  pub fired_decides : (var : ℕ) → Decides (has_rule var (fired_rules task s low layer (length task.rules)))
+      ((last : Rule) × (earlier : List Rule) × (last.var ≡ var) × Derives task s Low layer (last ∷ earlier))
   fired_decides var =
       let fired = fired_rules task s low layer (length task.rules) in
       let d = has_rule_decides var fired in (

@@ -48,32 +48,39 @@ module _ (Plan : List ℕ → Type 0) (Alike : List ℕ → List ℕ → Type 0)
   }
 
   -- what is cheaper than the last member is listed, so a plan that isn't listed costs as much
-  last_cost : (plans : List (List ℕ)) (p : List ℕ) → IsRightList Plan Alike cost plans → Plan p → ¬ IsAmong Alike plans p → (d : ℕ) → 0 < length (map cost plans) → get_or (map cost plans) (length (map cost plans) - 1) d ≤ cost p
+  last_cost : (plans : List (List ℕ)) (p : List ℕ) → IsRightList Plan Alike cost plans → Plan p
+      → ¬ IsAmong Alike plans p → (d : ℕ) → 0 < length (map cost plans)
+      → get_or (map cost plans) (length (map cost plans) - 1) d ≤ cost p
   last_cost plans p h plan off d some =
       let n : length (map cost plans) ≡ length plans = length-map plans cost in
       let lt : length plans - 1 < length plans = omega (arith, n, some) in
       let dearest : List ℕ = get_or plans (length plans - 1) p in
       let is : slice_get plans (length plans - 1) ≡ Some dearest = slice_get-get_or plans (length plans - 1) p lt in
-      let cheapest = if_at (λ dearest. (q : List ℕ) → Plan q → cost q < cost dearest → IsAmong Alike plans q) (slice_get plans (length plans - 1)) dearest is h.cheapest in
+      let cheapest = if_at (λ dearest. (q : List ℕ) → Plan q → cost q < cost dearest → IsAmong Alike plans q)
+      (slice_get plans (length plans - 1)) dearest is h.cheapest in
       let here : get_or (map cost plans) (length plans - 1) d ≡ cost dearest = get_or-map cost plans (length plans - 1) p d lt in
       let le : cost dearest ≤ cost p = elim (cases_lt (cost p) (cost dearest)) [ inl less ↦ absurd (off (cheapest p plan less)) | inr more ↦ more ] in
       rw n (omega (arith, here, le))
 
-  pub more_right : ((p q : List ℕ) → Alike p q → Alike q p) → (plans : List (List ℕ)) (p : List ℕ) → IsRightList Plan Alike cost plans → Plan p → ¬ IsAmong Alike plans p
+  pub more_right : ((p q : List ℕ) → Alike p q → Alike q p) → (plans : List (List ℕ)) (p : List ℕ)
+      → IsRightList Plan Alike cost plans → Plan p → ¬ IsAmong Alike plans p
       → ((q : List ℕ) → Plan q → cost q < cost p → IsAmong Alike plans q) → IsRightList Plan Alike cost (plans ++ p ∷ [])
   more_right flip plans p h plan off cheaper = record {
     each = All-push Plan plans p h.each plan;
     different = apart;
-    costs = subst IsNonDecreasing (sym (map-append cost plans (p ∷ []))) (IsNonDecreasingBy-push (λ x. x) (map cost plans) (cost p) h.costs (last_cost plans p h plan off));
+    costs = subst IsNonDecreasing (sym (map-append cost plans (p ∷ [])))
+        (IsNonDecreasingBy-push (λ x. x) (map cost plans) (cost p) h.costs (last_cost plans p h plan off));
     cheapest = subst (λ o. IfSome o (λ dearest. (q : List ℕ) → Plan q → cost q < cost dearest → IsAmong Alike (plans ++ p ∷ []) q))
-        (sym (slice_get_last plans p (length (plans ++ p ∷ []) - 1) (omega (arith, length_push plans p)))) (λ q other lt. any_left (Alike q) plans p (cheaper q other lt));
+        (sym (slice_get_last plans p (length (plans ++ p ∷ []) - 1) (omega (arith, length_push plans p))))
+        (λ q other lt. any_left (Alike q) plans p (cheaper q other lt));
   }
     where
       -- the last place, or one before it
       last_or : (j : ℕ) → j < length (plans ++ p ∷ []) → (j < length plans) ⊎ (j ≡ length plans)
       last_or j within = elim (cases_lt j (length plans)) [ inl lt ↦ inl lt | inr le ↦ inr (omega (arith, length_push plans p, within, le)) ]
 
-      apart : (i j : ℕ) → i < j → j < length (plans ++ p ∷ []) → IfSome (slice_get (plans ++ p ∷ []) i) (λ a. IfSome (slice_get (plans ++ p ∷ []) j) (λ b. ¬ Alike a b))
+      apart : (i j : ℕ) → i < j → j < length (plans ++ p ∷ [])
+          → IfSome (slice_get (plans ++ p ∷ []) i) (λ a. IfSome (slice_get (plans ++ p ∷ []) j) (λ b. ¬ Alike a b))
       apart i j lt within = elim (last_or j within) [
         | inl inner ↦ (
             let first : i < length plans = omega (arith, lt, inner) in
@@ -90,6 +97,7 @@ same_flip Loopless p q h = sym h
 same_flip Unordered p q h = (λ a. sym (h a))
 
 -- a right list of a system grows by its cheapest plan that isn't listed
-pub grow_law : (system : System) (mode : Mode) (plans : List (List ℕ)) (p : List ℕ) → IsRight system mode plans → IsPlanOf system mode p → ¬ IsListed mode plans p
+pub grow_law : (system : System) (mode : Mode) (plans : List (List ℕ)) (p : List ℕ) → IsRight system mode plans
+    → IsPlanOf system mode p → ¬ IsListed mode plans p
     → ((q : List ℕ) → IsPlanOf system mode q → cost_of system q < cost_of system p → IsListed mode plans q) → IsRight system mode (plans ++ p ∷ [])
 grow_law system mode plans p = more_right (IsPlanOf system mode) (Same mode) (cost_of system) (same_flip mode) plans p

@@ -41,7 +41,8 @@ pub record Begun (low high : ℕ) (xs : List State) (s : State) : Type 0 where
 before_listed : (x : ℕ) (xs : List State) (s : State) → Listed (before x xs) s → Begun x (x + 1) xs s
 before_listed x [] s h = absurd h
 before_listed x (y ∷ xs) s (inl e) = record { x = x; rest = y; is = sym e; least = omega arith; most = omega arith; listed = inl refl }
-before_listed x (y ∷ xs) s (inr h) = (let b = before_listed x xs s h in record { x = b.x; rest = b.rest; is = b.is; least = b.least; most = b.most; listed = inr b.listed })
+before_listed x (y ∷ xs) s (inr h) = (let b = before_listed x xs s h in record
+    { x = b.x; rest = b.rest; is = b.is; least = b.least; most = b.most; listed = inr b.listed })
 
 -- so many values, from the first number up, before each state of the list
 abbrev pub all_before : ℕ → ℕ → List State → List State
@@ -58,7 +59,15 @@ pub all_listed : (n low : ℕ) (xs : List State) (s : State) → Listed (all_bef
 all_listed zero low xs s h = absurd h
 all_listed (suc n) low xs s h = elim (listed_cases (before low xs) _ s h) [
   | inl k ↦ (let b = before_listed low xs s k in record { x = b.x; rest = b.rest; is = b.is; least = b.least; most = omega (arith, b.most); listed = b.listed })
-  | inr k ↦ (let b = all_listed n (low + 1) xs s k in record { x = b.x; rest = b.rest; is = b.is; least = omega (arith, b.least); most = omega (arith, b.most); listed = b.listed })
+  | inr k ↦ (let b = all_listed n (low + 1) xs s k in record {
+    x = b.x;
+    rest = b.rest;
+    is = b.is;
+    least = omega (arith, b.least);
+    most =
+        omega (arith, b.most);
+    listed = b.listed;
+  })
 ]
 
 -- Each once.
@@ -86,7 +95,8 @@ same_rest x y s t e = cc
 before_different : (x : ℕ) (xs : List State) → AllDifferent xs → AllDifferent (before x xs)
 before_different x [] h = tt
 before_different x (s ∷ xs) h = (
-  apart (x ∷ s) (before x xs) (λ l. let b = before_listed x xs (x ∷ s) l in unlisted s xs h.0 (subst (Listed xs) (sym (same_rest x b.x s b.rest b.is)) b.listed)),
+  apart (x ∷ s) (before x xs) (λ l. let b = before_listed x xs (x ∷ s) l in unlisted s xs h.0
+      (subst (Listed xs) (sym (same_rest x b.x s b.rest b.is)) b.listed)),
   before_different x xs h.1,
 )
 
@@ -95,7 +105,8 @@ same_first x y s t e = cc
 
 pub all_different : (n low : ℕ) (xs : List State) → AllDifferent xs → AllDifferent (all_before low n xs)
 all_different zero low xs h = tt
-all_different (suc n) low xs h = append_different (before low xs) (all_before (low + 1) n xs) (before_different low xs h) (all_different n (low + 1) xs h) no_share
+all_different (suc n) low xs h = append_different (before low xs) (all_before (low + 1) n xs)
+    (before_different low xs h) (all_different n (low + 1) xs h) no_share
   where
     no_share : (s : State) → Listed (before low xs) s → ¬ Listed (all_before (low + 1) n xs) s
     no_share s k l =

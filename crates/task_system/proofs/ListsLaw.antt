@@ -22,19 +22,23 @@ map_same c d same [] = refl
 map_same c d same (p ∷ plans) = ap (λ (z : ℕ). z ∷ map c plans) (same p) ∙ ap (λ (z : List ℕ). d p ∷ z) (map_same c d same plans)
 
 -- a right list is one for what is a plan and costs the same
-right_as : (P Q : List ℕ → Type 0) (Alike : List ℕ → List ℕ → Type 0) (c d : List ℕ → ℕ) → ((p : List ℕ) → P p → Q p) → ((p : List ℕ) → Q p → P p) → ((p : List ℕ) → c p ≡ d p)
+right_as : (P Q : List ℕ → Type 0) (Alike : List ℕ → List ℕ → Type 0) (c d : List ℕ → ℕ) → ((p : List ℕ) → P p → Q p)
+    → ((p : List ℕ) → Q p → P p) → ((p : List ℕ) → c p ≡ d p)
     → (plans : List (List ℕ)) → IsRightList P Alike c plans → IsRightList Q Alike d plans
 right_as P Q Alike c d to back same plans h = record {
   each = All-weaker P Q to plans h.each;
   different = h.different;
   costs = subst IsNonDecreasing (map_same c d same plans) h.costs;
   cheapest =
-      if_weaker (λ dearest. (p : List ℕ) → P p → c p < c dearest → IsAmong Alike plans p) (λ dearest. (p : List ℕ) → Q p → d p < d dearest → IsAmong Alike plans p) (slice_get plans (length plans - 1))
+      if_weaker (λ dearest. (p : List ℕ) → P p → c p < c dearest → IsAmong Alike plans p)
+      (λ dearest. (p : List ℕ) → Q p → d p < d dearest → IsAmong Alike plans p)
+      (slice_get plans (length plans - 1))
       (λ dearest k p q lt. k p (back p q) (let a = same p in let b = same dearest in omega (arith, a, b, lt))) h.cheapest;
 }
 
 -- what the task calls a right list is one of its plans
-pub right_form : (task : TaskParts) (mode : Mode) (plans : List (List ℕ)) → meaning.IsRight task mode plans ↔ IsRightList (meaning.IsPlanOf task mode) (Same mode) (meaning.cost_of task) plans
+pub right_form : (task : TaskParts) (mode : Mode) (plans : List (List ℕ)) → meaning.IsRight task mode plans
+    ↔ IsRightList (meaning.IsPlanOf task mode) (Same mode) (meaning.cost_of task) plans
 right_form task mode plans = (
   (λ h. record { each = h.each; different = h.different; costs = h.costs; cheapest = h.cheapest }),
   (λ h. record { each = h.each; different = h.different; costs = h.costs; cheapest = h.cheapest }),
@@ -52,10 +56,12 @@ right_law task mode plans fits =
 
 -- The laws of the ends.
 
-pub listed_law : (task : TaskParts) (mode : Mode) (plans : List (List ℕ)) → Fits task → AllListed (system_of task) mode plans ↔ meaning.AllListed task mode plans
+pub listed_law : (task : TaskParts) (mode : Mode) (plans : List (List ℕ)) → Fits task
+    → AllListed (system_of task) mode plans ↔ meaning.AllListed task mode plans
 listed_law task mode plans fits = ((λ h p is. h p ((mode_law task mode p fits).1 is)), (λ h p is. h p ((mode_law task mode p fits).0 is)))
 
-pub range_law : (task : TaskParts) (mode : Mode) (plans : List (List ℕ)) → Fits task → AllInRange (system_of task) mode plans ↔ meaning.AllInRange task mode plans
+pub range_law : (task : TaskParts) (mode : Mode) (plans : List (List ℕ)) → Fits task
+    → AllInRange (system_of task) mode plans ↔ meaning.AllInRange task mode plans
 range_law task mode plans fits = (
   (λ h p is lt. h p ((mode_law task mode p fits).1 is) (subst (λ (n : ℕ). n < 2 ^ 64) (sym (cost_law task p)) lt)),
   (λ h p is lt. h p ((mode_law task mode p fits).0 is) (subst (λ (n : ℕ). n < 2 ^ 64) (cost_law task p) lt)),

@@ -19,7 +19,11 @@ pub leads_law : (task : TaskParts) (s : List ℕ) (a : ℕ) (t : List ℕ) → F
 leads_law task s a t fits state =
     let l = step_law task s a t fits state in (
       (λ h. l.0 h.step),
-      (λ h. record { number = within_some (λ operator. All (Holds task s) operator.prevail × All (Allows task s) operator.effects) task.operators a h.0; step = l.1 h }),
+      (λ h. record {
+        number = within_some (λ operator. All (Holds task s) operator.prevail × All (Allows task s)
+            operator.effects) task.operators a h.0;
+        step = l.1 h;
+      }),
     )
 
 -- a run begins in a listed state
@@ -27,7 +31,8 @@ pub start_listed : (task : TaskParts) → Fits task → Listed (system_of task).
 start_listed task fits = (states_law task (system_of task).initial).0 (start_law task fits).state
 
 -- and passes listed states alone
-pub leads_listed : (task : TaskParts) (s : List ℕ) (a : ℕ) (t : List ℕ) → Fits task → Listed (system_of task).states s → Leads (system_of task) a s t → Listed (system_of task).states t
+pub leads_listed : (task : TaskParts) (s : List ℕ) (a : ℕ) (t : List ℕ) → Fits task → Listed (system_of task).states s
+    → Leads (system_of task) a s t → Listed (system_of task).states t
 leads_listed task s a t fits from h =
     let state = (states_law task s).1 from in
     (states_law task t).0 (step_state task s a t fits state ((leads_law task s a t fits state).0 h))

@@ -16,7 +16,9 @@ are_equal_decides [] [] = ((λ _. refl), (λ _. refl))
 are_equal_decides [] (b ∷ q) = ((λ e. absurd (false≢true e)), (λ e. cc))
 are_equal_decides (a ∷ p) [] = ((λ e. absurd (false≢true e)), (λ e. cc))
 are_equal_decides (a ∷ p) (b ∷ q) =
-    Decides-like ((a == b) && are_equal p q) (λ h. let x = h.0 in let y = h.1 in cc) (λ e. (heads a b p q e, tails a b p q e)) (Decides-and (a == b) (are_equal p q) (Decides-eqb a b) (are_equal_decides p q))
+    Decides-like ((a == b) && are_equal p q) (λ h. let x = h.0 in let y = h.1 in cc)
+    (λ e. (heads a b p q e, tails a b p q e)) (Decides-and (a == b) (are_equal p q) (Decides-eqb a b)
+    (are_equal_decides p q))
   where
     heads : (a b : ℕ) (p q : List ℕ) → a ∷ p ≡ b ∷ q → a ≡ b
     heads a b p q e = cc
@@ -35,7 +37,8 @@ stands_or_never a (b ∷ p) = elim (cases_eq a b) [
   | inl e ↦ inl (0, omega arith, sym e)
   | inr ne ↦ elim (stands_or_never a p) [
     | inl h ↦ inl (suc h.0, omega (arith, h.1), h.2)
-    | inr none ↦ inr (let step : times a (b ∷ p) ≡ cond (a == b) 1 0 + times a p = sum_by-cons (λ b. cond (a == b) 1 0) b p in step ∙ rw (ne_eqb a b ne) (omega (arith, none)))
+    | inr none ↦ inr (let step : times a (b ∷ p) ≡ cond (a == b) 1 0 + times a p =
+        sum_by-cons (λ b. cond (a == b) 1 0) b p in step ∙ rw (ne_eqb a b ne) (omega (arith, none)))
   ]
 ]
 
@@ -54,4 +57,6 @@ same_law TopK p q = are_equal_decides p q
 same_law Loopless p q = are_equal_decides p q
 same_law Unordered p q =
     Decides-like (list_all (λ a. times a p == times a q) (p ++ q)) (as_often p q) (λ h k d lt. h _)
-    (Decides-by_and (λ a. times a p == times a q) (λ a. times a p ≡ times a q) (list_all (λ a. times a p == times a q)) (λ a. Decides-eqb (times a p) (times a q)) refl (λ _ _. refl) (p ++ q))
+    (Decides-by_and (λ a. times a p == times a q) (λ a. times a p ≡ times a q)
+    (list_all (λ a. times a p == times a q)) (λ a. Decides-eqb (times a p) (times a q)) refl
+    (λ _ _. refl) (p ++ q))

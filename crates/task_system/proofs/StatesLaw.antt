@@ -22,7 +22,8 @@ count_more v variables b t = sum_by-cons (λ (y : Variable). cond (is_base y) 1 
 
 -- One variable more, or less.
 
-more_base : (v : Variable) (variables : List Variable) (x : ℕ) (s : List ℕ) → is_base v ≡ true → x < range v → StateOf variables s → StateOf (v ∷ variables) (x ∷ s)
+more_base : (v : Variable) (variables : List Variable) (x : ℕ) (s : List ℕ) → is_base v ≡ true → x < range v
+    → StateOf variables s → StateOf (v ∷ variables) (x ∷ s)
 more_base v variables x s t lt h = record {
   each = omega (arith, count_more v variables true t, h.each);
   in_range = at;
@@ -31,14 +32,16 @@ more_base v variables x s t lt h = record {
     at : (var : ℕ) → IfSome (slice_get (v ∷ variables) var) (λ w. w.layer ≡ None → get_or (x ∷ s) (count_by is_base (take var (v ∷ variables))) 0 < range w)
     at zero = (λ _. lt)
     at (suc var) =
-        let n : suc (count_by is_base (take var variables)) ≡ count_by is_base (v ∷ take var variables) = omega (arith, count_more v (take var variables) true t) in
+        let n : suc (count_by is_base (take var variables)) ≡ count_by is_base (v ∷ take var variables) =
+        omega (arith, count_more v (take var variables) true t) in
         subst (λ (k : ℕ). IfSome (slice_get variables var) (λ w. w.layer ≡ None → get_or (x ∷ s) k 0 < range w)) n (h.in_range var)
 
 less_base : (v : Variable) (variables : List Variable) (x : ℕ) (s : List ℕ) → is_base v ≡ true → StateOf (v ∷ variables) (x ∷ s) → StateOf variables s
 less_base v variables x s t h = record {
   each = (let k : suc (length s) ≡ count_by is_base (v ∷ variables) = h.each in omega (arith, count_more v variables true t));
   in_range = λ var.
-      let n : count_by is_base (v ∷ take var variables) ≡ suc (count_by is_base (take var variables)) = omega (arith, count_more v (take var variables) true t) in
+      let n : count_by is_base (v ∷ take var variables) ≡ suc (count_by is_base (take var variables)) =
+      omega (arith, count_more v (take var variables) true t) in
       subst (λ (k : ℕ). IfSome (slice_get variables var) (λ w. w.layer ≡ None → get_or (x ∷ s) k 0 < range w)) n (h.in_range (suc var));
 }
 
@@ -81,7 +84,8 @@ listed_of (v ∷ variables) s h = go (is_base v) refl s h (listed_of variables)
     go : (b : Bool) → is_base v ≡ b → (s : List ℕ) → StateOf (v ∷ variables) s → ((s : List ℕ) → StateOf variables s → Listed (assignments variables) s)
         → Listed (cond b (all_before 0 (range v) (assignments variables)) (assignments variables)) s
     go true t [] h ih = (let z : 0 ≡ count_by is_base (v ∷ variables) = h.each in absurd (omega (arith, count_more v variables true t)))
-    go true t (x ∷ s) h ih = listed_all (range v) 0 x (assignments variables) s (omega arith) (let k = h.in_range 0 (none_is v.layer t) in omega (arith, k)) (ih s (less_base v variables x s t h))
+    go true t (x ∷ s) h ih = listed_all (range v) 0 x (assignments variables) s (omega arith)
+        (let k = h.in_range 0 (none_is v.layer t) in omega (arith, k)) (ih s (less_base v variables x s t h))
     go false t s h ih = ih s (less_derived v variables s t h)
 
 of_listed : (variables : List Variable) (s : List ℕ) → Listed (assignments variables) s → StateOf variables s
@@ -92,7 +96,8 @@ of_listed (v ∷ variables) s h = go (is_base v) refl h (of_listed variables)
   where
     go : (b : Bool) → is_base v ≡ b → Listed (cond b (all_before 0 (range v) (assignments variables)) (assignments variables)) s
         → ((s : List ℕ) → Listed (assignments variables) s → StateOf variables s) → StateOf (v ∷ variables) s
-    go true t h ih = (let b = all_listed (range v) 0 (assignments variables) s h in subst (StateOf (v ∷ variables)) (sym b.is) (more_base v variables b.x b.rest t (omega (arith, b.most)) (ih b.rest b.listed)))
+    go true t h ih = (let b = all_listed (range v) 0 (assignments variables) s h in subst (StateOf (v ∷ variables))
+        (sym b.is) (more_base v variables b.x b.rest t (omega (arith, b.most)) (ih b.rest b.listed)))
     go false t h ih = more_derived v variables s t (ih s h)
 
 -- the states law: each state is listed, and nothing else

@@ -25,18 +25,25 @@ use Rattle.task_system.proofs.ValuesLaw.{values_law}
 
 have_all_decides : (values : List ℕ) (facts : List Fact) → Decides (have_all values facts) (All (HasValue values) facts)
 have_all_decides values facts =
-    Decides-by_and (λ (fact : Fact). get_or values fact.var 0 == fact.val) (HasValue values) (have_all values) (λ fact. Decides-eqb (get_or values fact.var 0) fact.val) refl (λ _ _. refl) facts
+    Decides-by_and (λ (fact : Fact). get_or values fact.var 0 == fact.val) (HasValue values) (have_all values)
+    (λ fact. Decides-eqb (get_or values fact.var 0) fact.val) refl (λ _ _. refl) facts
 
-allows_decides : (values : List ℕ) (var : ℕ) (pre : Option ℕ) → Decides (option_map_or (λ val. get_or values var 0 == val) pre true) (IfSome pre (λ val. get_or values var 0 ≡ val))
+allows_decides : (values : List ℕ) (var : ℕ) (pre : Option ℕ)
+    → Decides (option_map_or (λ val. get_or values var 0 == val) pre true)
+    (IfSome pre (λ val. get_or values var 0 ≡ val))
 allows_decides values var None = ((λ _. tt), (λ _. refl))
 allows_decides values var (Some val) = Decides-eqb (get_or values var 0) val
 
 allow_all_decides : (values : List ℕ) (effects : List Effect) → Decides (allow_all values effects) (All (AllowsBy values) effects)
 allow_all_decides values effects =
-    Decides-by_and (λ (effect : Effect). option_map_or (λ val. get_or values effect.var 0 == val) effect.pre true) (AllowsBy values) (allow_all values) (λ effect. allows_decides values effect.var effect.pre) refl (λ _ _. refl) effects
+    Decides-by_and (λ (effect : Effect). option_map_or (λ val. get_or values effect.var 0 == val) effect.pre true)
+    (AllowsBy values) (allow_all values) (λ effect. allows_decides values effect.var effect.pre)
+    refl (λ _ _. refl) effects
 
-applies_decides : (values : List ℕ) (operator : Operator) → Decides (have_all values operator.prevail && allow_all values operator.effects) (AppliesBy values operator)
-applies_decides values operator = Decides-and (have_all values operator.prevail) (allow_all values operator.effects) (have_all_decides values operator.prevail) (allow_all_decides values operator.effects)
+applies_decides : (values : List ℕ) (operator : Operator) → Decides
+    (have_all values operator.prevail && allow_all values operator.effects) (AppliesBy values operator)
+applies_decides values operator = Decides-and (have_all values operator.prevail) (allow_all values operator.effects)
+    (have_all_decides values operator.prevail) (allow_all_decides values operator.effects)
 
 -- The values after effects.
 
@@ -52,28 +59,37 @@ length_after old [] new = refl
 length_after old (e ∷ effects) new = length_after old effects (value_set old new e) ∙ length_set old new e
 
 -- one effect more
-set_after : (old : List ℕ) (done : List Effect) (e : Effect) (new : List ℕ) (var : ℕ) → IsOn (length new) e → ValueAfter (FiresBy old) done var (get_or old var 0) (get_or new var 0)
+set_after : (old : List ℕ) (done : List Effect) (e : Effect) (new : List ℕ) (var : ℕ) → IsOn (length new) e
+    → ValueAfter (FiresBy old) done var (get_or old var 0) (get_or new var 0)
     → ValueAfter (FiresBy old) (done ++ e ∷ []) var (get_or old var 0) (get_or (value_set old new e) var 0)
 set_after old done e new var on h = go (have_all old e.conds) refl
   where
-    go : (b : Bool) → have_all old e.conds ≡ b → ValueAfter (FiresBy old) (done ++ e ∷ []) var (get_or old var 0) (get_or (cond b (set new e.var e.post) new) var 0)
+    go : (b : Bool) → have_all old e.conds ≡ b → ValueAfter (FiresBy old) (done ++ e ∷ []) var (get_or old var 0)
+        (get_or (cond b (set new e.var e.post) new) var 0)
     go true t = written (FiresBy old) done e var (get_or old var 0) new ((have_all_decides old e.conds).0 t) on.var h
     go false t = unchanged (FiresBy old) done e var (get_or old var 0) (get_or new var 0) (λ _ f. not_from_Decides _ (have_all_decides old e.conds) t f) h
 
-values_after : (old : List ℕ) (done effects : List Effect) (new : List ℕ) (var : ℕ) → AllByRecursion (IsOn (length new)) effects → ValueAfter (FiresBy old) done var (get_or old var 0) (get_or new var 0)
+values_after : (old : List ℕ) (done effects : List Effect) (new : List ℕ) (var : ℕ)
+    → AllByRecursion (IsOn (length new)) effects → ValueAfter (FiresBy old) done var (get_or old var 0)
+    (get_or new var 0)
     → ValueAfter (FiresBy old) (done ++ effects) var (get_or old var 0) (get_or (fold (value_set old) new effects) var 0)
-values_after old done [] new var on h = subst (λ (z : List Effect). ValueAfter (FiresBy old) z var (get_or old var 0) (get_or new var 0)) (sym (append-nil done)) h
+values_after old done [] new var on h = subst (λ (z : List Effect). ValueAfter (FiresBy old) z var (get_or old var 0)
+    (get_or new var 0)) (sym (append-nil done)) h
 values_after old done (e ∷ effects) new var on h =
     let next = value_set old new e in
-    subst (λ (z : List Effect). ValueAfter (FiresBy old) z var (get_or old var 0) (get_or (fold (value_set old) next effects) var 0)) (append_assoc done (e ∷ []) effects)
-    (values_after old (done ++ e ∷ []) effects next var (subst (λ (n : ℕ). AllByRecursion (IsOn n) effects) (sym (length_set old new e)) on.1) (set_after old done e new var on.0 h))
+    subst (λ (z : List Effect). ValueAfter (FiresBy old) z var (get_or old var 0)
+    (get_or (fold (value_set old) next effects) var 0)) (append_assoc done (e ∷ []) effects)
+    (values_after old (done ++ e ∷ []) effects next var (subst (λ (n : ℕ). AllByRecursion (IsOn n) effects)
+    (sym (length_set old new e)) on.1) (set_after old done e new var on.0 h))
 
-all_on : (task : TaskParts) (values : List ℕ) (effects : List Effect) → length values ≡ length task.variables → AllByRecursion (FitsEffect task.variables) effects → AllByRecursion (IsOn (length values)) effects
+all_on : (task : TaskParts) (values : List ℕ) (effects : List Effect) → length values ≡ length task.variables
+    → AllByRecursion (FitsEffect task.variables) effects → AllByRecursion (IsOn (length values)) effects
 all_on task values [] e fit = tt
 all_on task values (x ∷ effects) e fit = (effect_on task.variables values x e fit.0, all_on task values effects e fit.1)
 
 -- where the operator leads by the values that hold
-after_values : (task : TaskParts) (s : List ℕ) (a : ℕ) (operator : Operator) (values : List ℕ) → IsState task s → slice_get task.operators a ≡ Some operator → FitsOperator task.variables operator → Valued task s values
+after_values : (task : TaskParts) (s : List ℕ) (a : ℕ) (operator : Operator) (values : List ℕ) → IsState task s
+    → slice_get task.operators a ≡ Some operator → FitsOperator task.variables operator → Valued task s values
     → After task s a (base_values task.variables (fold (value_set values) values operator.effects))
 after_values task s a operator values state is fit valued =
     let on = all_on task values operator.effects valued.each (recursion_from_All (FitsEffect task.variables) operator.effects fit.each) in
@@ -86,10 +102,12 @@ record Made (task : TaskParts) (s : List ℕ) (a : ℕ) (o : Option (List ℕ)) 
   leads : (t : List ℕ) → o ≡ Some t → Step task s a t
   applies : Applies task s a → (t : List ℕ) × (o ≡ Some t)
 
-made : (task : TaskParts) (s : List ℕ) (a : ℕ) → Fits task → IsState task s → (o : Option Operator) → slice_get task.operators a ≡ o → Made task s a (step_by task (values_in task s) o)
+made : (task : TaskParts) (s : List ℕ) (a : ℕ) → Fits task → IsState task s → (o : Option Operator)
+    → slice_get task.operators a ≡ o → Made task s a (step_by task (values_in task s) o)
 made task s a fits state None is = record {
   leads = λ t e. (cc);
-  applies = λ h. absurd (subst (λ (z : Option Operator). IsSomeAnd z (λ operator. All (Holds task s) operator.prevail × All (Allows task s) operator.effects)) is h);
+  applies = λ h. absurd (subst (λ (z : Option Operator). IsSomeAnd z
+      (λ operator. All (Holds task s) operator.prevail × All (Allows task s) operator.effects)) is h);
 }
 made task s a fits state (Some operator) is = by (have_all values operator.prevail && allow_all values operator.effects) refl
   where
@@ -134,4 +152,7 @@ pub goal_law : (task : TaskParts) (s : List ℕ) → Fits task → Decides (goal
 unfolding goal_holds
 goal_law task s fits =
     let valued = values_law task s fits in
-    Decides-like (have_all (values_in task s) task.goal) (λ h k d lt. (valued.holds (get_or task.goal k d) (fits.goal.1 k d lt)).1 (h k d lt)) (λ h k d lt. (valued.holds (get_or task.goal k d) (fits.goal.1 k d lt)).0 (h k d lt)) (have_all_decides (values_in task s) task.goal)
+    Decides-like (have_all (values_in task s) task.goal) (λ h k d lt.
+    (valued.holds (get_or task.goal k d) (fits.goal.1 k d lt)).1 (h k d lt))
+    (λ h k d lt. (valued.holds (get_or task.goal k d) (fits.goal.1 k d lt)).0 (h k d lt))
+    (have_all_decides (values_in task s) task.goal)

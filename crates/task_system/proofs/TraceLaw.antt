@@ -34,11 +34,13 @@ is_trace task (a ∷ p) s t fits state (next, first, rest) =
       trace (system_of task) (next_state (system_of task) a s) p,
       first,
       refl,
-      subst (λ (z : List ℕ). Trace task next p (trace (system_of task) z p)) (sym e) (is_trace task p next t fits (step_state task s a next fits state first) rest),
+      subst (λ (z : List ℕ). Trace task next p (trace (system_of task) z p)) (sym e)
+          (is_trace task p next t fits (step_state task s a next fits state first) rest),
     )
 
 -- the trace law
-pub trace_law : (task : TaskParts) (p s : List ℕ) (passed : List (List ℕ)) → Fits task → IsState task s → Trace task s p passed ↔ (((t : State) × Runs (system_of task) s p t) × (passed ≡ trace (system_of task) s p))
+pub trace_law : (task : TaskParts) (p s : List ℕ) (passed : List (List ℕ)) → Fits task → IsState task s
+    → Trace task s p passed ↔ (((t : State) × Runs (system_of task) s p t) × (passed ≡ trace (system_of task) s p))
 trace_law task p s passed fits state = (
   (λ h. let r = trace_runs task p s passed h in ((r.0, (runs_law task p s r.0 fits state).1 r.1), trace_is task p s passed fits state h)),
   (λ h. subst (Trace task s p) (sym h.1) (is_trace task p s h.0.0 fits state ((runs_law task p s h.0.0 fits state).0 h.0.1))),

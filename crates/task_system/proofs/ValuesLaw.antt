@@ -24,7 +24,8 @@ unfolding values_in
 value_at task s var lt = get_or-map-range_with_len (value_in task s) 0 (length task.variables) var var 0 lt (omega arith)
 
 -- a fact holds exactly where its variable has its value
-holds_value : (task : TaskParts) (s : List ℕ) (fact : Fact) → Fits task → InRange task.variables fact → Holds task s fact ↔ (value_in task s fact.var ≡ fact.val)
+holds_value : (task : TaskParts) (s : List ℕ) (fact : Fact) → Fits task → InRange task.variables fact
+    → Holds task s fact ↔ (value_in task s fact.var ≡ fact.val)
 unfolding value_in
 holds_value task s fact fits within = go (layer_at task fact.var) refl
   where
@@ -49,7 +50,8 @@ holds_value task s fact fits within = go (layer_at task fact.var) refl
         is_raised : RaisedBelow (suc layer) task s fact.var ↔ Raised task s fact.var
         is_raised = raised_by task s (suc layer) fact.var layer on (omega arith)
 
-        by : (r : Bool) → raised_below (suc layer) task s fact.var ≡ r → Holds task s fact ↔ (cond r (other_value task fact.var) (slice_index task.initial fact.var) ≡ fact.val)
+        by : (r : Bool) → raised_below (suc layer) task s fact.var ≡ r → Holds task s fact
+            ↔ (cond r (other_value task fact.var) (slice_index task.initial fact.var) ≡ fact.val)
         by true t = (to, λ e. inr (layer, on, ((λ _. is_raised.0 (decides.0 t)), (λ _. sym e))))
           where
             to : Holds task s fact → other_value task fact.var ≡ fact.val
@@ -58,7 +60,8 @@ holds_value task s fact fits within = go (layer_at task fact.var) refl
         by false t = (to, λ e. inr (layer, on, ((λ other. absurd (unlike e other)), (λ r. absurd (false≢true (sym t ∙ decides.1 (is_raised.1 r)))))))
           where
             unlike : get_or task.initial fact.var 0 ≡ fact.val → fact.val ≡ other_value task fact.var → ⊥
-            unlike e other = (let two = two_values task fact.var layer fits on in let i = two.initial in let v = fact_two task fact layer fits within on in omega (arith, i, v))
+            unlike e other = (let two = two_values task fact.var layer fits on in let i = two.initial in
+                let v = fact_two task fact layer fits within on in omega (arith, i, v))
 
             to : Holds task s fact → get_or task.initial fact.var 0 ≡ fact.val
             to (inl h) = (let k = base_layer task fact.var h.0 in cc)

@@ -13,7 +13,8 @@ any_is_in (q ∷ places) p = ap (λ (t : Bool). (q == p) || t) (any_is_in places
 pub either_of : (a b : List ℕ) (p : ℕ) (x y : Bool) → x ≡ list_any (λ q. q == p) a → y ≡ list_any (λ q. q == p) b → (x || y) ≡ (is_in a p || is_in b p)
 either_of a b p x y hx hy = ap (λ (t : Bool). t || y) (hx ∙ any_is_in a p) ∙ ap (λ (t : Bool). is_in a p || t) (hy ∙ any_is_in b p)
 
-pub free_of : (own wide : List ℕ) (p : ℕ) (x y : Bool) → x ≡ list_any (λ q. q == p) own → y ≡ list_any (λ q. q == p) wide → (x || not y) ≡ (is_in own p || not (is_in wide p))
+pub free_of : (own wide : List ℕ) (p : ℕ) (x y : Bool) → x ≡ list_any (λ q. q == p) own
+    → y ≡ list_any (λ q. q == p) wide → (x || not y) ≡ (is_in own p || not (is_in wide p))
 free_of own wide p x y hx hy = ap (λ (t : Bool). t || not y) (hx ∙ any_is_in own p) ∙ ap (λ (t : Bool). is_in own p || not t) (hy ∙ any_is_in wide p)
 
 -- a place of a state is in the united list exactly if it is in one of both

@@ -10,7 +10,9 @@ some_by : (found : Option Relation) (P Q R : Relation → Type 0) → IfSome fou
 some_by None P Q R p q f = tt
 some_by (Some x) P Q R p q f = f x p q
 
-pub found_by : {E : Type 0} (r : Result (Option Relation) E) (P Q R : Relation → Type 0) → IfOk r (λ found. IfSome found P) → IfOk r (λ found. IfSome found Q) → ((x : Relation) → P x → Q x → R x) → IfOk r (λ found. IfSome found R)
+pub found_by : {E : Type 0} (r : Result (Option Relation) E) (P Q R : Relation → Type 0)
+    → IfOk r (λ found. IfSome found P) → IfOk r (λ found. IfSome found Q) → ((x : Relation) → P x → Q x → R x)
+    → IfOk r (λ found. IfSome found R)
 found_by (Ok found) P Q R p q f = some_by found P Q R p q f
 found_by (Err e) P Q R p q f = tt
 
@@ -29,17 +31,23 @@ single_is (y ∷ []) x e is = ap (λ (z : Relation). z ∷ []) (sym is)
 single_is (y ∷ z ∷ zs) x e is = absurd (omega (arith, e))
 
 -- both lists were joined, or stand one after the other
-pub combines_joined : (o : Layout) (old new : List Node) (ls rs left right results : List Relation) (joined : Relation) (bound : ℕ) (found : Option Relation) → found ≡ Some joined → ls ≡ left → rs ≡ right
+pub combines_joined : (o : Layout) (old new : List Node) (ls rs left right results : List Relation)
+    (joined : Relation) (bound : ℕ) (found : Option Relation) → found ≡ Some joined → ls ≡ left → rs ≡ right
     → IfSome found (JoinsBoth o old ls rs bound new) → results ≡ joined ∷ [] → Combines o old left right bound new results
 combines_joined o old new ls rs left right results joined bound found e same_left same_right h is =
     let x = subst (λ (v : Option Relation). IfSome v (JoinsBoth o old ls rs bound new)) e h in
     inl (joined, is, (x.0, x.1, sym same_left ∙ x.2, sym same_right ∙ x.3, x.4, x.5))
 
-pub combines_apart : (o : Layout) (old new : List Node) (ls rs left right results : List Relation) (bound : ℕ) (found : Option Relation) → found ≡ None → ls ≡ left → rs ≡ right
+pub combines_apart : (o : Layout) (old new : List Node) (ls rs left right results : List Relation) (bound : ℕ)
+    (found : Option Relation) → found ≡ None → ls ≡ left → rs ≡ right
     → IfNone found (StayApart o old ls rs bound new) → results ≡ left ++ right → Combines o old left right bound new results
 combines_apart o old new ls rs left right results bound found e same_left same_right h is =
     let x = subst (λ (v : Option Relation). IfNone v (StayApart o old ls rs bound new)) e h in
-    inr (is, subst (λ (xs : List Relation). StayApart o old left xs bound new) same_right (subst (λ (xs : List Relation). StayApart o old xs rs bound new) same_left x))
+    inr (
+      is,
+      subst (λ (xs : List Relation). StayApart o old left xs bound new) same_right
+          (subst (λ (xs : List Relation). StayApart o old xs rs bound new) same_left x),
+    )
 
 -- a list cut in the middle
 pub record Halves (xs first second : List Relation) : Type 0 where
@@ -47,7 +55,8 @@ pub record Halves (xs first second : List Relation) : Type 0 where
   pub are : AreHalves first second
   pub fewer : length second < length xs
 
-pub halves_of : (xs first second : List Relation) (n half : ℕ) → n ≡ length xs → 2 ≤ n → half ≡ n / 2 → first ≡ take half xs → second ≡ drop half xs → Halves xs first second
+pub halves_of : (xs first second : List Relation) (n half : ℕ) → n ≡ length xs → 2 ≤ n → half ≡ n / 2
+    → first ≡ take half xs → second ≡ drop half xs → Halves xs first second
 halves_of xs first second n half e two is one rest =
     let a : length first ≡ half = ap (λ (ys : List Relation). length ys) one ∙ length-take-le half xs (omega (arith, e, is)) in
     let b : length second ≡ length xs - half = ap (λ (ys : List Relation). length ys) rest ∙ length-drop half xs in

@@ -14,7 +14,8 @@ use Rattle.trans_merge.proofs.Merged.{relation_kept, leads_kept, front_holds, be
 
 module _ (o : Layout) where
   -- a joined relation stays joined as the table grows
-  joined_kept : (old mid new : List Node) (a b r : Relation) → Keeps old new → Keeps mid new → a.root < length old → b.root < length old → IsJoined o old a b mid r → IsJoined o new a b new r
+  joined_kept : (old mid new : List Node) (a b r : Relation) → Keeps old new → Keeps mid new → a.root < length old
+      → b.root < length old → IsJoined o old a b mid r → IsJoined o new a b new r
   joined_kept old mid new a b r k l known_a known_b is = record {
     relation = relation_kept o mid new r l is.relation;
     touched = is.touched;
@@ -33,16 +34,27 @@ module _ (o : Layout) where
     first_known nodes xs a e all = subst (λ (rs : List Relation). All (IsRelation o nodes) rs) e all 0 a (omega arith)
 
     -- lists that stay apart do so as the table grows
-    apart_kept : (old mid new : List Node) (xs ys : List Relation) → IsReduced mid → IsReduced new → Keeps old new → Keeps mid new → All (IsRelation o old) xs → All (IsRelation o old) ys → StayApart o old xs ys bound mid → StayApart o new xs ys bound new
+    apart_kept : (old mid new : List Node) (xs ys : List Relation) → IsReduced mid → IsReduced new → Keeps old new
+        → Keeps mid new → All (IsRelation o old) xs → All (IsRelation o old) ys → StayApart o old xs ys bound mid
+        → StayApart o new xs ys bound new
     apart_kept old mid new xs ys rm rn k l first second h = elim h [
       | inl many ↦ inl many
       | inr (a, b, joined, is_a, is_b, made, large) ↦ (
           let one = first_known old xs a is_a first in
           let two = first_known old ys b is_b second in
-          inr (a, b, joined, is_a, is_b, joined_kept old mid new a b joined k l one.known two.known made, (λ few. large (at_most_before mid new joined.root bound rm rn l made.relation.known few))))
+          inr (
+            a,
+            b,
+            joined,
+            is_a,
+            is_b,
+            joined_kept old mid new a b joined k l one.known two.known made,
+            (λ few. large (at_most_before mid new joined.root bound rm rn l made.relation.known few)),
+          ))
     ]
 
-    pub halved_all : (nodes : List Node) (members results : List Relation) → All (IsRelation o nodes) members → IsHalved o bound nodes members results → All (IsRelation o nodes) results
+    pub halved_all : (nodes : List Node) (members results : List Relation) → All (IsRelation o nodes) members
+        → IsHalved o bound nodes members results → All (IsRelation o nodes) results
     halved_all nodes _ _ all nothing = all
     halved_all nodes _ _ all (single r) = all
     halved_all nodes _ _ all (joins left right a b joined halves first second made few) = one_known made.relation
@@ -51,11 +63,14 @@ module _ (o : Layout) where
         one_known is zero d lt = is
         one_known is (suc k) d lt = absurd (omega (arith, lt))
     halved_all nodes _ _ all (apart left right xs ys halves first second stay) =
-        All-append (IsRelation o nodes) xs ys (halved_all nodes left xs (front_holds (IsRelation o nodes) left right all) first) (halved_all nodes right ys (behind_holds (IsRelation o nodes) left right all) second)
+        All-append (IsRelation o nodes) xs ys (halved_all nodes left xs
+        (front_holds (IsRelation o nodes) left right all) first)
+        (halved_all nodes right ys (behind_holds (IsRelation o nodes) left right all) second)
 
     module _ (old new : List Node) (ro : IsReduced old) (rn : IsReduced new) (k : Keeps old new) where
       -- results stay right as the table grows
-      pub halved_kept : (members results : List Relation) → All (IsRelation o old) members → IsHalved o bound old members results → IsHalved o bound new members results
+      pub halved_kept : (members results : List Relation) → All (IsRelation o old) members
+          → IsHalved o bound old members results → IsHalved o bound new members results
       halved_kept _ _ all nothing = nothing
       halved_kept _ _ all (single r) = single r
       halved_kept _ _ all (joins left right a b joined halves first second made few) =
@@ -72,7 +87,10 @@ module _ (o : Layout) where
           (apart_kept old old new xs ys ro rn k k (halved_all old left xs one first) (halved_all old right ys two second) stay)
 
       -- two halves as one list
-      pub halved_combined : (left right xs ys results : List Relation) → AreHalves left right → All (IsRelation o old) left → All (IsRelation o old) right → IsHalved o bound old left xs → IsHalved o bound old right ys → Combines o old xs ys bound new results → IsHalved o bound new (left ++ right) results
+      pub halved_combined : (left right xs ys results : List Relation) → AreHalves left right
+          → All (IsRelation o old) left → All (IsRelation o old) right → IsHalved o bound old left xs
+          → IsHalved o bound old right ys → Combines o old xs ys bound new results
+          → IsHalved o bound new (left ++ right) results
       halved_combined left right xs ys results halves one two first second c = elim c [
         | inl (joined, e, (a, b, is_a, is_b, made, few)) ↦ (
             let known_a = first_known old xs a is_a (halved_all old left xs one first) in

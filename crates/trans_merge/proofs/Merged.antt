@@ -14,7 +14,8 @@ use Rattle.trans_merge.specs.Merging.{IsRelation, Leads, SomeLeads, IsJoined, Is
 use Rattle.trans_merge.specs.Merging.Merges.{none, more}
 use Rattle.trans_merge.proofs.Reaching.{at_most_kept}
 
-connects_alike : (o : Layout) (places : List ℕ) (F G : Bits → Bool) (s t : List ℕ) → ((b : Bits) → G b ≡ F b) → Connects o places F s t ↔ Connects o places G s t
+connects_alike : (o : Layout) (places : List ℕ) (F G : Bits → Bool) (s t : List ℕ) → ((b : Bits) → G b ≡ F b)
+    → Connects o places F s t ↔ Connects o places G s t
 connects_alike o places F G s t e = ((λ (b, code, next, h). (b, code, next, e b ∙ h)), (λ (b, code, next, h). (b, code, next, sym (e b) ∙ h)))
 
 abbrev last_or : Relation → List Relation → Relation
@@ -68,7 +69,8 @@ all_and P (y ∷ xs) x h is (suc i) d lt = all_and P xs x (λ j e less. h (suc j
 
 module _ (o : Layout) where
   -- what relates states is a set of steps
-  pub related : (nodes : List Node) (r : Relation) (R : List ℕ → List ℕ → Type 0) → r.root < length nodes → IsReady r → Relates o r.touched.items R (means nodes r.root) → IsRelation o nodes r
+  pub related : (nodes : List Node) (r : Relation) (R : List ℕ → List ℕ → Type 0) → r.root < length nodes → IsReady r
+      → Relates o r.touched.items R (means nodes r.root) → IsRelation o nodes r
   related nodes r R known ready relates = record { known = known; ready = ready; steps = steps_of_relates o r.touched.items R (means nodes r.root) relates }
 
   pub relation_kept : (old new : List Node) (r : Relation) → Keeps old new → IsRelation o old r → IsRelation o new r
@@ -82,14 +84,16 @@ module _ (o : Layout) where
   relations_kept old new rs k all i d lt = relation_kept old new (get_or rs i d) k (all i d lt)
 
   -- one of relations that were known
-  pub one_kept : (old new : List Node) (rs : List Relation) (i : ℕ) (r : Relation) → Keeps old new → All (IsRelation o old) rs → i < length rs → r ≡ get_or rs i r → IsRelation o new r
+  pub one_kept : (old new : List Node) (rs : List Relation) (i : ℕ) (r : Relation) → Keeps old new
+      → All (IsRelation o old) rs → i < length rs → r ≡ get_or rs i r → IsRelation o new r
   one_kept old new rs i r k all lt is = relation_kept old new r k (subst (λ (x : Relation). IsRelation o old x) (sym is) (all i r lt))
 
   -- the steps are those that they were
   pub leads_kept : (old new : List Node) (r : Relation) (s t : List ℕ) → Keeps old new → r.root < length old → Leads o old s t r ↔ Leads o new s t r
   leads_kept old new r s t k known = connects_alike o r.touched.items (means old r.root) (means new r.root) s t (λ b. k.meaning r.root b known)
 
-  pub some_append : (nodes : List Node) (s t : List ℕ) (xs ys : List Relation) → SomeLeads o nodes s t (xs ++ ys) ↔ (SomeLeads o nodes s t xs ⊎ SomeLeads o nodes s t ys)
+  pub some_append : (nodes : List Node) (s t : List ℕ) (xs ys : List Relation) → SomeLeads o nodes s t (xs ++ ys)
+      ↔ (SomeLeads o nodes s t xs ⊎ SomeLeads o nodes s t ys)
   some_append nodes s t [] ys = ((λ h. inr h), (λ h. elim h [ inl x ↦ absurd x | inr y ↦ y ]))
   some_append nodes s t (x ∷ xs) ys =
       let rest = some_append nodes s t xs ys in (
@@ -98,19 +102,25 @@ module _ (o : Layout) where
       )
 
   module _ (bound : ℕ) (start : List Node) where
-    merged_kept : (old new : List Node) (part : List Relation) (r : Relation) → IsReduced old → IsReduced new → Keeps old new → IsMerged o bound start old part r → IsMerged o bound start new part r
+    merged_kept : (old new : List Node) (part : List Relation) (r : Relation) → IsReduced old → IsReduced new
+        → Keeps old new → IsMerged o bound start old part r → IsMerged o bound start new part r
     merged_kept old new part r ro rn k is = record {
       relation = relation_kept old new r k is.relation;
       some = is.some;
-      leads = λ s t ss st. (let same = leads_kept old new r s t k is.relation.known in let was = is.leads s t ss st in ((λ h. was.0 (same.1 h)), (λ h. same.0 (was.1 h))));
+      leads = λ s t ss st. (let same = leads_kept old new r s t k is.relation.known in
+          let was = is.leads s t ss st in ((λ h. was.0 (same.1 h)), (λ h. same.0 (was.1 h))));
       alone = is.alone;
       within = λ two. at_most_kept old new r.root bound ro rn k is.relation.known (is.within two);
     }
 
     -- results stay right as the table grows
-    pub merges_kept : (members : List Relation) (old new : List Node) (results : List Relation) → IsReduced old → IsReduced new → Keeps old new → Merges o bound start members old results → Merges o bound start members new results
+    pub merges_kept : (members : List Relation) (old new : List Node) (results : List Relation) → IsReduced old
+        → IsReduced new → Keeps old new → Merges o bound start members old results
+        → Merges o bound start members new results
     merges_kept _ old new _ ro rn k (none _) = none new
-    merges_kept _ old new _ ro rn k (more members part results _ r before is) = more members part results new r (merges_kept members old new results ro rn k before) (merged_kept old new part r ro rn k is)
+    merges_kept _ old new _ ro rn k (more members part results _ r before is) =
+        more members part results new r (merges_kept members old new results ro rn k before)
+        (merged_kept old new part r ro rn k is)
 
     -- one relation by itself
     alone : (now : List Node) (r : Relation) → Keeps start now → IsRelation o start r → IsMerged o bound start now (r ∷ []) r
@@ -123,7 +133,9 @@ module _ (o : Layout) where
     }
 
     -- two that were joined
-    joined_both : (old new : List Node) (left right : List Relation) (a b joined : Relation) → IsMerged o bound start old left a → IsMerged o bound start old right b → IsJoined o old a b new joined → HasAtMost new joined.root bound
+    joined_both : (old new : List Node) (left right : List Relation) (a b joined : Relation)
+        → IsMerged o bound start old left a → IsMerged o bound start old right b → IsJoined o old a b new joined
+        → HasAtMost new joined.root bound
         → IsMerged o bound start new (left ++ right) joined
     joined_both old new left right a b joined first second made few = record {
       relation = made.relation;
@@ -146,7 +158,8 @@ module _ (o : Layout) where
     }
 
     -- the relations that are joined so far
-    pub all_merged : (members : List Relation) (now : List Node) (results : List Relation) → Merges o bound start members now results → All (IsRelation o now) results
+    pub all_merged : (members : List Relation) (now : List Node) (results : List Relation)
+        → Merges o bound start members now results → All (IsRelation o now) results
     all_merged _ now _ (none _) = λ i d lt. absurd (omega (arith, lt))
     all_merged _ now _ (more members part results _ r before is) = all_and (IsRelation o now) results r (all_merged members now results before) is.relation
 
@@ -158,8 +171,10 @@ module _ (o : Layout) where
       before : Merges o bound start earlier now front
       is : IsMerged o bound start now part last
 
-    last_of : (members : List Relation) (now : List Node) (results front : List Relation) (last : Relation) → Merges o bound start members now results → results ≡ front ++ last ∷ [] → HasLast members now front last
-    last_of _ now _ front last (none _) e = absurd (let a = ap (λ (xs : List Relation). length xs) e in let b = length-append front (last ∷ []) in omega (arith, a, b))
+    last_of : (members : List Relation) (now : List Node) (results front : List Relation) (last : Relation)
+        → Merges o bound start members now results → results ≡ front ++ last ∷ [] → HasLast members now front last
+    last_of _ now _ front last (none _) e = absurd (let a = ap (λ (xs : List Relation). length xs) e in
+        let b = length-append front (last ∷ []) in omega (arith, a, b))
     last_of _ now _ front last (more members part results _ r before is) e = (
         let same = last_same results front r last e in
         record {
@@ -177,9 +192,12 @@ module _ (o : Layout) where
     merges_few now (r ∷ q ∷ rs) k all lt = absurd (omega (arith, lt))
 
     -- results of two lists, one after the other
-    pub merges_both : (left right : List Relation) (now : List Node) (xs ys : List Relation) → Merges o bound start left now xs → Merges o bound start right now ys → Merges o bound start (left ++ right) now (xs ++ ys)
+    pub merges_both : (left right : List Relation) (now : List Node) (xs ys : List Relation)
+        → Merges o bound start left now xs → Merges o bound start right now ys
+        → Merges o bound start (left ++ right) now (xs ++ ys)
     merges_both left _ now xs _ first (none _) =
-        subst (λ (ms : List Relation). Merges o bound start ms now (xs ++ [])) (sym (append-nil left)) (subst (λ (rs : List Relation). Merges o bound start left now rs) (sym (append-nil xs)) first)
+        subst (λ (ms : List Relation). Merges o bound start ms now (xs ++ [])) (sym (append-nil left))
+        (subst (λ (rs : List Relation). Merges o bound start left now rs) (sym (append-nil xs)) first)
     merges_both left _ now xs _ first (more members part results _ r before is) =
         subst (λ (ms : List Relation). Merges o bound start ms now (xs ++ (results ++ r ∷ []))) (append_assoc left members part)
         (subst (λ (rs : List Relation). Merges o bound start ((left ++ members) ++ part) now rs) (append_assoc xs results (r ∷ []))
@@ -188,7 +206,9 @@ module _ (o : Layout) where
     -- where there is one result, it is made of all members
     none_of : (members : List Relation) (now : List Node) (results : List Relation) → results ≡ [] → Merges o bound start members now results → members ≡ []
     none_of _ now _ e (none _) = refl
-    none_of _ now _ e (more members part results _ r before is) = absurd (let a = ap (λ (xs : List Relation). length xs) e in let b = length-append results (r ∷ []) in omega (arith, a, b))
+    none_of _ now _ e (more members part results _ r before is) =
+        absurd (let a = ap (λ (xs : List Relation). length xs) e in
+        let b = length-append results (r ∷ []) in omega (arith, a, b))
 
     one_of : (members : List Relation) (now : List Node) (a : Relation) → Merges o bound start members now (a ∷ []) → IsMerged o bound start now members a
     one_of members now a m =
@@ -197,7 +217,10 @@ module _ (o : Layout) where
         subst (λ (xs : List Relation). IsMerged o bound start now xs a) all h.is
 
     -- two halves as one list
-    pub merges_combined : (left right : List Relation) (old new : List Node) (xs ys results : List Relation) → IsReduced old → IsReduced new → Keeps old new → Merges o bound start left old xs → Merges o bound start right old ys → Combines o old xs ys bound new results → Merges o bound start (left ++ right) new results
+    pub merges_combined : (left right : List Relation) (old new : List Node) (xs ys results : List Relation)
+        → IsReduced old → IsReduced new → Keeps old new → Merges o bound start left old xs
+        → Merges o bound start right old ys → Combines o old xs ys bound new results
+        → Merges o bound start (left ++ right) new results
     merges_combined left right old new xs ys results ro rn k first second c = elim c [
       | inl (joined, e, (a, b, is_a, is_b, made, few)) ↦ (
           let one = one_of left old a (subst (λ (rs : List Relation). Merges o bound start left old rs) is_a first) in
@@ -209,7 +232,8 @@ module _ (o : Layout) where
     ]
 
   -- members that were there before the table grew
-  some_kept : (old new : List Node) (rs : List Relation) (s t : List ℕ) → Keeps old new → All (IsRelation o old) rs → SomeLeads o old s t rs ↔ SomeLeads o new s t rs
+  some_kept : (old new : List Node) (rs : List Relation) (s t : List ℕ) → Keeps old new → All (IsRelation o old) rs
+      → SomeLeads o old s t rs ↔ SomeLeads o new s t rs
   some_kept old new [] s t k all = ((λ h. h), (λ h. h))
   some_kept old new (r ∷ rs) s t k all =
       let is : IsRelation o old r = all 0 r (omega arith) in
@@ -219,7 +243,9 @@ module _ (o : Layout) where
         (λ h. elim h [ inl x ↦ inl (here.1 x) | inr x ↦ inr (rest.1 x) ]),
       )
 
-  pub merges_since : (bound : ℕ) (start mid : List Node) (members : List Relation) (now : List Node) (results : List Relation) → Keeps start mid → All (IsRelation o start) members → Merges o bound mid members now results → Merges o bound start members now results
+  pub merges_since : (bound : ℕ) (start mid : List Node) (members : List Relation) (now : List Node)
+      (results : List Relation) → Keeps start mid → All (IsRelation o start) members
+      → Merges o bound mid members now results → Merges o bound start members now results
   merges_since bound start mid _ now _ k all (none _) = none now
   merges_since bound start mid _ now _ k all (more members part results _ r before is) =
       more members part results now r (merges_since bound start mid members now results k (front_holds (IsRelation o start) members part all) before) (record {

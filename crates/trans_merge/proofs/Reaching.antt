@@ -8,11 +8,22 @@ use Rattle.bdd_table.proofs.Adding.{lo_known, hi_known}
 use Rattle.trans_merge.specs.Size.{HasAtMost}
 use Rattle.bdd_table.proofs.Growing.{kept_grows}
 
-module _ (old new : List Node) (ro : IsReduced old) (g : Grows old new) (roots : List ℕ) (known : (i : ℕ) → i < length roots → slice_index roots i < length old) where
+module _ (old new : List Node) (ro : IsReduced old) (g : Grows old new) (roots : List ℕ)
+    (known : (i : ℕ) → i < length roots → slice_index roots i < length old) where
   reached_there : (id : ℕ) → Reaches old roots id → (id < length old) × Reaches new roots id
   reached_there _ (root i h) = (known i h, root i h)
-  reached_there _ (lo id r) = (let w = reached_there id r in (lo_known old ro id w.0, subst (Reaches new roots) (ap (λ (n : Node). n.lo) (g.same id w.0)) (lo id w.1)))
-  reached_there _ (hi id r) = (let w = reached_there id r in (hi_known old ro id w.0, subst (Reaches new roots) (ap (λ (n : Node). n.hi) (g.same id w.0)) (hi id w.1)))
+  reached_there _ (lo id r) =
+      (let w = reached_there id r in (
+        lo_known old ro id w.0,
+        subst (Reaches new roots)
+            (ap (λ (n : Node). n.lo) (g.same id w.0)) (lo id w.1),
+      ))
+  reached_there _ (hi id r) =
+      (let w = reached_there id r in (
+        hi_known old ro id w.0,
+        subst (Reaches new roots)
+            (ap (λ (n : Node). n.hi) (g.same id w.0)) (hi id w.1),
+      ))
 
   reached_back : (id : ℕ) → Reaches new roots id → (id < length old) × Reaches old roots id
   reached_back _ (root i h) = (known i h, root i h)
@@ -46,9 +57,21 @@ one_known n id zero h lt = h
 one_known n id (suc i) h lt = absurd (omega (arith, lt))
 
 -- an Id has as many nodes as before
-pub at_most_kept : (old new : List Node) (id most : ℕ) → IsReduced old → IsReduced new → Keeps old new → id < length old → HasAtMost old id most → HasAtMost new id most
-at_most_kept old new id most ro rn k known h = (h.0, reached_grown old new ro (kept_grows old new ro rn k) (id ∷ []) (λ i lt. one_known (length old) id i known lt) h.0 h.1, h.2)
+pub at_most_kept : (old new : List Node) (id most : ℕ) → IsReduced old → IsReduced new → Keeps old new
+    → id < length old → HasAtMost old id most → HasAtMost new id most
+at_most_kept old new id most ro rn k known h = (
+  h.0,
+  reached_grown old new ro (kept_grows old new ro rn k) (id ∷ [])
+      (λ i lt. one_known (length old) id i known lt) h.0 h.1,
+  h.2,
+)
 
 -- and had as many
-pub at_most_before : (old new : List Node) (id most : ℕ) → IsReduced old → IsReduced new → Keeps old new → id < length old → HasAtMost new id most → HasAtMost old id most
-at_most_before old new id most ro rn k known h = (h.0, reached_before old new ro (kept_grows old new ro rn k) (id ∷ []) (λ i lt. one_known (length old) id i known lt) h.0 h.1, h.2)
+pub at_most_before : (old new : List Node) (id most : ℕ) → IsReduced old → IsReduced new → Keeps old new
+    → id < length old → HasAtMost new id most → HasAtMost old id most
+at_most_before old new id most ro rn k known h = (
+  h.0,
+  reached_before old new ro (kept_grows old new ro rn k)
+      (id ∷ []) (λ i lt. one_known (length old) id i known lt) h.0 h.1,
+  h.2,
+)

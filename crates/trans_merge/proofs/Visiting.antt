@@ -50,12 +50,16 @@ climbs_apart : (seen : List ℕ) → Climbs seen → (i j d : ℕ) → i < j →
 unfolding Climbs
 climbs_apart [] c i j d less lt = absurd (omega (arith, lt))
 climbs_apart (s ∷ seen) c i zero d less lt = absurd (omega (arith, less))
-climbs_apart (s ∷ seen) c zero (suc j) d less lt = c.0 (get_or seen j d) ((is_member-Decides same_number seen (get_or seen j d)).1 (Contains-get_or seen j d (omega (arith, lt))))
+climbs_apart (s ∷ seen) c zero (suc j) d less lt = c.0 (get_or seen j d)
+    ((is_member-Decides same_number seen (get_or seen j d)).1 (Contains-get_or seen j d (omega (arith, lt))))
 climbs_apart (s ∷ seen) c (suc i) (suc j) d less lt = climbs_apart seen c.1 i j d (omega (arith, less)) (omega (arith, lt))
 
 all_later : (s : ℕ) (seen : List ℕ) → ((q : ℕ) → IsIn seen q → s < q) → AllByRecursion (λ y. (s == y) ≡ false) seen
 all_later s [] h = tt
-all_later s (q ∷ seen) h = (ne_eqb s q (λ e. (let less = h q (in_head q seen q refl) in omega (arith, e, less))), all_later s seen (λ y g. h y (in_tail q seen y g)))
+all_later s (q ∷ seen) h = (
+  ne_eqb s q (λ e. (let less = h q (in_head q seen q refl) in omega (arith, e, less))),
+  all_later s seen (λ y g. h y (in_tail q seen y g)),
+)
 
 climbs_distinct : (seen : List ℕ) → Climbs seen → IsDistinct eqb seen
 unfolding IsDistinct Climbs
@@ -79,14 +83,20 @@ module _ (nodes : List Node) (root : ℕ) where
     pub hi : (q : ℕ) → IsIn seen q → 2 ≤ (at nodes q).hi → (has (at nodes q).hi ≡ true) ⊎ IsIn seen (at nodes q).hi
 
   -- at first the root waits
-  pub counted_none : (none has : ℕ → Bool) → root < length nodes → ((q : ℕ) → none q ≡ false) → ((q : ℕ) → (has q ≡ true) ↔ (((q ≡ root) × (2 ≤ root)) ⊎ (none q ≡ true))) → IsCounted has 0 []
+  pub counted_none : (none has : ℕ → Bool) → root < length nodes → ((q : ℕ) → none q ≡ false)
+      → ((q : ℕ) → (has q ≡ true) ↔ (((q ≡ root) × (2 ≤ root)) ⊎ (none q ≡ true))) → IsCounted has 0 []
   unfolding Climbs
   counted_none none has known nil put = record {
     many = refl;
     climbs = tt;
     over = λ q s h g. absurd (true≢false (sym g));
     waits = λ q h. elim ((put q).0 h) [
-      | inl x ↦ (let e = x.0 in let two = x.1 in (omega (arith, e, two), omega (arith, e, known), subst (Reaches nodes (root ∷ [])) (sym e) (by_root 0 (omega arith))))
+      | inl x ↦ (let e = x.0 in let two = x.1 in (
+        omega (arith, e, two),
+        omega (arith, e, known),
+        subst
+            (Reaches nodes (root ∷ [])) (sym e) (by_root 0 (omega arith)),
+      ))
       | inr x ↦ absurd (true≢false (sym x ∙ nil q))
     ];
     counted = λ q g. absurd (true≢false (sym g));
@@ -95,7 +105,8 @@ module _ (nodes : List Node) (root : ℕ) where
     hi = λ q g. absurd (true≢false (sym g));
   }
 
-  module _ (reduced : IsReduced nodes) (has rest more most : ℕ → Bool) (n k : ℕ) (seen : List ℕ) (was : IsCounted has n seen) (member : has k ≡ true) (greatest : (q : ℕ) → has q ≡ true → q ≤ k)
+  module _ (reduced : IsReduced nodes) (has rest more most : ℕ → Bool) (n k : ℕ) (seen : List ℕ)
+      (was : IsCounted has n seen) (member : has k ≡ true) (greatest : (q : ℕ) → has q ≡ true → q ≤ k)
       (popped : (q : ℕ) → (rest q ≡ true) ↔ ((q ≢ k) × (has q ≡ true)))
       (first : (q : ℕ) → (more q ≡ true) ↔ (((q ≡ (at nodes k).lo) × (2 ≤ (at nodes k).lo)) ⊎ (rest q ≡ true)))
       (second : (q : ℕ) → (most q ≡ true) ↔ (((q ≡ (at nodes k).hi) × (2 ≤ (at nodes k).hi)) ⊎ (more q ≡ true))) where
@@ -109,9 +120,25 @@ module _ (nodes : List Node) (root : ℕ) where
         let b = i.hi_before in
         let lt = node.1 in
         elim ((second q).0 h) [
-          | inl x ↦ (let e = x.0 in let two = x.1 in (omega (arith, e, b), (omega (arith, e, two), omega (arith, e, b, lt), subst (Reaches nodes (root ∷ [])) (sym e) (by_hi k node.2))))
+          | inl x ↦ (let e = x.0 in let two = x.1 in (
+            omega (arith, e, b),
+            (
+              omega (arith, e, two),
+              omega (arith, e, b, lt),
+              subst (Reaches nodes (root ∷ []))
+                  (sym e) (by_hi k node.2),
+            ),
+          ))
           | inr y ↦ elim ((first q).0 y) [
-            | inl x ↦ (let e = x.0 in let two = x.1 in (omega (arith, e, a), (omega (arith, e, two), omega (arith, e, a, lt), subst (Reaches nodes (root ∷ [])) (sym e) (by_lo k node.2))))
+            | inl x ↦ (let e = x.0 in let two = x.1 in (
+              omega (arith, e, a),
+              (
+                omega (arith, e, two),
+                omega (arith, e, a, lt),
+                subst (Reaches nodes (root ∷ []))
+                    (sym e) (by_lo k node.2),
+              ),
+            ))
             | inr z ↦ (let both = (popped q).0 z in let le = greatest q both.1 in let ne : q ≡ k → ⊥ = both.0 in (omega (arith, le, ne), was.waits q both.1))
           ]
         ]
@@ -141,7 +168,9 @@ module _ (nodes : List Node) (root : ℕ) where
       ];
       start = λ two. met root (was.start two);
       lo = λ q g two. elim (in_either k seen q g) [
-        | inl e ↦ inl ((second (at nodes q).lo).1 (inr ((first (at nodes q).lo).1 (inl (ap (λ (x : ℕ). (at nodes x).lo) e, subst (λ (x : ℕ). 2 ≤ (at nodes x).lo) e two)))))
+        | inl e ↦ inl ((second (at nodes q).lo).1
+            (inr ((first (at nodes q).lo).1
+            (inl (ap (λ (x : ℕ). (at nodes x).lo) e, subst (λ (x : ℕ). 2 ≤ (at nodes x).lo) e two)))))
         | inr x ↦ met (at nodes q).lo (was.lo q x two)
       ];
       hi = λ q g two. elim (in_either k seen q g) [
@@ -183,7 +212,9 @@ module _ (nodes : List Node) (root : ℕ) where
         record {
           once = λ i j d less lt e. (let a = climbs_apart seen is.climbs i j d less lt in omega (arith, a, e));
           each = λ id two r. (is_member-Decides same_number seen id).0 (all_seen id r two);
-          only = λ i d lt. (let w = is.counted (get_or seen i d) ((is_member-Decides same_number seen (get_or seen i d)).1 (Contains-get_or seen i d lt)) in (w.0, w.2));
+          only = λ i d lt. (let w = is.counted (get_or seen i d)
+              ((is_member-Decides same_number seen (get_or seen i d)).1
+              (Contains-get_or seen i d lt)) in (w.0, w.2));
         },
         (let m = is.many in omega (arith, m, le)),
       )
@@ -238,7 +269,9 @@ empty_or true keys is = inl (is.0 refl)
 empty_or false keys is = inr (λ e. true≢false (sym (is.1 e)))
 
 -- after as many visits as the bound, the Id reaches no more exactly where none waits
-pub at_the_bound : (nodes : List Node) (root bound : ℕ) (seen keys : List ℕ) (r : Bool) → IsReduced nodes → IsCounted nodes root (in_keys keys) bound seen → (r ≡ true) ↔ (length keys ≡ 0) → (r ≡ true) ↔ HasAtMost nodes root bound
+pub at_the_bound : (nodes : List Node) (root bound : ℕ) (seen keys : List ℕ) (r : Bool) → IsReduced nodes
+    → IsCounted nodes root (in_keys keys) bound seen → (r ≡ true) ↔ (length keys ≡ 0) → (r ≡ true)
+    ↔ HasAtMost nodes root bound
 at_the_bound nodes root bound seen keys r reduced is empty = (
   (λ h. all_counted nodes root reduced (in_keys keys) bound seen is (no_keys keys (empty.0 h)) bound (omega arith)),
   (λ few. elim (empty_or r keys empty) [
@@ -247,7 +280,8 @@ at_the_bound nodes root bound seen keys r reduced is empty = (
   ]),
 )
 
-pub before_the_bound : (nodes : List Node) (root n bound : ℕ) (seen keys : List ℕ) → IsReduced nodes → IsCounted nodes root (in_keys keys) n seen → length keys ≡ 0 → n ≤ bound → HasAtMost nodes root bound
+pub before_the_bound : (nodes : List Node) (root n bound : ℕ) (seen keys : List ℕ) → IsReduced nodes
+    → IsCounted nodes root (in_keys keys) n seen → length keys ≡ 0 → n ≤ bound → HasAtMost nodes root bound
 before_the_bound nodes root n bound seen keys reduced is none le = all_counted nodes root reduced (in_keys keys) n seen is (no_keys keys none) bound le
 
 -- nothing is left where nothing came

@@ -13,7 +13,9 @@ use Rattle.transitions.proofs.Support.{steps_turn}
 use Rattle.transitions.proofs.ImageLaw.{true_or_false, stepped_in, stepped_out}
 use Rattle.trans_merge.specs.Widened.{Stay}
 
-module _ (o : Layout) (l : IsLayout o) (own wide places : List ℕ) (union : (p : ℕ) → p < bits o → is_in places p ≡ (is_in own p || is_in wide p)) (F W : Bits → Bool) (steps : IsStepSet o own F)
+module _ (o : Layout) (l : IsLayout o) (own wide places : List ℕ)
+    (union : (p : ℕ) → p < bits o → is_in places p ≡ (is_in own p || is_in wide p)) (F W : Bits → Bool)
+    (steps : IsStepSet o own F)
     (is : (b : Bits) → (W b ≡ true) ↔ ((F b ≡ true) × Stay o own wide b)) where
   in_own : (p : ℕ) → p < bits o → is_in own p ≡ true → is_in places p ≡ true
   in_own p lt h = union p lt ∙ ap (λ (t : Bool). t || is_in wide p) h
@@ -50,13 +52,16 @@ module _ (o : Layout) (l : IsLayout o) (own wide places : List ℕ) (union : (p 
   settled_on b k on = ap (λ (v : Bool). cond v (b k) (seen_by (pairs_from 1 0 places) b k)) on
 
   settled_now : (b : Bits) (p : ℕ) → settled b (level_at 0 p) ≡ b (level_at 0 p)
-  settled_now b p = settled_off b (level_at 0 p) (not_in_levels 1 0 (omega arith) (omega arith) (λ e. omega (arith, e)) own p) ∙ ap b (renamed_other 1 0 (omega arith) (omega arith) (λ e. omega (arith, e)) places p)
+  settled_now b p = settled_off b (level_at 0 p) (not_in_levels 1 0 (omega arith) (omega arith)
+      (λ e. omega (arith, e)) own p) ∙ ap b (renamed_other 1 0 (omega arith) (omega arith) (λ e. omega (arith, e))
+      places p)
 
   settled_own : (b : Bits) (p : ℕ) → is_in own p ≡ true → settled b (level_at 1 p) ≡ b (level_at 1 p)
   settled_own b p on = settled_on b (level_at 1 p) (in_levels 1 own p ∙ on)
 
   settled_stays : (b : Bits) → Stay o own wide (settled b)
-  settled_stays b p lt add out = settled_off b (level_at 1 p) (in_levels 1 own p ∙ out) ∙ ap b (renamed_in 1 0 places p (out_own p lt out ∙ add)) ∙ sym (settled_now b p)
+  settled_stays b p lt add out = settled_off b (level_at 1 p) (in_levels 1 own p ∙ out)
+      ∙ ap b (renamed_in 1 0 places p (out_own p lt out ∙ add)) ∙ sym (settled_now b p)
 
   settled_step : (b : Bits) (p : ℕ) → p < bits o → stepped own (settled b) (level_at 0 p) ≡ stepped own b (level_at 0 p)
   settled_step b p lt = elim (true_or_false (is_in own p)) [
@@ -78,10 +83,12 @@ module _ (o : Layout) (l : IsLayout o) (own wide places : List ℕ) (union : (p 
   )
 
   -- bits of the same step stay alike
-  stay_alike : (s t : List ℕ) (b c : Bits) → IsCode o 0 s b → IsCode o 0 s c → IsCode o 0 t (stepped places b) → IsCode o 0 t (stepped places c) → Stay o own wide c → Stay o own wide b
+  stay_alike : (s t : List ℕ) (b c : Bits) → IsCode o 0 s b → IsCode o 0 s c → IsCode o 0 t (stepped places b)
+      → IsCode o 0 t (stepped places c) → Stay o own wide c → Stay o own wide b
   stay_alike s t b c sb sc tb tc stay p lt add out =
       let in_both = out_own p lt out ∙ add in
-      sym (stepped_in places b p in_both) ∙ same_bits o t (stepped places b) (stepped places c) p l tb tc lt ∙ stepped_in places c p in_both ∙ stay p lt add out ∙ same_bits o s c b p l sc sb lt
+      sym (stepped_in places b p in_both) ∙ same_bits o t (stepped places b) (stepped places c) p l tb tc lt
+      ∙ stepped_in places c p in_both ∙ stay p lt add out ∙ same_bits o s c b p l sc sb lt
 
   -- and is a set of steps
   pub wide_steps : IsStepSet o places W
@@ -108,7 +115,8 @@ or_second : (x y : Bool) → y ≡ true → (x || y) ≡ true
 or_second true y h = refl
 or_second false y h = h
 
-module _ (o : Layout) (places : List ℕ) (W V H : Bits → Bool) (first : IsStepSet o places W) (second : IsStepSet o places V) (is : (b : Bits) → H b ≡ (W b || V b)) where
+module _ (o : Layout) (places : List ℕ) (W V H : Bits → Bool) (first : IsStepSet o places W)
+    (second : IsStepSet o places V) (is : (b : Bits) → H b ≡ (W b || V b)) where
   pub either_connects : (s t : List ℕ) → Connects o places H s t ↔ (Connects o places W s t ⊎ Connects o places V s t)
   either_connects s t = (
     (λ (b, code, next, h). elim (or_cases (W b) (V b) (sym (is b) ∙ h)) [

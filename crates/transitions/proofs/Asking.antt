@@ -42,34 +42,48 @@ stays_more b p (suc w) below h =
     ∙ ap (λ (z : ℕ). agree (b (level_at 0 p)) (b (level_at 1 p)) && (number b 1 (p + 1) z == number b 0 (p + 1) z)) (let e : w ≡ below = omega (arith, h) in e)
 
 -- no effects: the value stays
-pub next_start : (task : TaskParts) (o : Layout) (var : ℕ) (s : List ℕ) (b : Bits) (t : Bool) → value_of o 0 b var ≡ get_or s (place task var) 0 → t ≡ (value_of o 1 b var == value_of o 0 b var)
+pub next_start : (task : TaskParts) (o : Layout) (var : ℕ) (s : List ℕ) (b : Bits) (t : Bool)
+    → value_of o 0 b var ≡ get_or s (place task var) 0 → t ≡ (value_of o 1 b var == value_of o 0 b var)
     → IsNextValue task o [] var s b t
 next_start task o var s b t code e = (get_or s (place task var) 0, inr (tt, refl), e ∙ ap (λ (z : ℕ). value_of o 1 b var == z) code)
 
 -- one more effect
-pub next_more : (task : TaskParts) (o : Layout) (es : List Effect) (i : ℕ) (e : Effect) (var : ℕ) (s : List ℕ) (b : Bits) (t u : Bool) → i < length es → e ≡ get_or es i e
+pub next_more : (task : TaskParts) (o : Layout) (es : List Effect) (i : ℕ) (e : Effect) (var : ℕ) (s : List ℕ)
+    (b : Bits) (t u : Bool) → i < length es → e ≡ get_or es i e
     → IsNextValue task o (take i es) var s b t → EffectTurn task o e var s b t u → IsNextValue task o (take (i + 1) es) var s b u
-next_more task o es i e var s b t u lt is (new, after, k) (inl (on, fires, m)) =
-    (e.post, one_more (Fires task s) es i e var (get_or s (place task var) 0) e.post lt is (changed (Fires task s) (take i es) e var (get_or s (place task var) 0) on fires), m)
-next_more task o es i e var s b t u lt is (new, after, k) (inr (idle, m)) =
-    (new, one_more (Fires task s) es i e var (get_or s (place task var) 0) new lt is (unchanged (Fires task s) (take i es) e var (get_or s (place task var) 0) new idle after), m ∙ k)
+next_more task o es i e var s b t u lt is (new, after, k) (inl (on, fires, m)) = (
+  e.post,
+  one_more (Fires task s) es i e var (get_or s (place task var) 0) e.post lt is
+      (changed (Fires task s) (take i es) e var (get_or s (place task var) 0) on fires),
+  m,
+)
+next_more task o es i e var s b t u lt is (new, after, k) (inr (idle, m)) = (
+  new,
+  one_more (Fires task s) es i e var (get_or s (place task var) 0) new lt is
+      (unchanged (Fires task s) (take i es) e var (get_or s (place task var) 0) new idle after),
+  m ∙ k,
+)
 
 -- what a choice by the effect's conditions gives
-pub effect_chosen : (task : TaskParts) (o : Layout) (e : Effect) (var : ℕ) (s : List ℕ) (b : Bits) (fires post old new : Bool) → e.var ≡ var → ((fires ≡ true) ↔ Fires task s e)
+pub effect_chosen : (task : TaskParts) (o : Layout) (e : Effect) (var : ℕ) (s : List ℕ) (b : Bits)
+    (fires post old new : Bool) → e.var ≡ var → ((fires ≡ true) ↔ Fires task s e)
     → post ≡ (value_of o 1 b var == e.post) → new ≡ cond fires post old → EffectTurn task o e var s b old new
 effect_chosen task o e var s b true post old new on fires is m = inl (on, fires.0 refl, m ∙ is)
 effect_chosen task o e var s b false post old new on fires is m = inr ((λ _ f. true≢false (sym (fires.1 f))), m)
 
 -- the diagram of a next value is true where the next bits spell it
-pub arrives : (task : TaskParts) (o : Layout) (es : List Effect) (var : ℕ) (s : List ℕ) (b : Bits) (t : Bool) → IsNextValue task o es var s b t → t ≡ true → Arrives task o es var s b
+pub arrives : (task : TaskParts) (o : Layout) (es : List Effect) (var : ℕ) (s : List ℕ) (b : Bits) (t : Bool)
+    → IsNextValue task o es var s b t → t ≡ true → Arrives task o es var s b
 arrives task o es var s b t (value, after, e) h = (value, after, eqb-true (value_of o 1 b var) value (sym e ∙ h))
 
-pub arrived : (task : TaskParts) (o : Layout) (es : List Effect) (var : ℕ) (s : List ℕ) (b : Bits) (t : Bool) → IsNextValue task o es var s b t → Arrives task o es var s b → t ≡ true
+pub arrived : (task : TaskParts) (o : Layout) (es : List Effect) (var : ℕ) (s : List ℕ) (b : Bits) (t : Bool)
+    → IsNextValue task o es var s b t → Arrives task o es var s b → t ≡ true
 arrived task o es var s b t (value, after, e) (other, also, is) =
     e ∙ eq-eqb (value_of o 1 b var) value (is ∙ value_one (Fires task s) es var (get_or s (place task var) 0) other value also after)
 
 -- the bits of a base variable stand at early places
-pub base_room : (task : TaskParts) (o : Layout) (var : ℕ) (block : Block) → IsOrderOf task o → IsBase task var → block ≡ block_of o var → 0 < block.width → block.first + block.width < 2147483648
+pub base_room : (task : TaskParts) (o : Layout) (var : ℕ) (block : Block) → IsOrderOf task o → IsBase task var
+    → block ≡ block_of o var → 0 < block.width → block.first + block.width < 2147483648
 base_room task o var block order base is some =
     let here : block ≡ block_at o (place task var) = is ∙ base_block task o var order base in
     let owned = order.layout.owned (place task var) (block.first + (block.width - 1))

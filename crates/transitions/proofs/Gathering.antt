@@ -12,7 +12,8 @@ FirstAre P es n = (k : ℕ) (d : Effect) → k < n → P (get_or es k d)
 pub first_none : (P : Effect → Type 0) (es : List Effect) → FirstAre P es 0
 first_none P es k d lt = absurd (omega (arith, lt))
 
-pub first_more : (P : Effect → Type 0) (es : List Effect) (i : ℕ) (e : Effect) → i < length es → e ≡ get_or es i e → FirstAre P es i → P e → FirstAre P es (i + 1)
+pub first_more : (P : Effect → Type 0) (es : List Effect) (i : ℕ) (e : Effect) → i < length es → e ≡ get_or es i e
+    → FirstAre P es i → P e → FirstAre P es (i + 1)
 first_more P es i e within is h here k d lt = elim (cases_eq k i) [
   | inl same ↦ subst P (is ∙ get_or_default es i e d within ∙ ap (λ (j : ℕ). get_or es j d) (sym same)) here
   | inr ne ↦ (let other : k ≡ i → ⊥ = ne in h k d (omega (arith, lt, other)))
@@ -21,11 +22,13 @@ first_more P es i e within is h here k d lt = elim (cases_eq k i) [
 pub first_all : (P : Effect → Type 0) (es : List Effect) (i : ℕ) → length es ≤ i → FirstAre P es i → All P es
 first_all P es i far h k d lt = h k d (omega (arith, lt, far))
 
-pub first_of_all : (P : Effect → Type 0) (es : List Effect) (i : ℕ) → i < length es → FirstAre P es (i + 1) → FirstAre P es i × ((e : Effect) → e ≡ get_or es i e → P e)
+pub first_of_all : (P : Effect → Type 0) (es : List Effect) (i : ℕ) → i < length es → FirstAre P es (i + 1)
+    → FirstAre P es i × ((e : Effect) → e ≡ get_or es i e → P e)
 first_of_all P es i within h = ((λ k d lt. h k d (omega (arith, lt))), (λ e is. subst P (sym is) (h i e (omega arith))))
 
 -- a conjunction with what holds of the next element
-pub conj_more : (P : Effect → Type 0) (es : List Effect) (i : ℕ) (e : Effect) (old all value new : Bool) → i < length es → e ≡ get_or es i e → (old ≡ true) ↔ FirstAre P es i → (value ≡ true) ↔ P e
+pub conj_more : (P : Effect → Type 0) (es : List Effect) (i : ℕ) (e : Effect) (old all value new : Bool)
+    → i < length es → e ≡ get_or es i e → (old ≡ true) ↔ FirstAre P es i → (value ≡ true) ↔ P e
     → new ≡ (all && value) → all ≡ old → (new ≡ true) ↔ FirstAre P es (i + 1)
 conj_more P es i e old all value new within is before here both same = (
   (λ h. (let parts = and_parts all value (sym both ∙ h) in first_more P es i e within is (before.0 (sym same ∙ parts.0)) (here.0 parts.1))),
@@ -33,7 +36,8 @@ conj_more P es i e old all value new within is before here both same = (
 )
 
 -- the same beside what held at first
-pub more_allowed : (S : Type 0) (P : Effect → Type 0) (es : List Effect) (i : ℕ) (e : Effect) (old new : Bool) → i < length es → e ≡ get_or es i e → (old ≡ true) ↔ (S × FirstAre P es i)
+pub more_allowed : (S : Type 0) (P : Effect → Type 0) (es : List Effect) (i : ℕ) (e : Effect) (old new : Bool)
+    → i < length es → e ≡ get_or es i e → (old ≡ true) ↔ (S × FirstAre P es i)
     → (new ≡ true) ↔ ((old ≡ true) × P e) → (new ≡ true) ↔ (S × FirstAre P es (i + 1))
 more_allowed S P es i e old new within is before here = (
   (λ h. (let x = here.0 h in let y = before.0 x.0 in (y.0, first_more P es i e within is y.1 x.1))),

@@ -31,7 +31,8 @@ effect_base variables e fit = go (slice_get variables e.var) fit.on
     go None h = h
     go (Some v) h = h.0
 
-module _ (task : TaskParts) (o : Layout) (order : IsOrderOf task o) (fits : Fits task) (a : ℕ) (operator : Operator) (here : slice_get task.operators a ≡ Some operator)
+module _ (task : TaskParts) (o : Layout) (order : IsOrderOf task o) (fits : Fits task) (a : ℕ) (operator : Operator)
+    (here : slice_get task.operators a ≡ Some operator)
     (leads : (s : List ℕ) → IsState task s → Applies task s a → (t : List ℕ) × After task s a t) where
   abbrev pub places : List ℕ
   places = touched_places o operator.effects
@@ -42,8 +43,11 @@ module _ (task : TaskParts) (o : Layout) (order : IsOrderOf task o) (fits : Fits
   applies_of : (s : List ℕ) → AppliesIn task s operator → Applies task s a
   applies_of s h = subst (λ (z : Option Operator). IsSomeAnd z (λ operator. AppliesIn task s operator)) (sym here) h
 
-  after_at : (s t : List ℕ) → After task s a t → (var : ℕ) → IsBase task var → ValueAfter (Fires task s) operator.effects var (get_or s (place task var) 0) (get_or t (place task var) 0)
-  after_at s t after = subst (λ (z : Option Operator). IsSomeAnd z (λ operator. (var : ℕ) → IsBase task var → ValueAfter (Fires task s) operator.effects var (get_or s (place task var) 0) (get_or t (place task var) 0))) here after.values
+  after_at : (s t : List ℕ) → After task s a t → (var : ℕ) → IsBase task var
+      → ValueAfter (Fires task s) operator.effects var (get_or s (place task var) 0) (get_or t (place task var) 0)
+  after_at s t after = subst (λ (z : Option Operator). IsSomeAnd z
+      (λ operator. (var : ℕ) → IsBase task var → ValueAfter (Fires task s) operator.effects var
+      (get_or s (place task var) 0) (get_or t (place task var) 0))) here after.values
 
   base_of : (k : ℕ) (d : Effect) → k < length operator.effects → IsBase task (get_or operator.effects k d).var
   base_of k d lt = effect_base task.variables (get_or operator.effects k d) ((fits_operator task a operator fits here).each k d lt)
@@ -68,7 +72,8 @@ module _ (task : TaskParts) (o : Layout) (order : IsOrderOf task o) (fits : Fits
         code,
         step_code task o order operator.effects (Fires task s) s t b l.1.each code (after_at s t l.1) (λ slot lt on.
             let v = of_touched task o order operator.effects (λ var. Arrives task o operator.effects var s b) slot lt on arrives in
-            let same = value_one (Fires task s) operator.effects v.0 (get_or s (place task v.0) 0) v.3.0 (get_or t (place task v.0) 0) v.3.1 (after_at s t l.1 v.0 v.1) in
+            let same = value_one (Fires task s) operator.effects v.0 (get_or s (place task v.0) 0) v.3.0
+            (get_or t (place task v.0) 0) v.3.1 (after_at s t l.1 v.0 v.1) in
             subst (λ (k : ℕ). value_at o 1 b k ≡ get_or t k 0) v.2 (sym (at_value 1 b v.0 v.1) ∙ v.3.2 ∙ same)),
         step,
       )
@@ -85,7 +90,9 @@ module _ (task : TaskParts) (o : Layout) (order : IsOrderOf task o) (fits : Fits
         let base = base_of k d lt in (
           get_or t (place task var) 0,
           after_at s t step.1 var base,
-          at_value 1 b var base ∙ sym (value_next task o order operator.effects b (place task var) (effect_touches task o order operator.effects k d lt base)) ∙ next.values (place task var) (place_below var base),
+          at_value 1 b var base ∙ sym (value_next task o order operator.effects b (place task var)
+              (effect_touches task o order operator.effects k d lt base))
+              ∙ next.values (place task var) (place_below var base),
         )),
   )
 
@@ -99,7 +106,8 @@ module _ (task : TaskParts) (o : Layout) (order : IsOrderOf task o) (fits : Fits
 
   both_next : (c d : Bits) (p : ℕ) → both_bits c d (level_at 1 p) ≡ d (level_at 1 p)
   unfolding both_bits
-  both_next c d p = ap (λ (v : Bool). cond v (c (level_at 1 p)) (d (level_at 1 p))) (ne_eqb (level_at 1 p) (level_at 0 (level_at 1 p / 2)) (λ e. omega (arith, e)))
+  both_next c d p = ap (λ (v : Bool). cond v (c (level_at 1 p)) (d (level_at 1 p)))
+      (ne_eqb (level_at 1 p) (level_at 0 (level_at 1 p / 2)) (λ e. omega (arith, e)))
 
   -- each step has bits
   step_bits : (s t : List ℕ) → IsStateOf o s → IsStateOf o t → Step task s a t → (b : Bits) × IsCode o 0 s b × IsCode o 0 t (stepped places b)
@@ -107,11 +115,17 @@ module _ (task : TaskParts) (o : Layout) (order : IsOrderOf task o) (fits : Fits
       let c = coded o s order.layout ss in
       let d = coded o t order.layout st in
       let b = both_bits c.0 d.0 in
-      let code : IsCode o 0 s b = record { each = c.1.each; values = λ slot lt. number_same b c.0 0 0 (block_at o slot).width (block_at o slot).first (λ k _. both_now c.0 d.0 ((block_at o slot).first + k)) ∙ c.1.values slot lt } in (
+      let code : IsCode o 0 s b = record {
+        each = c.1.each;
+        values = λ slot lt. number_same b c.0 0 0
+            (block_at o slot).width (block_at o slot).first (λ k _. both_now c.0 d.0 ((block_at o slot).first + k))
+            ∙ c.1.values slot lt;
+      } in (
         b,
         code,
         step_code task o order operator.effects (Fires task s) s t b step.1.each code (after_at s t step.1)
-            (λ slot lt on. number_same b d.0 1 1 (block_at o slot).width (block_at o slot).first (λ k _. both_next c.0 d.0 ((block_at o slot).first + k)) ∙ d.2.values slot lt),
+            (λ slot lt on. number_same b d.0 1 1 (block_at o slot).width (block_at o slot).first
+            (λ k _. both_next c.0 d.0 ((block_at o slot).first + k)) ∙ d.2.values slot lt),
       )
 
   -- The relation holds exactly for the steps of the operator.

@@ -7,11 +7,13 @@ use Rattle.var_order.proofs.Spelling.{number_same}
 use Rattle.var_order.proofs.Coding.{code_digit}
 
 -- bits that agree at the places of a state are those of the same state
-pub same_code : (o : Layout) (s : List ℕ) (b c : Bits) → IsLayout o → ((p : ℕ) → p < bits o → c (level_at 0 p) ≡ b (level_at 0 p)) → IsCode o 0 s b → IsCode o 0 s c
+pub same_code : (o : Layout) (s : List ℕ) (b c : Bits) → IsLayout o
+    → ((p : ℕ) → p < bits o → c (level_at 0 p) ≡ b (level_at 0 p)) → IsCode o 0 s b → IsCode o 0 s c
 same_code o s b c l agree code = record {
   each = code.each;
   values = λ slot lt. number_same c b 0 0 (block_at o slot).width (block_at o slot).first
-      (λ k below. agree ((block_at o slot).first + k) (l.owned slot ((block_at o slot).first + k) (record { from = omega arith; before = omega (arith, below) })).0)
+      (λ k below. agree ((block_at o slot).first + k) (l.owned slot ((block_at o slot).first + k)
+      (record { from = omega arith; before = omega (arith, below) })).0)
       ∙ code.values slot lt;
 }
 

@@ -79,9 +79,14 @@ any_has test (e ∷ es) (suc k) d lt h = ap (λ (t : Bool). test e || t) (any_ha
     or_true true = refl
     or_true false = refl
 
-none_on : (F : Effect → Type 0) (var : ℕ) (test : Effect → Bool) (es : List Effect) → ((e : Effect) → e.var ≡ var → test e ≡ true) → list_any test es ≡ false → NoneOn F var es
+none_on : (F : Effect → Type 0) (var : ℕ) (test : Effect → Bool) (es : List Effect)
+    → ((e : Effect) → e.var ≡ var → test e ≡ true) → list_any test es ≡ false → NoneOn F var es
 none_on F var test [] on h = tt
-none_on F var test (e ∷ es) on h = ((λ same f. true≢false (sym (ap (λ (t : Bool). t || list_any test es) (on e same)) ∙ h)), none_on F var test es on (rest (test e) h))
+none_on F var test (e ∷ es) on h = (
+  (λ same f. true≢false (sym (ap (λ (t : Bool). t || list_any test es) (on e same)) ∙ h)),
+  none_on F var test
+      es on (rest (test e) h),
+)
   where
     rest : (x : Bool) → (x || list_any test es) ≡ false → list_any test es ≡ false
     rest true k = absurd (true≢false k)
@@ -97,7 +102,8 @@ module _ (task : TaskParts) (o : Layout) (order : IsOrderOf task o) (effects : L
   on_variable e var slot is h = order.layout.one e.var var slot (on_value (slot_of o e.var) slot h) is
 
   pub on_its_value : (e : Effect) (var slot : ℕ) → slot_of o var ≡ Some slot → e.var ≡ var → is_on o slot e ≡ true
-  on_its_value e var slot is same = ap (λ (v : ℕ). option_map_or (λ k. k == slot) (slot_of o v) false) same ∙ ap (λ (x : Option ℕ). option_map_or (λ k. k == slot) x false) is ∙ eq-eqb slot slot refl
+  on_its_value e var slot is same = ap (λ (v : ℕ). option_map_or (λ k. k == slot) (slot_of o v) false) same
+      ∙ ap (λ (x : Option ℕ). option_map_or (λ k. k == slot) x false) is ∙ eq-eqb slot slot refl
 
   -- whether one of the effects is on the value
   abbrev has_effect : ℕ → Bool
@@ -129,11 +135,13 @@ module _ (task : TaskParts) (o : Layout) (order : IsOrderOf task o) (effects : L
         let used = order.layout.used slot lt in
         let p = placed task o used.0 slot order used.1 in
         let none = none_on F used.0 (is_on o slot) effects (λ e same. on_its_value e used.0 slot used.1 same) off in
-        let same = value_one F effects used.0 (get_or s (place task used.0) 0) (get_or t (place task used.0) 0) (get_or s (place task used.0) 0) (after used.0 p.base) (inr (none, refl)) in
+        let same = value_one F effects used.0 (get_or s (place task used.0) 0) (get_or t (place task used.0) 0)
+        (get_or s (place task used.0) 0) (after used.0 p.base) (inr (none, refl)) in
         subst (λ (k : ℕ). get_or t k 0 ≡ get_or s k 0) p.here same
 
     -- the bits of the step are those of the state that it leads to, if the next bits spell each touched value
-    pub step_code : ((slot : ℕ) → slot < length o.blocks → has_effect slot ≡ true → value_at o 1 b slot ≡ get_or t slot 0) → IsCode o 0 t (stepped (touched_places o effects) b)
+    pub step_code : ((slot : ℕ) → slot < length o.blocks → has_effect slot ≡ true
+        → value_at o 1 b slot ≡ get_or t slot 0) → IsCode o 0 t (stepped (touched_places o effects) b)
     step_code next = record {
       each = each ∙ code.each;
       values = λ slot lt. elim (true_or_false (has_effect slot)) [
@@ -143,7 +151,8 @@ module _ (task : TaskParts) (o : Layout) (order : IsOrderOf task o) (effects : L
     }
 
   -- what holds of the variable of each effect holds of that of each touched value
-  pub of_touched : (P : ℕ → Type 0) (slot : ℕ) → slot < length o.blocks → has_effect slot ≡ true → All (λ (e : Effect). P e.var) effects → (var : ℕ) × IsBase task var × (place task var ≡ slot) × P var
+  pub of_touched : (P : ℕ → Type 0) (slot : ℕ) → slot < length o.blocks → has_effect slot ≡ true
+      → All (λ (e : Effect). P e.var) effects → (var : ℕ) × IsBase task var × (place task var ≡ slot) × P var
   of_touched P slot lt on all =
       let used = order.layout.used slot lt in
       let p = placed task o used.0 slot order used.1 in
@@ -155,7 +164,8 @@ module _ (task : TaskParts) (o : Layout) (order : IsOrderOf task o) (effects : L
       no_effect = record { conds = []; var = 0; pre = None; post = 0 }
 
   -- the value of an effect's variable is touched
-  pub effect_touches : (k : ℕ) (d : Effect) → k < length effects → IsBase task (get_or effects k d).var → has_effect (place task (get_or effects k d).var) ≡ true
+  pub effect_touches : (k : ℕ) (d : Effect) → k < length effects → IsBase task (get_or effects k d).var
+      → has_effect (place task (get_or effects k d).var) ≡ true
   effect_touches k d lt base =
       let e = get_or effects k d in
       any_has (is_on o (place task e.var)) effects k d lt (on_its_value e e.var (place task e.var) (base_slot task o e.var order base) refl)

@@ -12,8 +12,12 @@ use Rattle.bdd_sets.specs.Sets.{IsOfState}
 use Rattle.axiom_layers.specs.Roots.{EachState}
 use Rattle.transitions.specs.NextValues.{AppliesIn, Arrives, IsStepBy}
 
-pub steps_law : (task : TaskParts) (o : Layout) → IsOrderOf task o → (operator : Operator) (valid applies next root : Bits → Bool) → ((b : Bits) → (valid b ≡ true) ↔ IsOfState o b)
-    → EachState task o (λ s b. (applies b ≡ true) ↔ AppliesIn task s operator) → EachState task o (λ s b. (next b ≡ true) ↔ All (λ (e : Effect). Arrives task o operator.effects e.var s b) operator.effects)
+pub steps_law : (task : TaskParts) (o : Layout) → IsOrderOf task o
+    → (operator : Operator) (valid applies next root : Bits → Bool)
+    → ((b : Bits) → (valid b ≡ true) ↔ IsOfState o b)
+    → EachState task o (λ s b. (applies b ≡ true) ↔ AppliesIn task s operator)
+    → EachState task o (λ s b. (next b ≡ true) ↔ All (λ (e : Effect). Arrives task o operator.effects e.var s b)
+    operator.effects)
     → ((b : Bits) → root b ≡ ((valid b && applies b) && next b)) → (b : Bits) → (root b ≡ true) ↔ IsStepBy task o operator b
 steps_law task o order operator valid applies next root is_valid is_applies is_next is b = (
   (λ h.

@@ -12,7 +12,8 @@ before_range : (f : ℕ → Bool) (n a p : ℕ) → p < a → is_in (filter f (r
 before_range f zero a p lt = refl
 before_range f (suc n) a p lt = not_first f (filter f (range_with_len (a + 1) n)) a p (f a) lt (before_range f n (a + 1) p (omega (arith, lt)))
 
-later : (f : ℕ → Bool) (n a p : ℕ) → a ≤ p → (p < a + 1 → is_in (filter f (range_with_len (a + 1) n)) p ≡ false) → (a + 1 ≤ p → is_in (filter f (range_with_len (a + 1) n)) p ≡ f p)
+later : (f : ℕ → Bool) (n a p : ℕ) → a ≤ p → (p < a + 1 → is_in (filter f (range_with_len (a + 1) n)) p ≡ false)
+    → (a + 1 ≤ p → is_in (filter f (range_with_len (a + 1) n)) p ≡ f p)
     → is_in (filter f (range_with_len a (suc n))) p ≡ f p
 later f n a p lo none ih = go (f a) refl
   where
@@ -22,7 +23,8 @@ later f n a p lo none ih = go (f a) refl
     go : (t : Bool) → f a ≡ t → is_in (cond t (a ∷ filter f (range_with_len (a + 1) n)) (filter f (range_with_len (a + 1) n))) p ≡ f p
     go true e = elim (cases_eq a p) [
       | inl same ↦ ap (λ (u : Bool). u || is_in (filter f (range_with_len (a + 1) n)) p) (eq-eqb a p same) ∙ sym e ∙ ap f same
-      | inr ne ↦ (let other : a ≡ p → ⊥ = ne in ap (λ (u : Bool). u || is_in (filter f (range_with_len (a + 1) n)) p) (ne_eqb a p ne) ∙ ih (omega (arith, lo, other)))
+      | inr ne ↦ (let other : a ≡ p → ⊥ = ne in ap (λ (u : Bool). u || is_in (filter f (range_with_len (a + 1) n)) p)
+          (ne_eqb a p ne) ∙ ih (omega (arith, lo, other)))
     ]
     go false e = elim (cases_eq a p) [
       | inl same ↦ none (omega (arith, same)) ∙ sym e ∙ ap f same
@@ -48,14 +50,19 @@ filter_below f (suc n) a k d lt = below f n a (f a) (filter_below f n (a + 1)) k
 -- one number more
 next_range : (f : ℕ → Bool) (n a j : ℕ) → a + n ≡ j → filter f (range_with_len a (suc n)) ≡ filter f (range_with_len a n) ++ cond (f j) (j ∷ []) []
 next_range f zero a j e = ap (λ (x : ℕ). cond (f x) (x ∷ []) []) (let same : a ≡ j = omega (arith, e) in same)
-next_range f (suc n) a j e = added (f a) (filter f (range_with_len (a + 1) (suc n))) (filter f (range_with_len (a + 1) n)) (next_range f n (a + 1) j (omega (arith, e)))
+next_range f (suc n) a j e = added (f a) (filter f (range_with_len (a + 1) (suc n)))
+    (filter f (range_with_len (a + 1) n)) (next_range f n (a + 1) j (omega (arith, e)))
   where
     added : (t : Bool) (xs ys : List ℕ) → xs ≡ ys ++ cond (f j) (j ∷ []) [] → cond t (a ∷ xs) xs ≡ cond t (a ∷ ys) ys ++ cond (f j) (j ∷ []) []
     added true xs ys h = ap (λ (zs : List ℕ). a ∷ zs) h
     added false xs ys h = h
 
 pub kept_next : (f : ℕ → Bool) (i : ℕ) (xs : List ℕ) → xs ≡ filter f (range_with_len 0 i) → f i ≡ true → xs ++ i ∷ [] ≡ filter f (range_with_len 0 (i + 1))
-kept_next f i xs h t = ap (λ (ys : List ℕ). ys ++ i ∷ []) h ∙ sym (ap (λ (n : ℕ). filter f (range_with_len 0 n)) (add-one i) ∙ next_range f i 0 i (omega arith) ∙ ap (λ (v : Bool). filter f (range_with_len 0 i) ++ cond v (i ∷ []) []) t)
+kept_next f i xs h t = ap (λ (ys : List ℕ). ys ++ i ∷ []) h ∙ sym
+    (ap (λ (n : ℕ). filter f (range_with_len 0 n)) (add-one i) ∙ next_range f i 0 i (omega arith)
+    ∙ ap (λ (v : Bool). filter f (range_with_len 0 i) ++ cond v (i ∷ []) []) t)
 
 pub left_next : (f : ℕ → Bool) (i : ℕ) (xs : List ℕ) → xs ≡ filter f (range_with_len 0 i) → f i ≡ false → xs ≡ filter f (range_with_len 0 (i + 1))
-left_next f i xs h t = h ∙ sym (ap (λ (n : ℕ). filter f (range_with_len 0 n)) (add-one i) ∙ next_range f i 0 i (omega arith) ∙ ap (λ (v : Bool). filter f (range_with_len 0 i) ++ cond v (i ∷ []) []) t ∙ append-nil (filter f (range_with_len 0 i)))
+left_next f i xs h t = h ∙ sym (ap (λ (n : ℕ). filter f (range_with_len 0 n)) (add-one i) ∙ next_range f i 0 i
+    (omega arith) ∙ ap (λ (v : Bool). filter f (range_with_len 0 i) ++ cond v (i ∷ []) []) t
+    ∙ append-nil (filter f (range_with_len 0 i)))

@@ -26,10 +26,20 @@ steps_of_relates o places R F relates b = (
   (λ h. (let x = (relates.holds b).0 h in (x.0, x.1, x.2, x.3, x.4, x.5, (b, x.4, x.5, h)))),
   (λ (s, t, ss, st, code, next, (c, same, also, h)). (
       let x = (relates.holds c).0 h in
-      (relates.holds b).1 (s, t, ss, st, code, next, subst (R s) (one_state o 0 x.1 t (stepped places c) x.5 also) (subst (λ (u : List ℕ). R u x.1) (one_state o 0 x.0 s c x.4 same) x.6)))),
+      (relates.holds b).1 (
+        s,
+        t,
+        ss,
+        st,
+        code,
+        next,
+        subst (R s) (one_state o 0 x.1 t (stepped places c) x.5 also)
+            (subst (λ (u : List ℕ). R u x.1) (one_state o 0 x.0 s c x.4 same) x.6),
+      ))),
 )
 
-pub connects_related : (o : Layout) (places : List ℕ) (R : List ℕ → List ℕ → Type 0) (F : Bits → Bool) (s t : List ℕ) → Relates o places R F → IsStateOf o s → IsStateOf o t → Connects o places F s t ↔ R s t
+pub connects_related : (o : Layout) (places : List ℕ) (R : List ℕ → List ℕ → Type 0) (F : Bits → Bool) (s t : List ℕ)
+    → Relates o places R F → IsStateOf o s → IsStateOf o t → Connects o places F s t ↔ R s t
 connects_related o places R F s t relates ss st = (
   (λ (c, same, also, h). (
       let x = (relates.holds c).0 h in
@@ -56,7 +66,8 @@ same_truth false true f g = g refl
 same_truth false false f g = refl
 
 -- two sets by an operation that makes no state of none are a set
-pub set_by : (o : Layout) (op : Bool → Bool → Bool) (F G H : Bits → Bool) → IsLayout o → op false false ≡ false → IsSet o F → IsSet o G → ((b : Bits) → H b ≡ op (F b) (G b)) → IsSet o H
+pub set_by : (o : Layout) (op : Bool → Bool → Bool) (F G H : Bits → Bool) → IsLayout o → op false false ≡ false
+    → IsSet o F → IsSet o G → ((b : Bits) → H b ≡ op (F b) (G b)) → IsSet o H
 set_by o op F G H l none sf sg is b = (to, back)
   where
     of_state : (b : Bits) → H b ≡ true → (s : List ℕ) × IsStateOf o s × IsCode o 0 s b

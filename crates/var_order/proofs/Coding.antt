@@ -11,7 +11,9 @@ use Rattle.var_order.proofs.Spelling.{bit_number, number_digits}
 
 -- different states have different bits
 pub one_state : (o : Layout) (next : ℕ) (s t : List ℕ) (b : ℕ → Bool) → IsCode o next s b → IsCode o next t b → s ≡ t
-one_state o next s t b h k = ext_get_or 0 s t (h.each ∙ sym k.each) (λ i lt. (let within : i < length o.blocks = (let e = h.each in omega (arith, lt, e)) in sym (h.values i within) ∙ k.values i within))
+one_state o next s t b h k = ext_get_or 0 s t (h.each ∙ sym k.each)
+    (λ i lt. (let within : i < length o.blocks = (let e = h.each in omega (arith, lt, e)) in sym (h.values i within)
+    ∙ k.values i within))
 
 -- the digit of the state that stands at a place
 abbrev pub digit_of : Layout → List ℕ → ℕ → ℕ
@@ -33,11 +35,13 @@ fits_width o s slot l state lt =
     let below = state.in_range slot lt in
     subst (λ (w : ℕ). get_or s slot 0 < 2 ^ w) (sym sized.bits) (omega (arith, enough, below))
 
-digit_at : (o : Layout) (s : List ℕ) (slot i : ℕ) → IsLayout o → i < (block_at o slot).width → digit_of o s ((block_at o slot).first + i) ≡ bit_at (get_or s slot 0) ((block_at o slot).width - 1 - i)
+digit_at : (o : Layout) (s : List ℕ) (slot i : ℕ) → IsLayout o → i < (block_at o slot).width
+    → digit_of o s ((block_at o slot).first + i) ≡ bit_at (get_or s slot 0) ((block_at o slot).width - 1 - i)
 digit_at o s slot i l lt =
     let here = l.owned slot ((block_at o slot).first + i) (record { from = omega arith; before = omega (arith, lt) }) in
     ap (λ (k : ℕ). bit_at (get_or s k 0) ((block_at o k).first + (block_at o k).width - 1 - ((block_at o slot).first + i))) here.1
-    ∙ ap (bit_at (get_or s slot 0)) (let e : (block_at o slot).first + (block_at o slot).width - 1 - ((block_at o slot).first + i) ≡ (block_at o slot).width - 1 - i = omega arith in e)
+    ∙ ap (bit_at (get_or s slot 0)) (let e : (block_at o slot).first + (block_at o slot).width - 1
+    - ((block_at o slot).first + i) ≡ (block_at o slot).width - 1 - i = omega arith in e)
 
 small : (o : Layout) (s : List ℕ) (p : ℕ) → digit_of o s p < 2
 small o s p = bit_at-lt (get_or s (owner_at o p) 0) ((block_at o (owner_at o p)).first + (block_at o (owner_at o p)).width - 1 - p)
@@ -45,7 +49,8 @@ small o s p = bit_at-lt (get_or s (owner_at o p) 0) ((block_at o (owner_at o p))
 code_at : (o : Layout) (s : List ℕ) (next : ℕ) → next < 2 → IsLayout o → IsStateOf o s → IsCode o next s (state_bits o s)
 code_at o s next side l state = record {
   each = state.each;
-  values = λ slot lt. number_digits (state_bits o s) next (block_at o slot).width (block_at o slot).first (get_or s slot 0) (fits_width o s slot l state lt) (λ i below.
+  values = λ slot lt. number_digits (state_bits o s) next (block_at o slot).width (block_at o slot).first
+      (get_or s slot 0) (fits_width o s slot l state lt) (λ i below.
       let p = (block_at o slot).first + i in
       let e : (2 * p + next) / 2 ≡ p = omega (arith, side) in
       ap (λ (q : ℕ). cond (eqb (digit_of o s q) 1) 1 0) e
@@ -57,7 +62,8 @@ pub coded : (o : Layout) (s : List ℕ) → IsLayout o → IsStateOf o s → Has
 coded o s l state = (state_bits o s, code_at o s 0 (omega arith) l state, code_at o s 1 (omega arith) l state)
 
 -- each bit of a state's code is the digit of its value
-pub code_digit : (o : Layout) (next : ℕ) (s : List ℕ) (b : ℕ → Bool) (place : ℕ) → IsLayout o → IsCode o next s b → place < bits o → cond (b (level_at next place)) 1 0 ≡ digit_of o s place
+pub code_digit : (o : Layout) (next : ℕ) (s : List ℕ) (b : ℕ → Bool) (place : ℕ) → IsLayout o → IsCode o next s b
+    → place < bits o → cond (b (level_at next place)) 1 0 ≡ digit_of o s place
 code_digit o next s b place l code lt =
     let slot = owner_at o place in
     let block = block_at o slot in
@@ -76,7 +82,8 @@ code_digit o next s b place l code lt =
 pub decoded : (o : Layout) (next : ℕ) (b : ℕ → Bool) → IsInRange o next b → (s : List ℕ) × IsStateOf o s × IsCode o next s b
 decoded o next b h =
     let f : Block → ℕ = λ block. number b next block.first block.width in
-    let is : (slot : ℕ) → slot < length o.blocks → get_or (map f o.blocks) slot 0 ≡ value_at o next b slot = λ slot lt. get_or-map f o.blocks slot no_block 0 lt in (
+    let is : (slot : ℕ) → slot < length o.blocks → get_or (map f o.blocks) slot 0 ≡ value_at o next b slot =
+    λ slot lt. get_or-map f o.blocks slot no_block 0 lt in (
       map f o.blocks,
       record { each = length-map o.blocks f; in_range = λ slot lt. subst (λ (x : ℕ). x < (block_at o slot).values) (sym (is slot lt)) (h slot lt) },
       record { each = length-map o.blocks f; values = λ slot lt. sym (is slot lt) },

@@ -9,7 +9,9 @@ use Rattle.var_order.specs.Layout.{Layout, IsLayout, IsSized, IsInside, no_block
 use Rattle.var_order.specs.Growth.{with_base, with_derived}
 
 -- an item of a list that one was added to is an old one, or the new one, or there is none
-pub pushed : {X : Type 0} (xs : List X) (y d : X) (i : ℕ) → ((i < length xs) × (get_or (xs ++ y ∷ []) i d ≡ get_or xs i d)) ⊎ (((i ≡ length xs) × (get_or (xs ++ y ∷ []) i d ≡ y)) ⊎ ((length xs < i) × (get_or (xs ++ y ∷ []) i d ≡ d)))
+pub pushed : {X : Type 0} (xs : List X) (y d : X) (i : ℕ) → ((i < length xs)
+    × (get_or (xs ++ y ∷ []) i d ≡ get_or xs i d)) ⊎ (((i ≡ length xs) × (get_or (xs ++ y ∷ []) i d ≡ y))
+    ⊎ ((length xs < i) × (get_or (xs ++ y ∷ []) i d ≡ d)))
 pushed xs y d i = elim (cases_lt i (length xs)) [
   | inl lt ↦ inl (lt, get_or_append_left xs (y ∷ []) d i lt)
   | inr ge ↦ inr (elim (cases_eq i (length xs)) [
@@ -19,7 +21,9 @@ pushed xs y d i = elim (cases_lt i (length xs)) [
 ]
 
 -- the slot of a variable of a longer list
-pub slot_pushed : (slots : List (Option ℕ)) (new : Option ℕ) (var slot : ℕ) → get_or (slots ++ new ∷ []) var None ≡ Some slot → (get_or slots var None ≡ Some slot) ⊎ ((var ≡ length slots) × (new ≡ Some slot))
+pub slot_pushed : (slots : List (Option ℕ)) (new : Option ℕ) (var slot : ℕ)
+    → get_or (slots ++ new ∷ []) var None ≡ Some slot → (get_or slots var None ≡ Some slot)
+    ⊎ ((var ≡ length slots) × (new ≡ Some slot))
 slot_pushed slots new var slot h = elim (pushed slots new None var) [
   | inl old ↦ inl (sym old.1 ∙ h)
   | inr more ↦ elim more [
@@ -62,11 +66,14 @@ sized_more o n l some most slot lt = elim (block_case o n slot) [
   | inl old ↦ subst IsSized (sym old.1) (l.sized slot old.0)
   | inr more ↦ elim more [
     | inl last ↦ subst IsSized (sym last.1) (record { bits = refl; some = some; most = most })
-    | inr past ↦ absurd (let k = past.0 in let m = length_push o.blocks (record { first = length o.owners; width = width n; values = n }) in omega (arith, lt, k, m))
+    | inr past ↦ absurd (let k = past.0 in
+        let m = length_push o.blocks (record { first = length o.owners; width = width n; values = n }) in omega
+        (arith, lt, k, m))
   ]
 ]
 
-owned_more : (o : Layout) (n : ℕ) → IsLayout o → (slot place : ℕ) → IsInside (block_at (with_base o n) slot) place → (place < bits (with_base o n)) × (owner_at (with_base o n) place ≡ slot)
+owned_more : (o : Layout) (n : ℕ) → IsLayout o → (slot place : ℕ) → IsInside (block_at (with_base o n) slot) place
+    → (place < bits (with_base o n)) × (owner_at (with_base o n) place ≡ slot)
 owned_more o n l slot place h =
     let all = length-append o.owners (replicate (width n) (length o.blocks)) in
     let some = length-replicate (width n) (length o.blocks) in
@@ -75,15 +82,23 @@ owned_more o n l slot place h =
           let m = l.owned slot place k in
           (let lt = m.0 in omega (arith, all, lt), get_or_append_left o.owners (replicate (width n) (length o.blocks)) 0 place m.0 ∙ m.1))
       | inr more ↦ elim more [
-        | inl last ↦ (let k : IsInside (record { first = length o.owners; width = width n; values = n }) place = subst (λ (x : Block). IsInside x place) last.1 h in
+        | inl last ↦ (let k : IsInside (record { first = length o.owners; width = width n; values = n }) place =
+            subst (λ (x : Block). IsInside x place) last.1 h in
             let from : length o.owners ≤ place = k.from in
-            let before : place < length o.owners + width n = k.before in
-            (omega (arith, all, some, before), get_or-append_right o.owners (replicate (width n) (length o.blocks)) (length o.owners) place 0 refl from ∙ get_or-replicate (width n) (place - length o.owners) (length o.blocks) 0 (omega (arith, from, before)) ∙ sym last.0))
-        | inr past ↦ (let k : IsInside no_block place = subst (λ (x : Block). IsInside x place) past.1 h in absurd (let z : place < 0 + 0 = k.before in omega (arith, z)))
+            let before : place < length o.owners + width n = k.before in (
+              omega (arith, all, some, before),
+              get_or-append_right o.owners (replicate (width n) (length o.blocks))
+                  (length o.owners) place 0 refl from ∙ get_or-replicate (width n) (place - length o.owners)
+                  (length o.blocks) 0 (omega (arith, from, before)) ∙ sym last.0,
+            ))
+        | inr past ↦ (let k : IsInside no_block place = subst (λ (x : Block). IsInside x place) past.1 h in absurd
+            (let z : place < 0 + 0 = k.before in omega (arith, z)))
       ]
     ]
 
-inside_more : (o : Layout) (n : ℕ) → IsLayout o → (place : ℕ) → place < bits (with_base o n) → (owner_at (with_base o n) place < length (with_base o n).blocks) × IsInside (block_at (with_base o n) (owner_at (with_base o n) place)) place
+inside_more : (o : Layout) (n : ℕ) → IsLayout o → (place : ℕ) → place < bits (with_base o n)
+    → (owner_at (with_base o n) place < length (with_base o n).blocks)
+    × IsInside (block_at (with_base o n) (owner_at (with_base o n) place)) place
 inside_more o n l place lt =
     let block : Block = record { first = length o.owners; width = width n; values = n } in
     let more = length_push o.blocks block in
@@ -93,9 +108,19 @@ inside_more o n l place lt =
     elim (cases_lt place (length o.owners)) [
       | inl early ↦ (let k = l.inside place early in
           subst Right (sym (get_or_append_left o.owners (replicate (width n) (length o.blocks)) 0 place early))
-          (let m = k.0 in (omega (arith, m, more), subst (λ (x : Block). IsInside x place) (sym (get_or_append_left o.blocks (block ∷ []) no_block (owner_at o place) k.0)) k.1)))
-      | inr late ↦ subst Right (sym (get_or-append_right o.owners (replicate (width n) (length o.blocks)) (length o.owners) place 0 refl late ∙ get_or-replicate (width n) (place - length o.owners) (length o.blocks) 0 (omega (arith, lt, all, some, late))))
-          (omega (arith, more), subst (λ (x : Block). IsInside x place) (sym (get_or_push o.blocks block no_block (length o.blocks) refl)) (record { from = late; before = omega (arith, lt, all, some) }))
+          (let m = k.0 in (
+            omega (arith, m, more),
+            subst (λ (x : Block). IsInside x place)
+                (sym (get_or_append_left o.blocks (block ∷ []) no_block (owner_at o place) k.0)) k.1,
+          )))
+      | inr late ↦ subst Right (sym (get_or-append_right o.owners (replicate (width n) (length o.blocks))
+          (length o.owners) place 0 refl late ∙ get_or-replicate (width n) (place - length o.owners)
+          (length o.blocks) 0 (omega (arith, lt, all, some, late)))) (
+            omega (arith, more),
+            subst (λ (x : Block). IsInside x place)
+                (sym (get_or_push o.blocks block no_block (length o.blocks) refl))
+                (record { from = late; before = omega (arith, lt, all, some) }),
+          )
     ]
 
 some_same : (x y : ℕ) → Some x ≡ Some y → x ≡ y
@@ -125,7 +150,11 @@ used_more : (o : Layout) (n : ℕ) → IsLayout o → (slot : ℕ) → slot < le
 used_more o n l slot lt = elim (cases_lt slot (length o.blocks)) [
   | inl early ↦ (let u = l.used slot early in (u.0, get_or_append_left o.slots (Some (length o.blocks) ∷ []) None u.0 (slot_within o.slots u.0 slot u.1) ∙ u.1))
   | inr late ↦ (let more = length_push o.blocks (record { first = length o.owners; width = width n; values = n }) in
-      let e : length o.blocks ≡ slot = omega (arith, late, lt, more) in (length o.slots, get_or_push o.slots (Some (length o.blocks)) None (length o.slots) refl ∙ ap (λ (x : ℕ). Some x) e))
+      let e : length o.blocks ≡ slot = omega (arith, late, lt, more) in (
+        length o.slots,
+        get_or_push o.slots
+            (Some (length o.blocks)) None (length o.slots) refl ∙ ap (λ (x : ℕ). Some x) e,
+      ))
 ]
 
 pub layout_base : (o : Layout) (n : ℕ) → IsLayout o → 1 ≤ n → n ≤ 65536 → bits o + width n ≤ 65536 → IsLayout (with_base o n)
@@ -145,5 +174,7 @@ layout_base o n l some most fits =
     }
 
 -- the layout of these lists
-pub layout_of : (o : Layout) (slots : List (Option ℕ)) (blocks : List Block) (owners : List ℕ) → slots ≡ o.slots → blocks ≡ o.blocks → owners ≡ o.owners → IsLayout o → IsLayout (record { slots = slots; blocks = blocks; owners = owners })
+pub layout_of : (o : Layout) (slots : List (Option ℕ)) (blocks : List Block) (owners : List ℕ) → slots ≡ o.slots
+    → blocks ≡ o.blocks → owners ≡ o.owners → IsLayout o → IsLayout
+    (record { slots = slots; blocks = blocks; owners = owners })
 layout_of o slots blocks owners e f g l = rw (e, f, g) l

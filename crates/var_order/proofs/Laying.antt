@@ -44,7 +44,9 @@ base_or_not None = inl refl
 base_or_not (Some y) = inr refl
 
 -- what is laid stays laid where slots and blocks are added at the end
-laid_kept : (o : Layout) (new : Option ℕ) (blocks : List Block) (owners : List ℕ) (var k : ℕ) (v : Variable) → IsLayout o → var < length o.slots → IsLaid o var k v → IsLaid (record { slots = o.slots ++ new ∷ []; blocks = o.blocks ++ blocks; owners = owners }) var k v
+laid_kept : (o : Layout) (new : Option ℕ) (blocks : List Block) (owners : List ℕ) (var k : ℕ) (v : Variable)
+    → IsLayout o → var < length o.slots → IsLaid o var k v
+    → IsLaid (record { slots = o.slots ++ new ∷ []; blocks = o.blocks ++ blocks; owners = owners }) var k v
 laid_kept o new blocks owners var k v l lt laid =
     let same = get_or_append_left o.slots (new ∷ []) None var lt in
     record {
@@ -62,19 +64,24 @@ abbrev One : List Variable → ℕ → Layout → Type 0
 One variables i more = (var : ℕ) → var < i + 1 → IfSome (slice_get variables var) (IsLaid more var (count_by is_base (take var variables)))
 
 each_more : (variables : List Variable) (i : ℕ) (v : Variable) (more : Layout) → i < length variables → v ≡ get_or variables i v
-    → ((var : ℕ) → var < i → IfSome (slice_get variables var) (IsLaid more var (count_by is_base (take var variables)))) → IsLaid more i (count_by is_base (take i variables)) v → One variables i more
+    → ((var : ℕ) → var < i → IfSome (slice_get variables var)
+    (IsLaid more var (count_by is_base (take var variables))))
+    → IsLaid more i (count_by is_base (take i variables)) v → One variables i more
 each_more variables i v more lt is old new var before = elim (cases_lt var i) [
   | inl early ↦ old var early
   | inr late ↦ (let e : i ≡ var = omega (arith, late, before) in
       subst (λ (w : ℕ). IfSome (slice_get variables w) (IsLaid more w (count_by is_base (take w variables)))) e
-      (subst (λ (x : Option Variable). IfSome x (IsLaid more i (count_by is_base (take i variables)))) (sym (slice_get-get_or variables i v lt ∙ ap (λ (y : Variable). Some y) (sym is))) new))
+      (subst (λ (x : Option Variable). IfSome x (IsLaid more i (count_by is_base (take i variables))))
+      (sym (slice_get-get_or variables i v lt ∙ ap (λ (y : Variable). Some y) (sym is))) new))
 ]
 
 if_each : {X : Type 0} (x : Option X) (P Q : X → Type 0) → ((y : X) → P y → Q y) → IfSome x P → IfSome x Q
 if_each None P Q f h = tt
 if_each (Some y) P Q f h = f y h
 
-lays_base : (variables : List Variable) (i : ℕ) (o : Layout) (v : Variable) → IsLayout o → Lays variables i o → i < length variables → v ≡ get_or variables i v → v.layer ≡ None → Lays variables (i + 1) (with_base o (range v))
+lays_base : (variables : List Variable) (i : ℕ) (o : Layout) (v : Variable) → IsLayout o → Lays variables i o
+    → i < length variables → v ≡ get_or variables i v → v.layer ≡ None
+    → Lays variables (i + 1) (with_base o (range v))
 lays_base variables i o v l lays lt is base =
     let b : is_base v ≡ true = none_true v.layer base in
     let b2 : is_base (get_or variables i v) ≡ true = subst (λ (y : Variable). is_base y ≡ true) is b in
@@ -94,8 +101,12 @@ lays_base variables i o v l lays lt is base =
       blocks = (let k = length_push o.blocks block in omega (arith, k, blocks, count, one));
       bits = omega (arith, all, many, has, sum, wide);
       each = each_more variables i v (with_base o (range v)) lt is
-          (λ var before. if_each (slice_get variables var) (IsLaid o var (count_by is_base (take var variables))) (IsLaid (with_base o (range v)) var (count_by is_base (take var variables)))
-          (λ y laid. laid_kept o (Some (length o.blocks)) (block ∷ []) (o.owners ++ replicate (width (range v)) (length o.blocks)) var (count_by is_base (take var variables)) y l (omega (arith, before, slots)) laid) (lays.each var before))
+          (λ var before. if_each (slice_get variables var) (IsLaid o var (count_by is_base (take var variables)))
+          (IsLaid (with_base o (range v)) var (count_by is_base (take var variables)))
+          (λ y laid. laid_kept o (Some (length o.blocks)) (block ∷ [])
+          (o.owners ++ replicate (width (range v)) (length o.blocks)) var
+          (count_by is_base (take var variables)) y l (omega (arith, before, slots)) laid)
+          (lays.each var before))
           (record {
             base = λ e. (get_or_push o.slots (Some (length o.blocks)) None i slots ∙ ap (λ (k : ℕ). Some k) blocks);
             values = λ e. ap (λ (x : Block). x.values) (get_or_push o.blocks block no_block (count_by is_base (take i variables)) blocks);
@@ -103,7 +114,8 @@ lays_base variables i o v l lays lt is base =
           });
     }
 
-lays_derived : (variables : List Variable) (i : ℕ) (o : Layout) (v : Variable) → IsLayout o → Lays variables i o → i < length variables → v ≡ get_or variables i v → IsSome v.layer → Lays variables (i + 1) (with_derived o)
+lays_derived : (variables : List Variable) (i : ℕ) (o : Layout) (v : Variable) → IsLayout o → Lays variables i o
+    → i < length variables → v ≡ get_or variables i v → IsSome v.layer → Lays variables (i + 1) (with_derived o)
 lays_derived variables i o v l lays lt is derived =
     let b : is_base v ≡ false = some_false v.layer derived in
     let b2 : is_base (get_or variables i v) ≡ false = subst (λ (y : Variable). is_base y ≡ false) is b in
@@ -120,8 +132,11 @@ lays_derived variables i o v l lays lt is derived =
       blocks = omega (arith, blocks, count, none);
       bits = omega (arith, has, sum, narrow);
       each = each_more variables i v (with_derived o) lt is
-          (λ var before. if_each (slice_get variables var) (IsLaid o var (count_by is_base (take var variables))) (IsLaid (with_derived o) var (count_by is_base (take var variables)))
-          (λ y laid. subst (λ (bs : List Block). IsLaid (record { slots = o.slots ++ None ∷ []; blocks = bs; owners = o.owners }) var (count_by is_base (take var variables)) y) (append_none o.blocks)
+          (λ var before. if_each (slice_get variables var) (IsLaid o var (count_by is_base (take var variables)))
+          (IsLaid (with_derived o) var (count_by is_base (take var variables)))
+          (λ y laid. subst (λ (bs : List Block). IsLaid (record
+          { slots = o.slots ++ None ∷ []; blocks = bs; owners = o.owners }) var
+          (count_by is_base (take var variables)) y) (append_none o.blocks)
           (laid_kept o None [] o.owners var (count_by is_base (take var variables)) y l (omega (arith, before, slots)) laid)) (lays.each var before))
           (record {
             base = λ e. absurd (some_none v.layer derived e);
@@ -130,7 +145,8 @@ lays_derived variables i o v l lays lt is derived =
           });
     }
 
-lays_more : (variables : List Variable) (i : ℕ) (o more : Layout) (v : Variable) → IsLayout o → Lays variables i o → i < length variables → v ≡ get_or variables i v → Extends o v more → Lays variables (i + 1) more
+lays_more : (variables : List Variable) (i : ℕ) (o more : Layout) (v : Variable) → IsLayout o → Lays variables i o
+    → i < length variables → v ≡ get_or variables i v → Extends o v more → Lays variables (i + 1) more
 lays_more variables i o more v l lays lt is extends = elim (base_or_not v.layer) [
   | inl base ↦ subst (Lays variables (i + 1)) (sym (extends.base base)) (lays_base variables i o v l lays lt is base)
   | inr derived ↦ subst (Lays variables (i + 1)) (sym (extends.derived derived)) (lays_derived variables i o v l lays lt is derived)
@@ -156,7 +172,8 @@ order_of task i o l lays far =
     each var (Some v) e = (let k = slice_get_within task.variables var v e in lays.each var (omega (arith, k, far)))
 
 -- what is laid of a variable that is there
-pub laid_at : (task : TaskParts) (o : Layout) (var : ℕ) (v : Variable) → IsOrderOf task o → slice_get task.variables var ≡ Some v → IsLaid o var (place task var) v
+pub laid_at : (task : TaskParts) (o : Layout) (var : ℕ) (v : Variable) → IsOrderOf task o
+    → slice_get task.variables var ≡ Some v → IsLaid o var (place task var) v
 laid_at task o var v order e = subst (λ (x : Option Variable). IfSome x (IsLaid o var (place task var))) e (order.each var)
 
 none_some : (v : Variable) → None ≡ Some v → ⊥
@@ -196,7 +213,9 @@ state_of task o s order state = record {
   in_range = λ slot lt. (
       let used = order.layout.used slot lt in
       let p = placed task o used.0 slot order used.1 in
-      let below : get_or s (place task used.0) 0 < range p.v = subst (λ (x : Option Variable). IfSome x (λ v. v.layer ≡ None → get_or s (place task used.0) 0 < range v)) p.there (state.in_range used.0) p.base in
+      let below : get_or s (place task used.0) 0 < range p.v =
+      subst (λ (x : Option Variable). IfSome x (λ v. v.layer ≡ None → get_or s (place task used.0) 0 < range v))
+      p.there (state.in_range used.0) p.base in
       let below2 : get_or s slot 0 < range p.v = subst (λ (k : ℕ). get_or s k 0 < range p.v) p.here below in
       let e = p.values in
       omega (arith, below2, e));
@@ -208,7 +227,8 @@ of_state task o s order state = record {
   in_range = λ var. go var (slice_get task.variables var) refl;
 }
   where
-    go : (var : ℕ) (x : Option Variable) → slice_get task.variables var ≡ x → IfSome (slice_get task.variables var) (λ v. v.layer ≡ None → get_or s (place task var) 0 < range v)
+    go : (var : ℕ) (x : Option Variable) → slice_get task.variables var ≡ x
+        → IfSome (slice_get task.variables var) (λ v. v.layer ≡ None → get_or s (place task var) 0 < range v)
     go var None e = subst (λ (y : Option Variable). IfSome y (λ v. v.layer ≡ None → get_or s (place task var) 0 < range v)) (sym e) tt
     go var (Some v) e = subst (λ (y : Option Variable). IfSome y (λ v. v.layer ≡ None → get_or s (place task var) 0 < range v)) (sym e) (λ base.
         (let laid = laid_at task o var v order e in
@@ -218,9 +238,12 @@ of_state task o s order state = record {
 
 -- the same of the list that the loop goes over
 
-pub lays_next : (variables there : List Variable) (i : ℕ) (o more : Layout) (v : Variable) → there ≡ variables → IsLayout o → Lays variables i o → i < length there → v ≡ get_or there i v → Extends o v more → Lays variables (i + 1) more
+pub lays_next : (variables there : List Variable) (i : ℕ) (o more : Layout) (v : Variable) → there ≡ variables
+    → IsLayout o → Lays variables i o → i < length there → v ≡ get_or there i v → Extends o v more
+    → Lays variables (i + 1) more
 lays_next variables there i o more v same l lays lt is extends =
     lays_more variables i o more v l lays (subst (λ (x : List Variable). i < length x) same lt) (is ∙ ap (λ (x : List Variable). get_or x i v) same) extends
 
-pub order_at : (task : TaskParts) (there : List Variable) (i : ℕ) (o : Layout) → there ≡ task.variables → IsLayout o → Lays task.variables i o → length there ≤ i → IsOrderOf task o
+pub order_at : (task : TaskParts) (there : List Variable) (i : ℕ) (o : Layout) → there ≡ task.variables → IsLayout o
+    → Lays task.variables i o → length there ≤ i → IsOrderOf task o
 order_at task there i o same l lays far = order_of task i o l lays (subst (λ (x : List Variable). length x ≤ i) same far)

@@ -41,8 +41,10 @@ pub number_same : (b c : ℕ → Bool) (m n w p : ℕ) → ((k : ℕ) → k < w 
 unfolding number
 number_same b c m n zero p h = refl
 number_same b c m n (suc w) p h =
-    let here : b (level_at m p) ≡ c (level_at n p) = subst (λ (q : ℕ). b (level_at m q) ≡ c (level_at n q)) (let e : p + 0 ≡ p = omega arith in e) (h 0 (omega arith)) in
-    let rest = number_same b c m n w (p + 1) (λ k lt. subst (λ (q : ℕ). b (level_at m q) ≡ c (level_at n q)) (let e : p + suc k ≡ (p + 1) + k = omega arith in e) (h (suc k) (omega (arith, lt)))) in
+    let here : b (level_at m p) ≡ c (level_at n p) = subst (λ (q : ℕ). b (level_at m q) ≡ c (level_at n q))
+    (let e : p + 0 ≡ p = omega arith in e) (h 0 (omega arith)) in
+    let rest = number_same b c m n w (p + 1) (λ k lt. subst (λ (q : ℕ). b (level_at m q) ≡ c (level_at n q))
+    (let e : p + suc k ≡ (p + 1) + k = omega arith in e) (h (suc k) (omega (arith, lt)))) in
     ap (λ (t : Bool). cond t (2 ^ w) 0 + number b m (p + 1) w) here ∙ ap (λ (x : ℕ). cond (c (level_at n p)) (2 ^ w) 0 + x) rest
 
 -- each bit is a digit of the number, the highest first
@@ -63,7 +65,8 @@ bit_number b next (suc w) p (suc i) lt =
     ∙ ap (λ (q : ℕ). digit (b (level_at next q))) (let e : (p + 1) + i ≡ p + suc i = omega arith in e)
 
 -- bits that are the digits of a number spell it
-pub number_digits : (b : ℕ → Bool) (next w p x : ℕ) → x < 2 ^ w → ((i : ℕ) → i < w → digit (b (level_at next (p + i))) ≡ bit_at x (w - 1 - i)) → number b next p w ≡ x
+pub number_digits : (b : ℕ → Bool) (next w p x : ℕ) → x < 2 ^ w
+    → ((i : ℕ) → i < w → digit (b (level_at next (p + i))) ≡ bit_at x (w - 1 - i)) → number b next p w ≡ x
 number_digits b next w p x lt h = same_from_bits_below w (number b next p w) x (number_below b next p w) lt (λ j below.
     let e : w - 1 - (w - 1 - j) ≡ j = omega (arith, below) in
     let at : w - 1 - j < w = omega (arith, below) in

@@ -37,7 +37,8 @@ pub base_block : (task : TaskParts) (o : Layout) (var : ℕ) → IsOrderOf task 
 base_block task o var order base = ap (λ (x : Option ℕ). option_map_or (block_at o) x no_block) (base_slot task o var order base)
 
 -- it has as many bits as its values need
-pub base_width : (task : TaskParts) (o : Layout) (var : ℕ) (v : Variable) → IsOrderOf task o → slice_get task.variables var ≡ Some v → v.layer ≡ None → (block_of o var).width ≡ width (range v)
+pub base_width : (task : TaskParts) (o : Layout) (var : ℕ) (v : Variable) → IsOrderOf task o
+    → slice_get task.variables var ≡ Some v → v.layer ≡ None → (block_of o var).width ≡ width (range v)
 base_width task o var v order there layer =
     let base : IsBase task var = subst (λ (x : Option Variable). IsSomeAnd x (λ v. v.layer ≡ None)) (sym there) layer in
     let laid = laid_at task o var v order there in
@@ -46,18 +47,21 @@ base_width task o var v order there layer =
     ∙ ap width (laid.values layer)
 
 -- a state's bits spell the value of each base variable
-pub code_value : (task : TaskParts) (o : Layout) (next : ℕ) (s : List ℕ) (b : ℕ → Bool) (var : ℕ) → IsOrderOf task o → IsCode o next s b → IsBase task var → value_of o next b var ≡ get_or s (place task var) 0
+pub code_value : (task : TaskParts) (o : Layout) (next : ℕ) (s : List ℕ) (b : ℕ → Bool) (var : ℕ) → IsOrderOf task o
+    → IsCode o next s b → IsBase task var → value_of o next b var ≡ get_or s (place task var) 0
 code_value task o next s b var order code base =
     let slot = base_slot task o var order base in
     ap (λ (block : Block). number b next block.first block.width) (base_block task o var order base)
     ∙ code.values (place task var) (order.layout.slots var (place task var) slot)
 
 -- a state's bits spell the value of each variable that has one
-pub code_spells : (o : Layout) (next : ℕ) (s : List ℕ) (b : ℕ → Bool) (var : ℕ) → IsLayout o → IsCode o next s b → IsSome (slot_of o var) → value_of o next b var ≡ value_in o s var
+pub code_spells : (o : Layout) (next : ℕ) (s : List ℕ) (b : ℕ → Bool) (var : ℕ) → IsLayout o → IsCode o next s b
+    → IsSome (slot_of o var) → value_of o next b var ≡ value_in o s var
 code_spells o next s b var l code some = go (slot_of o var) refl
   where
     go : (x : Option ℕ) → slot_of o var ≡ x → value_of o next b var ≡ value_in o s var
-    go None e = absurd (let z : is_some (slot_of o var) ≡ true = some in let w : is_some (slot_of o var) ≡ false = ap (λ (x : Option ℕ). is_some x) e in true≢false (sym z ∙ w))
+    go None e = absurd (let z : is_some (slot_of o var) ≡ true = some in
+        let w : is_some (slot_of o var) ≡ false = ap (λ (x : Option ℕ). is_some x) e in true≢false (sym z ∙ w))
     go (Some slot) e =
         ap (λ (x : Option ℕ). number b next (option_map_or (block_at o) x no_block).first (option_map_or (block_at o) x no_block).width) e
         ∙ code.values slot (l.slots var slot e)
@@ -77,7 +81,8 @@ pub record Reads (o : Layout) (place slot : ℕ) (block : Block) : Type 0 where
   pub narrow : block.width ≤ 16
   pub below : place < 65536
 
-pub reads : (o : Layout) (place slot : ℕ) (block : Block) → IsLayout o → place < bits o → slot ≡ get_or o.owners place slot → block ≡ get_or o.blocks slot block → Reads o place slot block
+pub reads : (o : Layout) (place slot : ℕ) (block : Block) → IsLayout o → place < bits o
+    → slot ≡ get_or o.owners place slot → block ≡ get_or o.blocks slot block → Reads o place slot block
 reads o place slot block l lt is_slot is_block =
     let inside = l.inside place lt in
     let s : slot ≡ owner_at o place = get_or_read o.owners place slot lt is_slot 0 in
@@ -90,7 +95,8 @@ reads o place slot block l lt is_slot is_block =
 
 -- the bit that is read is the state's
 pub bit_read : (o : Layout) (place slot : ℕ) (block : Block) (s : List ℕ) → IsLayout o → place < bits o → Reads o place slot block
-    → (next : ℕ) (b : ℕ → Bool) → IsCode o next s b → b (level_at next place) ≡ eqb (bit_and (get_or s slot 0 / 2 ^ (block.first + block.width - 1 - place)) 1) 1
+    → (next : ℕ) (b : ℕ → Bool) → IsCode o next s b → b (level_at next place) ≡ eqb
+    (bit_and (get_or s slot 0 / 2 ^ (block.first + block.width - 1 - place)) 1) 1
 bit_read o place slot block s l lt r next b code =
     tested (b (level_at next place)) (get_or s slot 0) (block.first + block.width - 1 - place)
     (code_digit o next s b place l code lt

@@ -19,4 +19,5 @@ returns-clause-text c =
     let to_state = then t ((head ++ variables) ++ mutexes) state to_mutexes c.in_ok-push_state.ensures in
     let to_goal = then t (((head ++ variables) ++ mutexes) ++ state) goal to_state c.in_ok-push_goal.ensures in
     let to_operators = then t ((((head ++ variables) ++ mutexes) ++ state) ++ goal) operators to_goal c.in_ok-push_operators.ensures.lines in
-    on_ok c.push_rules.result _ _ (λ e. then t (((((head ++ variables) ++ mutexes) ++ state) ++ goal) ++ operators) (rules_lines parts.rules) to_operators e) c.push_rules.ensures
+    on_ok c.push_rules.result _ _ (λ e. then t (((((head ++ variables) ++ mutexes) ++ state) ++ goal) ++ operators)
+    (rules_lines parts.rules) to_operators e) c.push_rules.ensures

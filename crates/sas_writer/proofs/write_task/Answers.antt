@@ -11,5 +11,6 @@ returns-clause-file c =
     let task = c.args.task.now in
     let costs = subst (λ (t : TaskParts). HasSmallCosts t.operators) c.parts.ensures.value c.in_ok-push_task.ensures.costs in
     let written : c.into_vec.result.items ≡ task_text task =
-    c.into_vec.ensures ∙ c.in_ok-push_task.ensures.text ∙ ap (λ (t : List ℕ). t ++ task_text c.parts.result.now) c.new-text.ensures ∙ ap task_text c.parts.ensures.value in
+    c.into_vec.ensures ∙ c.in_ok-push_task.ensures.text ∙ ap (λ (t : List ℕ). t ++ task_text c.parts.result.now)
+    c.new-text.ensures ∙ ap task_text c.parts.ensures.value in
     subst (λ (bytes : List ℕ). IsFileOf (lines bytes) task) (sym written) (text_is_file task c.parts.ensures.fits costs)

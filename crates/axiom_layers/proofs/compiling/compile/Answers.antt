@@ -75,5 +75,8 @@ returns-clause-roots c =
     let count = c.layer_count-layer-end.result in
     let most = subst (λ (vs : List Variable). All (λ v. IfSome v.layer (λ layer. layer < count)) vs) c.as_slice.ensures c.layer_count-layer-end.ensures in
     let last : c.layers.layer ≡ count = (let le = c.layers-test.false in let ge = c.layers.auto.layer-end in omega (arith, le, ge)) in
-    let are = valued_roots task o xs roots fits inv.sets (λ s b state code. valued task s count (values_of task xs roots s b) fits most (subst (λ (n : ℕ). Below task s n (values_of task xs roots s b)) last (inv.below s b state code))) in
-    subst (λ (z : List ℕ). AreRoots c.args.task.now o xs z) (sym c.of-2.ensures) (subst (λ (z : TaskParts). AreRoots z o xs roots) c.parts-parts.ensures.value are)
+    let are = valued_roots task o xs roots fits inv.sets (λ s b state code. valued task s count
+    (values_of task xs roots s b) fits most (subst (λ (n : ℕ). Below task s n (values_of task xs roots s b))
+    last (inv.below s b state code))) in
+    subst (λ (z : List ℕ). AreRoots c.args.task.now o xs z) (sym c.of-2.ensures)
+    (subst (λ (z : TaskParts). AreRoots z o xs roots) c.parts-parts.ensures.value are)

@@ -42,10 +42,13 @@ loop-fact-preserved c =
       reduced = all.reduced;
       sets = kept_sets task o ys zs roots all.kept sets;
       known = all.known;
-      of_states = both_of_states (λ (t u : Bool). t && u) o ys zs c.loop-fact.all c.in_ok-set.set c.in_ok-all.all (set_kept o xs ys c.loop-fact.all set.kept inv.known inv.of_states) set.of_states all.meaning;
+      of_states = both_of_states (λ (t u : Bool). t && u) o ys zs c.loop-fact.all c.in_ok-set.set c.in_ok-all.all
+          (set_kept o xs ys c.loop-fact.all set.kept inv.known inv.of_states) set.of_states all.meaning;
       says = conj_says task o ys zs roots
-          (λ values. (k : ℕ) (d : Fact) → k < i → HasValue values (get_or facts k d)) (λ values. HasValue values e) (λ values. (k : ℕ) (d : Fact) → k < i + 1 → HasValue values (get_or facts k d))
+          (λ values. (k : ℕ) (d : Fact) → k < i → HasValue values (get_or facts k d)) (λ values. HasValue values e)
+          (λ values. (k : ℕ) (d : Fact) → k < i + 1 → HasValue values (get_or facts k d))
           c.loop-fact.all c.in_ok-set.set c.in_ok-all.all all.kept sets
-          (kept_says task o xs ys roots (λ values. (k : ℕ) (d : Fact) → k < i → HasValue values (get_or facts k d)) c.loop-fact.all set.kept inv.sets inv.known inv.says)
+          (kept_says task o xs ys roots (λ values. (k : ℕ) (d : Fact) → k < i → HasValue values (get_or facts k d))
+          c.loop-fact.all set.kept inv.sets inv.known inv.says)
           set.meaning all.meaning (λ values. facts_more values facts i e c.loop-fact-test.true (get_or_default facts i none e c.loop-fact-test.true));
     }

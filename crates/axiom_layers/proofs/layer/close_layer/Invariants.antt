@@ -10,5 +10,6 @@ invariant-passes l = record {
   reduced : IsReduced l.ops;
   sets : AreSets l.parts l.order l.ops l.roots.items;
   passes : (layer : ℕ) → AreOfLayer l.parts layer l.rules
-      → EachState l.parts l.order (λ s b. Passes l.parts layer l.counter (values_of l.parts l.fn.ops l.fn.roots.items s b) (values_of l.parts l.ops l.roots.items s b));
+      → EachState l.parts l.order (λ s b. Passes l.parts layer l.counter
+      (values_of l.parts l.fn.ops l.fn.roots.items s b) (values_of l.parts l.ops l.roots.items s b));
 }

@@ -32,13 +32,17 @@ pub add_rule-requires-clause-rule : goal.add_rule-requires-clause-rule
 add_rule-requires-clause-rule c =
     let none : Counting = record { layer = 0; rule = 0 } in
     let i = c.loop-counting.counting-index in
-    (rule_read c.args.parts.now c.as_slice.result.now (get_or c.args.rules.now i none) c.index-as_slice-counting.result c.requires.fits (c.requires.rules i none c.loop-counting-test.true) c.as_slice.ensures c.index-as_slice-counting.is).fits
+    (rule_read c.args.parts.now c.as_slice.result.now (get_or c.args.rules.now i none)
+    c.index-as_slice-counting.result c.requires.fits (c.requires.rules i none c.loop-counting-test.true)
+    c.as_slice.ensures c.index-as_slice-counting.is).fits
 
 pub add_rule-requires-clause-counts : goal.add_rule-requires-clause-counts
 add_rule-requires-clause-counts c =
     let none : Counting = record { layer = 0; rule = 0 } in
     let i = c.loop-counting.counting-index in
-    (rule_read c.args.parts.now c.as_slice.result.now (get_or c.args.rules.now i none) c.index-as_slice-counting.result c.requires.fits (c.requires.rules i none c.loop-counting-test.true) c.as_slice.ensures c.index-as_slice-counting.is).counts
+    (rule_read c.args.parts.now c.as_slice.result.now (get_or c.args.rules.now i none)
+    c.index-as_slice-counting.result c.requires.fits (c.requires.rules i none c.loop-counting-test.true)
+    c.as_slice.ensures c.index-as_slice-counting.is).counts
 
 pub loop-counting-preserved : goal.loop-counting-preserved
 loop-counting-preserved c =
@@ -50,7 +54,8 @@ loop-counting-preserved c =
     let counting : Counting = get_or c.args.rules.now i none in
     let rule = c.index-as_slice-counting.result in
     let lt = c.loop-counting-test.true in
-    let read = rule_read task c.as_slice.result.now counting rule c.requires.fits (c.requires.rules i none lt) c.as_slice.ensures c.index-as_slice-counting.is in
+    let read = rule_read task c.as_slice.result.now counting rule c.requires.fits (c.requires.rules i none lt)
+    c.as_slice.ensures c.index-as_slice-counting.is in
     record {
       kept = keeps_on c.args.ops.now c.loop-counting.ops c.add_rule.new.ops inv.kept added.kept;
       reduced = added.reduced;
@@ -60,13 +65,22 @@ loop-counting-preserved c =
         | else-branch w ↦ λ not_so. added.same w.if-branch.false ∙ inv.same (sym w.changed-is ∙ not_so)
       ]);
       turn = λ layer are s b state code. turn_more task layer i c.args.rules.now counting rule
-          (values_of task c.args.ops.now c.args.roots.now.items s b) (values_of task c.loop-counting.ops c.loop-counting.roots.items s b) (values_of task c.add_rule.new.ops c.add_rule.new.roots.items s b)
-          c.requires.fits (values_length task c.loop-counting.ops c.loop-counting.roots.items s b) are lt (get_or_default c.args.rules.now i none counting lt) read.at (inv.turn layer are s b state code) (added.turn s b state code);
+          (values_of task c.args.ops.now c.args.roots.now.items s b)
+          (values_of task c.loop-counting.ops c.loop-counting.roots.items s b)
+          (values_of task c.add_rule.new.ops c.add_rule.new.roots.items s b)
+          c.requires.fits (values_length task c.loop-counting.ops c.loop-counting.roots.items s b) are lt
+          (get_or_default c.args.rules.now i none counting lt) read.at (inv.turn layer are s b state code)
+          (added.turn s b state code);
     }
 
 pub returns-clause-turn : goal.returns-clause-turn
 returns-clause-turn c = λ layer are s b state code.
     let task = c.args.parts.now in
     let rules = c.args.rules.now in
-    let last : c.loop-counting.counting-index ≡ length rules = (let le = c.loop-counting-test.false in let ge = c.loop-counting.auto.counting-index-end in omega (arith, le, ge)) in
-    subst (λ (n : ℕ). Rattle.axiom_layers.specs.Raising.PassTurn task layer rules n (values_of task c.args.ops.now c.args.roots.now.items s b) (values_of task c.loop-counting.ops c.loop-counting.roots.items s b)) last (c.loop-counting.invariant.turn layer are s b state code)
+    let last : c.loop-counting.counting-index ≡ length rules =
+    (let le = c.loop-counting-test.false in let ge = c.loop-counting.auto.counting-index-end in omega
+    (arith, le, ge)) in
+    subst (λ (n : ℕ). Rattle.axiom_layers.specs.Raising.PassTurn task layer rules n
+    (values_of task c.args.ops.now c.args.roots.now.items s b)
+    (values_of task c.loop-counting.ops c.loop-counting.roots.items s b)) last
+    (c.loop-counting.invariant.turn layer are s b state code)

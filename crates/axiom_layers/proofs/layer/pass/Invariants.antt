@@ -11,5 +11,6 @@ invariant-loop-counting l = record {
   sets : AreSets l.parts l.order l.ops l.roots.items;
   same : l.changed ≡ false → l.roots.items ≡ l.fn.roots.items;
   turn : (layer : ℕ) → AreOfLayer l.parts layer l.rules
-      → EachState l.parts l.order (λ s b. PassTurn l.parts layer l.rules l.counting-index (values_of l.parts l.fn.ops l.fn.roots.items s b) (values_of l.parts l.ops l.roots.items s b));
+      → EachState l.parts l.order (λ s b. PassTurn l.parts layer l.rules l.counting-index
+      (values_of l.parts l.fn.ops l.fn.roots.items s b) (values_of l.parts l.ops l.roots.items s b));
 }

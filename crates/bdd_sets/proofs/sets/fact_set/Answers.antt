@@ -7,16 +7,24 @@ use Rattle.bdd_sets.proofs.Room.{HasRoom, variable_room}
 use Rattle.bdd_sets.proofs.sets.fact_set.Goals as goal
 
 pub value_is-requires-clause-width : goal.value_is-requires-clause-width
-value_is-requires-clause-width c = (subst HasRoom (sym c.block_of-block.ensures.is) (variable_room c.args.order.now c.block_of-block.ensures.layout c.args.fact.var)).width
+value_is-requires-clause-width c = (subst HasRoom (sym c.block_of-block.ensures.is)
+    (variable_room c.args.order.now c.block_of-block.ensures.layout c.args.fact.var)).width
 
 pub value_is-requires-clause-place : goal.value_is-requires-clause-place
-value_is-requires-clause-place c = (subst HasRoom (sym c.block_of-block.ensures.is) (variable_room c.args.order.now c.block_of-block.ensures.layout c.args.fact.var)).place
+value_is-requires-clause-place c = (subst HasRoom (sym c.block_of-block.ensures.is)
+    (variable_room c.args.order.now c.block_of-block.ensures.layout c.args.fact.var)).place
 
 pub returns-clause-meaning : goal.returns-clause-meaning
-returns-clause-meaning c = ok_by c.value_is.result _ _ c.value_is.ensures.meaning (λ id m b. m b ∙ ap (λ (x : Block). eqb (number b 0 x.first x.width) c.args.fact.val) c.block_of-block.ensures.is)
+returns-clause-meaning c = ok_by c.value_is.result _ _ c.value_is.ensures.meaning
+    (λ id m b. m b ∙ ap (λ (x : Block). eqb (number b 0 x.first x.width) c.args.fact.val)
+    c.block_of-block.ensures.is)
 
 pub returns-clause-states : goal.returns-clause-states
-returns-clause-states c = ok_by c.value_is.result _ _ (returns-clause-meaning c) (λ id m. fact_by_states c.args.order.now c.value_is.new.ops id c.args.fact.var c.args.fact.val c.block_of-block.ensures.layout c.requires m)
+returns-clause-states c = ok_by c.value_is.result _ _ (returns-clause-meaning c)
+    (λ id m. fact_by_states c.args.order.now c.value_is.new.ops id c.args.fact.var c.args.fact.val
+    c.block_of-block.ensures.layout c.requires m)
 
 pub returns-clause-of_states : goal.returns-clause-of_states
-returns-clause-of_states c = ok_by c.value_is.result _ _ (returns-clause-meaning c) (λ id m. fact_of_states c.args.order.now c.value_is.new.ops id c.args.fact.var c.args.fact.val c.block_of-block.ensures.layout m)
+returns-clause-of_states c = ok_by c.value_is.result _ _ (returns-clause-meaning c)
+    (λ id m. fact_of_states c.args.order.now c.value_is.new.ops id c.args.fact.var c.args.fact.val
+    c.block_of-block.ensures.layout m)

@@ -14,6 +14,10 @@ pub returns-clause-meaning : goal.returns-clause-meaning
 returns-clause-meaning t c = ok_by c.bounded.result _ _ c.bounded.ensures.meaning (λ id m b.
     let bit = c.split-bit.result.0 in
     m b
-    ∙ ap (λ (x : Bool). cond bit (x || means c.literal.new.self c.in_ok-rest.rest b) (x && means c.literal.new.self c.in_ok-rest.rest b)) (c.in_ok-off.ensures.meaning b)
-    ∙ ap (λ (x : Bool). cond bit (not (b (2 * c.args.place + c.args.next)) || x) (not (b (2 * c.args.place + c.args.next)) && x)) (c.literal.ensures.kept.meaning c.in_ok-rest.rest b c.in_ok-rest.ensures.known ∙ c.in_ok-rest.ensures.meaning b)
-    ∙ most_split b c.args.next c.args.place c.args.width (c.args.width - 1) c.args.most bit c.split-bit.result.1 (omega (arith, c.if-width-eq0.false)) c.split-bit.ensures)
+    ∙ ap (λ (x : Bool). cond bit (x || means c.literal.new.self c.in_ok-rest.rest b)
+    (x && means c.literal.new.self c.in_ok-rest.rest b)) (c.in_ok-off.ensures.meaning b)
+    ∙ ap (λ (x : Bool). cond bit (not (b (2 * c.args.place + c.args.next)) || x)
+    (not (b (2 * c.args.place + c.args.next)) && x)) (c.literal.ensures.kept.meaning c.in_ok-rest.rest b
+    c.in_ok-rest.ensures.known ∙ c.in_ok-rest.ensures.meaning b)
+    ∙ most_split b c.args.next c.args.place c.args.width (c.args.width - 1) c.args.most bit c.split-bit.result.1
+    (omega (arith, c.if-width-eq0.false)) c.split-bit.ensures)

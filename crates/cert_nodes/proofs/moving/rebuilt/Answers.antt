@@ -6,8 +6,10 @@ use Rattle.cert_nodes.proofs.Rebuilding.{rebuilt_none, rebuilt_more, root_kept}
 use Rattle.cert_nodes.proofs.moving.rebuilt.Goals as goal
 
 pub ids-init : goal.ids-init
-ids-init c = rebuilt_none c.args.old.now c.in_ok-wanted.wanted.items c.args.indexes.now c.args.ops.now c.push-2.new.self.items c.held-held.ensures.reduced c.table.ensures.reduced
-    (c.in_ok-push-2.ensures.items ∙ ap (λ (xs : List ℕ). xs ++ 1 ∷ []) (c.in_ok-push.ensures.items ∙ ap (λ (xs : List ℕ). xs ++ 0 ∷ []) c.new-ids.ensures.items))
+ids-init c = rebuilt_none c.args.old.now c.in_ok-wanted.wanted.items c.args.indexes.now c.args.ops.now
+    c.push-2.new.self.items c.held-held.ensures.reduced c.table.ensures.reduced
+    (c.in_ok-push-2.ensures.items ∙ ap (λ (xs : List ℕ). xs ++ 1 ∷ [])
+    (c.in_ok-push.ensures.items ∙ ap (λ (xs : List ℕ). xs ++ 0 ∷ []) c.new-ids.ensures.items))
 
 pub ids-preserved : goal.ids-preserved
 ids-preserved c =
@@ -17,9 +19,13 @@ ids-preserved c =
     let marks = c.in_ok-wanted.wanted.items in
     let as_long = c.in_ok-wanted.ensures.as_long in
     let inside : c.ids.id < length c.args.old.now = omega (arith, below, known) in
-    rebuilt_more c.args.old.now marks c.args.indexes.now c.args.ops.now c.ids.ops c.ids.ids.items c.ids.id c.held-held.ensures.reduced (closed_marks c.args.old.now (c.args.root ∷ []) marks c.in_ok-wanted.ensures) c.ids.invariant
-    c.moved_if_wanted.new.ops c.push-in-ids.new.self.items c.deref.result.now c.in_ok-new.new c.index.result.now (c.index.ensures ∙ get_or_default marks c.ids.id c.index.result.now false (omega (arith, inside, as_long)))
-    two inside c.in_ok-new.ensures.kept c.in_ok-new.ensures.reduced c.in_ok-new.ensures.known c.deref.ensures.value c.in_ok-push-3.ensures.items c.in_ok-new.ensures.meaning
+    rebuilt_more c.args.old.now marks c.args.indexes.now c.args.ops.now c.ids.ops c.ids.ids.items c.ids.id
+    c.held-held.ensures.reduced (closed_marks c.args.old.now (c.args.root ∷ []) marks c.in_ok-wanted.ensures)
+    c.ids.invariant
+    c.moved_if_wanted.new.ops c.push-in-ids.new.self.items c.deref.result.now c.in_ok-new.new c.index.result.now
+    (c.index.ensures ∙ get_or_default marks c.ids.id c.index.result.now false (omega (arith, inside, as_long)))
+    two inside c.in_ok-new.ensures.kept c.in_ok-new.ensures.reduced c.in_ok-new.ensures.known c.deref.ensures.value
+    c.in_ok-push-3.ensures.items c.in_ok-new.ensures.meaning
 
 pub returns-clause-meaning : goal.returns-clause-meaning
 returns-clause-meaning c = λ b.

@@ -9,5 +9,7 @@ returns c =
     let t = c.args.text.now in
     let version = codes "symk-cert 1" ∷ [] in
     let bits = numbered (codes "bits ") c.args.width ∷ [] in
-    let to_bits = then t version bits c.in_ok-push_word.ensures (c.in_ok-push_numbered.ensures ∙ ap (λ (n : ℕ). c.push_word.new.text ++ text_of (numbered (codes "bits ") n ∷ [])) c.from.ensures) in
+    let to_bits = then t version bits c.in_ok-push_word.ensures
+    (c.in_ok-push_numbered.ensures ∙ ap (λ (n : ℕ). c.push_word.new.text ++ text_of
+    (numbered (codes "bits ") n ∷ [])) c.from.ensures) in
     on_ok c.push_numbered-2.result _ _ (λ e. then t (version ++ bits) (numbered (codes "nodes ") c.args.count ∷ []) to_bits e) c.push_numbered-2.ensures

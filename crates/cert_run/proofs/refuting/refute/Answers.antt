@@ -15,13 +15,15 @@ returns-in-Ok-Yes-clause-no_plan g c = λ _. c.in-Ok-Yes.ensures.refutes c.in-Ok
 
 pub returns-in-Ok-No-clause-answer : goal.returns-in-Ok-No-clause-answer
 returns-in-Ok-No-clause-answer g c =
-    text_puts (Refutes c.args.task.now c.args.cert.now) NotShown _ (not_shown_text c.in-Ok-No.part) (g.K.Sink.view c.args.sink.now) (g.K.Sink.view c.end_with.new.sink) _ c.not_shown.ensures
+    text_puts (Refutes c.args.task.now c.args.cert.now) NotShown _ (not_shown_text c.in-Ok-No.part)
+    (g.K.Sink.view c.args.sink.now) (g.K.Sink.view c.end_with.new.sink) _ c.not_shown.ensures
     (record { part = c.in-Ok-No.part; judged = rw c.in-Ok-No.field-0-is at c.in-Ok-No.ensures.verdict; text = refl })
     c.end_with.ensures.ends
 
 pub returns-in-Err-Offence-clause-answer : goal.returns-in-Err-Offence-clause-answer
 returns-in-Err-Offence-clause-answer g c =
-    text_puts (Refutes c.args.task.now c.args.cert.now) Offending _ (cert_offence_text c.in-Err-Offence.line) (g.K.Sink.view c.args.sink.now) (g.K.Sink.view c.end_with-in-Err-Offence.new.sink) _ c.cert_offence.ensures
+    text_puts (Refutes c.args.task.now c.args.cert.now) Offending _ (cert_offence_text c.in-Err-Offence.line)
+    (g.K.Sink.view c.args.sink.now) (g.K.Sink.view c.end_with-in-Err-Offence.new.sink) _ c.cert_offence.ensures
     (record { line = c.in-Err-Offence.line; offends = rw c.in-Err-Offence.field-0-is at c.in-Err-Offence.ensures.offence; text = refl })
     c.end_with-in-Err-Offence.ensures.ends
 

@@ -13,7 +13,8 @@ returns-in-Ok-true-clause-seen g c =
     let e = g.I.LazyMembers in
     let gave = rw (i.system, i.most) at (rw c.in-Ok-Some.field-0-is at c.in-Ok-Some.ensures.law) in
     let noted = rw (c.in-Ok-true.field-0-test, i.seen) at c.in-Ok-true.ensures.ok in
-    keys_more (e.system c.args.inner.now) Unordered (e.most c.args.inner.now) c.args.seen.now _ c.in-Ok-Some.plan noted.key c.requires.seen gave.fits noted.is noted.more
+    keys_more (e.system c.args.inner.now) Unordered (e.most c.args.inner.now) c.args.seen.now _ c.in-Ok-Some.plan
+    noted.key c.requires.seen gave.fits noted.is noted.more
 
 pub returns-in-Ok-true-clause-covers : goal.returns-in-Ok-true-clause-covers
 returns-in-Ok-true-clause-covers g c = λ _.
@@ -21,7 +22,8 @@ returns-in-Ok-true-clause-covers g c = λ _.
     let e = g.I.LazyMembers in
     let gave = rw (i.system, i.most) at (rw c.in-Ok-Some.field-0-is at c.in-Ok-Some.ensures.law) in
     let noted = rw (c.in-Ok-true.field-0-test, i.seen) at c.in-Ok-true.ensures.ok in
-    covers_taken _ _ c.args.seen.now (e.pends c.plans.inner) (e.pends c.next_member.new.self) i.covers c.in-Ok-Some.plan gave noted.key (key_same Unordered c.in-Ok-Some.plan noted.key noted.is) _ noted.more
+    covers_taken _ _ c.args.seen.now (e.pends c.plans.inner) (e.pends c.next_member.new.self) i.covers
+    c.in-Ok-Some.plan gave noted.key (key_same Unordered c.in-Ok-Some.plan noted.key noted.is) _ noted.more
 
 pub returns-in-Ok-true-clause-law : goal.returns-in-Ok-true-clause-law
 returns-in-Ok-true-clause-law g c =
@@ -30,7 +32,9 @@ returns-in-Ok-true-clause-law g c =
     let gave = rw (i.system, i.most) at (rw c.in-Ok-Some.field-0-is at c.in-Ok-Some.ensures.law) in
     let noted = rw (c.in-Ok-true.field-0-test, i.seen) at c.in-Ok-true.ensures.ok in
     let plan = rw i.system at (g.met.I.LazyMembers.fair c.plans.inner i.lawful c.in-Ok-Some.plan gave.pended) in
-    class_taken _ _ c.args.seen.now (e.pends c.plans.inner) (e.pends c.next_member.new.self) i.covers c.in-Ok-Some.plan gave noted.key (key_same Unordered c.in-Ok-Some.plan noted.key noted.is) noted.fresh plan _ noted.more
+    class_taken _ _ c.args.seen.now (e.pends c.plans.inner) (e.pends c.next_member.new.self) i.covers
+    c.in-Ok-Some.plan gave noted.key (key_same Unordered c.in-Ok-Some.plan noted.key noted.is)
+    noted.fresh plan _ noted.more
 
 pub plans-smaller : goal.plans-smaller
 plans-smaller g c =
@@ -38,7 +42,10 @@ plans-smaller g c =
     let e = g.I.LazyMembers in
     let gave = rw (i.system, i.most) at (rw c.in-Ok-Some.field-0-is at c.in-Ok-Some.ensures.law) in
     let noted = rw (c.in-Ok-false.field-0-test, i.seen) at c.in-Ok-false.ensures.ok in
-    let falls = sifting_falls _ _ c.args.seen.now (e.pends c.plans.inner) (e.pends c.next_member.new.self) i.covers c.in-Ok-Some.plan gave (e.tells c.plans.inner) (e.tells c.next_member.new.self) (g.met.I.LazyMembers.told c.plans.inner i.lawful) (g.met.I.LazyMembers.told c.next_member.new.self c.in-Ok-Some.ensures.lawful) noted.0 in
+    let falls = sifting_falls _ _ c.args.seen.now (e.pends c.plans.inner) (e.pends c.next_member.new.self) i.covers
+    c.in-Ok-Some.plan gave (e.tells c.plans.inner) (e.tells c.next_member.new.self)
+    (g.met.I.LazyMembers.told c.plans.inner i.lawful) (g.met.I.LazyMembers.told c.next_member.new.self
+    c.in-Ok-Some.ensures.lawful) noted.0 in
     rw (noted.1, i.seen) falls
 
 pub plans-preserved : goal.plans-preserved

@@ -10,6 +10,8 @@ returns-then-are_both_local c = λ yes.
       well = inr (inr (
         local.0,
         local.1,
-        by_range (MeetEach c.args.parts.now c.args.one.now c.args.other.now c.args.var) (slice_get c.args.parts.now.variables c.args.var) c.in-Some.range c.in-Some.ensures (c.meet_each.ensures yes),
+        by_range (MeetEach c.args.parts.now c.args.one.now c.args.other.now c.args.var)
+            (slice_get c.args.parts.now.variables c.args.var) c.in-Some.range c.in-Some.ensures
+            (c.meet_each.ensures yes),
       ));
     }

@@ -23,4 +23,6 @@ returns-in-None-clause-ok g c =
     let end = c.operators-end.result in
     let low : start ≤ c.args.start = grind arith in
     let none = subst (FirstOut (seen_from c.args.side v.system) v start end c.args.set c.args.within) c.in-None.is c.in_ok-op.ensures.ok in
-    way_told c.args.side v (g.S.Space.view c.first_out.new.space) c.args.set c.args.within c.in_ok-op.ensures.stays.kept c.requires.set c.requires.within c.args.start start end c.first_out-in-None.result low c.operators-end.ensures none c.first_out-in-None.ensures.ok
+    way_told c.args.side v (g.S.Space.view c.first_out.new.space) c.args.set c.args.within
+    c.in_ok-op.ensures.stays.kept c.requires.set c.requires.within c.args.start start end
+    c.first_out-in-None.result low c.operators-end.ensures none c.first_out-in-None.ensures.ok

@@ -2,7 +2,8 @@ use Rattle.lazy_plans.proofs.ListLaw.{rest_first, right_more, rest_more, exhaust
 use Rattle.lazy_plans.proofs.laws.given_plans_are_right.Goals as goal
 
 pub returns-clause-first : goal.returns-clause-first
-returns-clause-first g c = (λ x ok whole. let i = g.I.LazyPlans in rest_first (i.system x) (i.mode x) (i.most x) (i.pends x) (g.met.I.LazyPlans.fair x ok) whole)
+returns-clause-first g c = (λ x ok whole. let i = g.I.LazyPlans in rest_first (i.system x) (i.mode x) (i.most x)
+    (i.pends x) (g.met.I.LazyPlans.fair x ok) whole)
 
 pub returns-clause-more : goal.returns-clause-more
 returns-clause-more g c = (λ system mode most plans x y p right rest gave. let i = g.I.LazyPlans in (

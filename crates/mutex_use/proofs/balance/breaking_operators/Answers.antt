@@ -15,7 +15,8 @@ returns c =
     let among = c.in_ok-among.among.items in
     let operators = c.as_slice-operators.result.now in
     let same = c.as_slice-operators.ensures ∙ ap (λ (t : TaskParts). t.operators) c.parts.ensures.value in
-    IfOk-weaker c.unbalanced.result (λ left. HaveUnbalanced operators c.facts_of.result.now c.deref.result.now left.items) (λ left. HaveBreaking task facts left.items)
+    IfOk-weaker c.unbalanced.result (λ left. HaveUnbalanced operators c.facts_of.result.now c.deref.result.now
+    left.items) (λ left. HaveBreaking task facts left.items)
     (λ left h. breaking_end task facts among left.items c.requires.group.1 c.in_ok-among.ensures
     (subst (λ (z : List Operator). HaveUnbalanced z facts among left.items) same
     (subst (λ (z : List Fact). HaveUnbalanced operators z among left.items) c.facts_of.ensures.value

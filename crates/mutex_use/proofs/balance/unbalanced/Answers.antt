@@ -18,7 +18,8 @@ among-preserved c =
     let here = get_or_default among i x 0 lt in
     let old = c.among.left.items in
     elim c.if-may_break.branch [
-      | then-may_break+in_ok-push w ↦ subst (AreLookedAt operators facts among (i + 1)) (sym (ap (λ (v : Vec ℕ Global). v.items) w.left-is ∙ w.in_ok-push.ensures.items))
+      | then-may_break+in_ok-push w ↦ subst (AreLookedAt operators facts among (i + 1))
+          (sym (ap (λ (v : Vec ℕ Global). v.items) w.left-is ∙ w.in_ok-push.ensures.items))
           (looked_more operators facts among old i x lt here c.among.invariant (c.requires i 0 lt))
       | else-may_break w ↦ subst (AreLookedAt operators facts among (i + 1)) (sym (ap (λ (v : Vec ℕ Global). v.items) w.left-is))
           (looked_same operators facts among old i x lt here c.among.invariant (c.may_break.ensures w.if-may_break.false))

@@ -22,9 +22,11 @@ facts-preserved c =
     let was = contains pair_cmp c.facts.seen (key f) in
     elim c.if-branch.branch [
       | then-branch+in_ok-push w ↦ subst (Seen facts (i + 1) new) (sym (ap (λ (v : Vec Fact Global). v.items) w.each-is ∙ w.in_ok-push.ensures.items))
-          (seen_more facts i f c.facts.seen new each lt here c.facts.invariant c.in_ok-insert.ensures.updates.0 (was_new c.in_ok-insert.field-0 was c.in_ok-insert.ensures.added w.if-branch.true))
+          (seen_more facts i f c.facts.seen new each lt here c.facts.invariant c.in_ok-insert.ensures.updates.0
+          (was_new c.in_ok-insert.field-0 was c.in_ok-insert.ensures.added w.if-branch.true))
       | else-branch w ↦ subst (Seen facts (i + 1) new) (sym (ap (λ (v : Vec Fact Global). v.items) w.each-is))
-          (seen_same facts i f c.facts.seen new each lt here c.facts.invariant c.in_ok-insert.ensures.updates.0 (was_there c.in_ok-insert.field-0 was c.in_ok-insert.ensures.added w.if-branch.false))
+          (seen_same facts i f c.facts.seen new each lt here c.facts.invariant c.in_ok-insert.ensures.updates.0
+          (was_there c.in_ok-insert.field-0 was c.in_ok-insert.ensures.added w.if-branch.false))
     ]
 
 pub returns : goal.returns

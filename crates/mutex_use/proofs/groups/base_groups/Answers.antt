@@ -34,7 +34,8 @@ groups-preserved c =
       | else-are_base w ↦ (
           let same = sym (ap (λ (v : Vec ℕ Global). v.items) w.groups-is) in
           record {
-            each = subst Found same (found_same xs x P i.each (λ p. valid_clash (c.are_base.ensures.1 (subst (AreBase task) (sym here) p)) w.if-are_base.false));
+            each = subst Found same (found_same xs x P i.each
+                (λ p. valid_clash (c.are_base.ensures.1 (subst (AreBase task) (sym here) p)) w.if-are_base.false));
             rising = subst IsStrictlyIncreasing same i.rising;
           })
     ]

@@ -11,4 +11,5 @@ of_several-requires c =
     subst P (sym c.deref.ensures.value) (λ k d lt. (c.in_ok-base.ensures.each (get_or base k d)).0 (Contains-get_or base k d lt))
 
 pub returns : goal.returns
-returns c = All-permutation (IsBaseGroup c.args.task.now) c.in_ok-groups.groups.items c.sort_by_key.new.self.items c.sort_by_key.ensures.permutation c.in_ok-groups.ensures
+returns c = All-permutation (IsBaseGroup c.args.task.now) c.in_ok-groups.groups.items c.sort_by_key.new.self.items
+    c.sort_by_key.ensures.permutation c.in_ok-groups.ensures

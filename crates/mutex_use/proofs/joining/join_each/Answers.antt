@@ -13,13 +13,16 @@ groups-init g c =
     record {
       task = c.all.ensures.makes.task;
       made = trades_gives kept c.all.ensures.makes.kept c.in_ok-kept.ensures.makes.ok;
-      means = keepers_start w c.args.task.now kept (c.all.ensures.makes.task ∙ c.requires.task) (all_states v w kept (g.met.S.Space.of_task c.args.space.now) c.all.ensures.makes.task c.in_ok-kept.ensures.makes.ok);
+      means = keepers_start w c.args.task.now kept (c.all.ensures.makes.task ∙ c.requires.task)
+          (all_states v w kept (g.met.S.Space.of_task c.args.space.now) c.all.ensures.makes.task
+          c.in_ok-kept.ensures.makes.ok);
     }
 
 pub joined-requires-clause-all : goal.joined-requires-clause-all
 joined-requires-clause-all g c =
     let view = g.S.Space.view in
-    all_after (view c.args.space.now) (view c.groups.space) c.args.all (kept_made c.groups.invariant.made) c.requires.valid c.groups.invariant.task c.requires.all
+    all_after (view c.args.space.now) (view c.groups.space) c.args.all (kept_made c.groups.invariant.made)
+    c.requires.valid c.groups.invariant.task c.requires.all
 
 pub returns-in_err-kept-2-clause-kept : goal.returns-in_err-kept-2-clause-kept
 returns-in_err-kept-2-clause-kept g c = (all_back c.groups.invariant.made c.in_err-kept-2.ensures.err).kept

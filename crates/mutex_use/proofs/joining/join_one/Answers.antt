@@ -15,4 +15,5 @@ returns-in-Some-clause-ok g c =
     let keepers = c.in-Some.keepers in
     let one = subst (λ (o : Option _). MayKeepOne v w task c.args.group o) c.in-Some.is c.in_ok-keepers.ensures.ok in
     IfOk-weaker c.small_meet-both.result (MayGive w x (Meets w c.args.kept keepers)) (MayKeepMore v (view c.forget.new.self) task c.args.kept c.args.group)
-    (join_given task v w x (view c.forget.new.self) c.args.kept keepers c.args.group c.in_ok-keepers.ensures.kept c.requires.set one c.small_meet-both.ensures.kept c.forget.ensures) c.small_meet-both.ensures.ok
+    (join_given task v w x (view c.forget.new.self) c.args.kept keepers c.args.group c.in_ok-keepers.ensures.kept
+    c.requires.set one c.small_meet-both.ensures.kept c.forget.ensures) c.small_meet-both.ensures.ok

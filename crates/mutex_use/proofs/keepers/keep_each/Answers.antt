@@ -13,7 +13,9 @@ groups-init g c =
     record {
       task = c.all.ensures.makes.task;
       made = trades_gives c.in_ok-kept.kept c.all.ensures.makes.kept c.in_ok-kept.ensures.makes.ok;
-      means = keeper_start c.args.task.now w c.in_ok-kept.kept c.args.groups.now (c.all.ensures.makes.task ∙ c.requires.task) (all_states v w c.in_ok-kept.kept (g.met.S.Space.of_task c.args.space.now) c.all.ensures.makes.task c.in_ok-kept.ensures.makes.ok);
+      means = keeper_start c.args.task.now w c.in_ok-kept.kept c.args.groups.now
+          (c.all.ensures.makes.task ∙ c.requires.task) (all_states v w c.in_ok-kept.kept
+          (g.met.S.Space.of_task c.args.space.now) c.all.ensures.makes.task c.in_ok-kept.ensures.makes.ok);
     }
 
 pub groups-preserved : goal.groups-preserved
@@ -26,8 +28,10 @@ groups-preserved g c =
     record {
       task = c.keep_one.ensures.task ∙ c.groups.invariant.task;
       made = trades_trans c.groups.invariant.made c.in_ok-kept-2.ensures.ok.trades;
-      means = keeper_next c.args.task.now v w x c.args.all c.groups.kept c.in_ok-kept-2.kept c.args.groups.now c.groups.i group c.facts_of.result.now c.groups-test.true
-          (get_or_default c.args.groups.now c.groups.i group 0 c.groups-test.true) c.facts_of.ensures.value (c.groups.invariant.task ∙ c.requires.task) c.groups.invariant.means c.in_ok-kept-2.ensures.ok;
+      means = keeper_next c.args.task.now v w x c.args.all c.groups.kept c.in_ok-kept-2.kept c.args.groups.now
+          c.groups.i group c.facts_of.result.now c.groups-test.true
+          (get_or_default c.args.groups.now c.groups.i group 0 c.groups-test.true) c.facts_of.ensures.value
+          (c.groups.invariant.task ∙ c.requires.task) c.groups.invariant.means c.in_ok-kept-2.ensures.ok;
     }
 
 pub returns-clause-ok : goal.returns-clause-ok

@@ -14,7 +14,8 @@ returns-in-Ok-clause-ok g c =
     let x = view c.forget.new.self in
     let gives = of_ok c.kept_more-left.result (Gives v w (KeepsIn v c.args.kept c.args.facts.now)) c.in-Ok.set c.in-Ok.is c.kept_more-left.ensures.ok in
     if_ok_both c.tidied.result
-    (λ r e z. narrows_tidied v w x (view c.tidied.new.space) c.args.kept c.in-Ok.set r c.kept_more-left.ensures.kept gives c.requires.valid c.forget.ensures e z)
+    (λ r e z. narrows_tidied v w x (view c.tidied.new.space) c.args.kept c.in-Ok.set r c.kept_more-left.ensures.kept
+    gives c.requires.valid c.forget.ensures e z)
     c.tidied.ensures.same c.tidied.ensures.stays
 
 pub returns-in-Ok-clause-err : goal.returns-in-Ok-clause-err
@@ -24,11 +25,15 @@ returns-in-Ok-clause-err g c =
     let w = view c.kept_more-left.new.space in
     let x = view c.forget.new.self in
     let gives = of_ok c.kept_more-left.result (Gives v w (KeepsIn v c.args.kept c.args.facts.now)) c.in-Ok.set c.in-Ok.is c.kept_more-left.ensures.ok in
-    on_err_weaker c.tidied.result (λ t. trades_trans (swapped v w x c.args.kept c.in-Ok.set c.kept_more-left.ensures.kept gives c.requires.valid c.forget.ensures) t) c.tidied.ensures.err
+    on_err_weaker c.tidied.result
+    (λ t. trades_trans (swapped v w x c.args.kept c.in-Ok.set c.kept_more-left.ensures.kept gives
+    c.requires.valid c.forget.ensures) t) c.tidied.ensures.err
 
 pub returns-in-Err-clause-err : goal.returns-in-Err-clause-err
 returns-in-Err-clause-err g c =
     let view = g.S.Space.view in
     let v = view c.args.space.now in
     let w = view c.kept_more-left.new.space in
-    only_back v w (view c.forget.new.self) c.args.kept c.kept_more-left.ensures.kept (of_err c.kept_more-left.result (NoMore v w) c.in-Err.fault c.in-Err.is c.kept_more-left.ensures.err) c.requires.valid c.forget.ensures
+    only_back v w (view c.forget.new.self) c.args.kept c.kept_more-left.ensures.kept
+    (of_err c.kept_more-left.result (NoMore v w) c.in-Err.fault c.in-Err.is c.kept_more-left.ensures.err)
+    c.requires.valid c.forget.ensures

@@ -29,9 +29,15 @@ operators-preserved g c =
     record {
       task = c.leads.ensures.task ∙ i.task;
       stays = stays_trans i.stays c.leads.ensures.stays;
-      none = none_more (view c.args.space.now) (view c.operators.space) c.args.operators.now c.operators.i op c.args.to c.args.from c.in_ok-leads.field-0 c.operators-test.true
-          (get_or_default c.args.operators.now c.operators.i op 0 c.operators-test.true) i.stays.kept c.requires.to c.requires.from c.in_ok-leads.ensures.ok c.if-branch.false i.none;
+      none = none_more (view c.args.space.now) (view c.operators.space) c.args.operators.now c.operators.i op
+          c.args.to c.args.from c.in_ok-leads.field-0 c.operators-test.true
+          (get_or_default c.args.operators.now c.operators.i op 0 c.operators-test.true) i.stays.kept c.requires.to
+          c.requires.from c.in_ok-leads.ensures.ok c.if-branch.false i.none;
     }
 
 pub returns-clause-ok : goal.returns-clause-ok
-returns-clause-ok g c = ((λ e. absurd (valid_clash e refl)), (λ h. absurd (c.operators.invariant.none h.0 h.2.0 ((whole c.args.operators.now c.operators.i h.0 c.operators-test.false).1 h.1) h.2.1)))
+returns-clause-ok g c = (
+  (λ e. absurd (valid_clash e refl)),
+  (λ h. absurd (c.operators.invariant.none h.0 h.2.0
+      ((whole c.args.operators.now c.operators.i h.0 c.operators-test.false).1 h.1) h.2.1)),
+)

@@ -38,7 +38,8 @@ rounds-preserved g c =
     record {
       task = c.round.ensures.task ∙ c.rounds.invariant.task;
       stays = stays_trans c.rounds.invariant.stays c.round.ensures.stays;
-      base = λ k d lt. All-contains (IsBaseGroup task) groups (get_or left k d) c.rounds.invariant.base (round.part (get_or left k d) (Contains-get_or left k d lt));
+      base = λ k d lt. All-contains (IsBaseGroup task) groups (get_or left k d) c.rounds.invariant.base
+          (round.part (get_or left k d) (Contains-get_or left k d lt));
       rising = c.in_ok-left.ensures.rising;
       covers = round_covers task groups left c.rounds.invariant.covers round;
     }

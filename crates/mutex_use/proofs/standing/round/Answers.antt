@@ -22,5 +22,6 @@ returns-clause-last g c =
     let task = c.args.task.now in
     let groups = c.args.groups.now in
     let From = Has (g.S.Space.view c.keep_each.new.space) c.in_ok-kept.kept in
-    IfOk-weaker c.standing-left.result (λ left. AreLeft task From groups (length groups) left.items) (λ left. length left.items ≡ length groups → IsPartOf groups left.items)
+    IfOk-weaker c.standing-left.result (λ left. AreLeft task From groups (length groups) left.items)
+    (λ left. length left.items ≡ length groups → IsPartOf groups left.items)
     (λ left l. left_all task From groups left.items (length groups) (omega arith) c.in_ok-kept.ensures.ok.means l) c.standing-left.ensures.ok

@@ -12,7 +12,8 @@ numbers-init c n = ((λ h. inl h), (λ h. elim h [ inl o ↦ o | inr k ↦ absur
 pub numbers-preserved : goal.numbers-preserved
 numbers-preserved c n =
     let x = get_or c.args.numbers.now c.numbers.i 0 in
-    inserted_next c.args.numbers.now c.numbers.i x n (contains nat_cmp c.args.set.now n) (contains nat_cmp c.numbers.set n) (contains nat_cmp c.insert.new.self n) c.numbers-test.true
+    inserted_next c.args.numbers.now c.numbers.i x n (contains nat_cmp c.args.set.now n)
+    (contains nat_cmp c.numbers.set n) (contains nat_cmp c.insert.new.self n) c.numbers-test.true
     (get_or_default c.args.numbers.now c.numbers.i x 0 c.numbers-test.true) (c.in_ok-insert.ensures.updates.0 n) (c.numbers.invariant n)
 
 pub returns : goal.returns

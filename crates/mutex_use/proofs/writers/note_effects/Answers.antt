@@ -11,7 +11,8 @@ effects-preserved c =
     let d = c.index-effects-i.result in
     let e = get_or c.args.effects.now c.effects.i d in
     notes_next c.args.writers.now c.effects.writers c.note.new.writers c.args.op c.args.effects.now c.effects.i e c.effects-test.true
-    (get_or_default c.args.effects.now c.effects.i e d c.effects-test.true) (c.requires c.effects.i d c.effects-test.true) c.in_ok-note.ensures c.effects.invariant
+    (get_or_default c.args.effects.now c.effects.i e d c.effects-test.true)
+    (c.requires c.effects.i d c.effects-test.true) c.in_ok-note.ensures c.effects.invariant
 
 pub returns : goal.returns
 returns c = notes_end c.args.writers.now c.effects.writers c.args.op c.args.effects.now c.effects.i c.effects-test.false c.effects.invariant

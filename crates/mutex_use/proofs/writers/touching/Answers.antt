@@ -15,6 +15,9 @@ returns c =
     let variables = c.in_ok-variables.variables.items in
     IfOk-weaker c.members.result (λ numbers. numbers.items ≡ set.keys) (λ numbers. HaveTouching task (group_at task c.args.group) numbers.items)
     (λ numbers e. touching_end task (group_at task c.args.group) c.args.writers.now variables numbers.items set c.requires.writers
-    (subst (λ (z : List Fact). (var : ℕ) → Contains variables var ↔ ((fact : Fact) × Contains z fact × (fact.var ≡ var))) c.facts_of.ensures.value c.in_ok-variables.ensures)
-    (subst (λ (z : List ℕ). (op : ℕ) → IsTrue (contains nat_cmp set op) ↔ ((var : ℕ) × Contains z var × Contains (writers_at c.args.writers.now var) op)) c.deref.ensures.value c.in_ok-operators.ensures) e)
+    (subst (λ (z : List Fact). (var : ℕ) → Contains variables var
+    ↔ ((fact : Fact) × Contains z fact × (fact.var ≡ var))) c.facts_of.ensures.value c.in_ok-variables.ensures)
+    (subst (λ (z : List ℕ). (op : ℕ) → IsTrue (contains nat_cmp set op)
+    ↔ ((var : ℕ) × Contains z var × Contains (writers_at c.args.writers.now var) op)) c.deref.ensures.value
+    c.in_ok-operators.ensures) e)
     c.members.ensures

@@ -20,5 +20,7 @@ facts-preserved c var =
 
 pub returns : goal.returns
 returns c =
-    IfOk-weaker c.members.result (λ numbers. numbers.items ≡ c.facts.set.keys) (λ numbers. (var : ℕ) → Contains numbers.items var ↔ ((fact : Fact) × Contains c.args.facts.now fact × (fact.var ≡ var)))
+    IfOk-weaker c.members.result (λ numbers. numbers.items ≡ c.facts.set.keys)
+    (λ numbers. (var : ℕ) → Contains numbers.items var
+    ↔ ((fact : Fact) × Contains c.args.facts.now fact × (fact.var ≡ var)))
     (λ numbers e. variables_end c.args.facts.now c.facts.i c.facts.set numbers.items c.facts-test.false e c.facts.invariant) c.members.ensures

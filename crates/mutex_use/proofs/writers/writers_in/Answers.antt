@@ -12,9 +12,12 @@ variables-init c op = ((λ h. absurd (no_key c.new-operators.result op c.new-ope
 pub variables-preserved : goal.variables-preserved
 variables-preserved c op =
     let var = get_or c.args.variables.now c.variables.i 0 in
-    touching_next c.args.variables.now c.args.writers.now c.variables.i var op (contains nat_cmp c.variables.operators op) (contains nat_cmp c.insert_all.new.set op) c.variables-test.true
+    touching_next c.args.variables.now c.args.writers.now c.variables.i var op
+    (contains nat_cmp c.variables.operators op) (contains nat_cmp c.insert_all.new.set op) c.variables-test.true
     (get_or_default c.args.variables.now c.variables.i var 0 c.variables-test.true)
-    (subst (λ (z : List ℕ). IsTrue (contains nat_cmp c.insert_all.new.set op) ↔ (IsTrue (contains nat_cmp c.variables.operators op) ⊎ Contains z op)) c.writers_at.ensures (c.in_ok-insert_all.ensures op))
+    (subst (λ (z : List ℕ). IsTrue (contains nat_cmp c.insert_all.new.set op)
+    ↔ (IsTrue (contains nat_cmp c.variables.operators op) ⊎ Contains z op)) c.writers_at.ensures
+    (c.in_ok-insert_all.ensures op))
     (c.variables.invariant op)
 
 pub returns : goal.returns

@@ -43,7 +43,8 @@ loop-cost-preserved c =
     let single = c.args.single.now in
     let before = joined_kept task o now grown costs n starts joined it.kept inv.so_far in
     let both = c.in_ok-append.ensures.items in
-    let end : c.len.result ≡ length (joined ++ part) = (let e = c.len.ensures in let k = c.append.new.self.ok.0 in let f = ap (λ (rs : List Relation). length rs) both in omega (arith, e, k, f)) in
+    let end : c.len.result ≡ length (joined ++ part) = (let e = c.len.ensures in let k = c.append.new.self.ok.0 in
+    let f = ap (λ (rs : List Relation). length rs) both in omega (arith, e, k, f)) in
     let ends = c.in_ok-push-2.ensures.items ∙ ap (λ (x : ℕ). starts ++ x ∷ []) end in
     record {
       kept = keeps_on c.args.ops.now now grown inv.kept it.kept;
@@ -63,8 +64,10 @@ all c = (let below = c.loop-cost.auto.cost-index-end in let above = c.loop-cost-
 
 pub returns-clause-joined : goal.returns-clause-joined
 returns-clause-joined c =
-    subst (λ (n : ℕ). AreJoined c.args.task.now c.args.order.now c.loop-cost.ops c.args.costs.now n c.loop-cost.starts.items c.loop-cost.joined.items) (all c) c.loop-cost.invariant.so_far
+    subst (λ (n : ℕ). AreJoined c.args.task.now c.args.order.now c.loop-cost.ops c.args.costs.now n
+    c.loop-cost.starts.items c.loop-cost.joined.items) (all c) c.loop-cost.invariant.so_far
 
 pub returns-clause-halved : goal.returns-clause-halved
 returns-clause-halved c =
-    subst (λ (n : ℕ). AreHalved c.args.task.now c.args.order.now c.args.bound c.loop-cost.ops c.args.single.now c.args.costs.now n c.loop-cost.starts.items c.loop-cost.joined.items) (all c) c.loop-cost.invariant.halved
+    subst (λ (n : ℕ). AreHalved c.args.task.now c.args.order.now c.args.bound c.loop-cost.ops c.args.single.now
+    c.args.costs.now n c.loop-cost.starts.items c.loop-cost.joined.items) (all c) c.loop-cost.invariant.halved

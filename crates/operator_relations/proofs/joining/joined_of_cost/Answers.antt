@@ -14,8 +14,16 @@ pub merge-requires : goal.merge-requires
 merge-requires c = (let have = c.in_ok-members.ensures.have c.args.order.now c.args.ops.now c.requires in have.relations)
 
 pub returns-clause-halved : goal.returns-clause-halved
-returns-clause-halved c = ok_by c.merge.result _ _ c.merge.ensures.halved (λ rs halves. record { members = c.in_ok-members.members.items; copies = c.in_ok-members.ensures.copies; results_are = halves })
+returns-clause-halved c = ok_by c.merge.result _ _ c.merge.ensures.halved
+    (λ rs halves. record {
+      members = c.in_ok-members.members.items;
+      copies =
+          c.in_ok-members.ensures.copies;
+      results_are = halves;
+    })
 
 pub returns-clause-have : goal.returns-clause-have
 returns-clause-have c = ok_by c.merge.result _ _ c.merge.ensures.merges (λ rs merges.
-    merged_have c.args.order.now c.args.bound c.args.ops.now (StepOfCost c.args.task.now c.args.cost) c.in_ok-members.members.items c.merge.new.ops rs.items merges (c.in_ok-members.ensures.have c.args.order.now c.args.ops.now c.requires))
+    merged_have c.args.order.now c.args.bound c.args.ops.now (StepOfCost c.args.task.now c.args.cost)
+    c.in_ok-members.members.items c.merge.new.ops rs.items merges
+    (c.in_ok-members.ensures.have c.args.order.now c.args.ops.now c.requires))

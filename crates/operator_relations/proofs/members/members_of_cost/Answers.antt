@@ -10,7 +10,8 @@ use Rattle.operator_relations.proofs.members.members_of_cost.Goals as goal
 pub operators-init : goal.operators-init
 operators-init c = record {
   copies = subst (λ (rs : List Relation). AreCopies c.args.single.now [] rs) (sym c.new-members.ensures.items) (copies_none c.args.single.now);
-  have = λ o nodes is. subst (HaveSteps o nodes (StepBelow c.args.task.now c.args.cost 0)) (sym c.new-members.ensures.items) (below_none c.args.task.now o nodes c.args.cost);
+  have = λ o nodes is. subst (HaveSteps o nodes (StepBelow c.args.task.now c.args.cost 0))
+      (sym c.new-members.ensures.items) (below_none c.args.task.now o nodes c.args.cost);
 }
 
 pub operators-preserved : goal.operators-preserved
@@ -22,7 +23,9 @@ operators-preserved c =
     let less : n < length task.operators = (let lt = c.operators-test.true in let e = c.operators-op-end.ensures in omega (arith, lt, e)) in
     let turn = c.in_ok-add_of_cost.ensures in
     record {
-      copies = copies_more task c.args.cost n single c.operators.members.items c.add_of_cost.new.members.items r (let e = c.requires.operators in omega (arith, e, less)) c.index-single-op.is turn c.operators.invariant.copies;
+      copies = copies_more task c.args.cost n single c.operators.members.items c.add_of_cost.new.members.items r
+          (let e = c.requires.operators in omega (arith, e, less)) c.index-single-op.is turn
+          c.operators.invariant.copies;
       have = λ o nodes is.
           let has = subst (HasSteps o nodes (λ s t. Step task s n t)) (sym c.index-single-op.is) (is.each n r less) in
           below_more task o nodes c.args.cost n r c.operators.members.items c.add_of_cost.new.members.items has turn (c.operators.invariant.have o nodes is);
@@ -32,7 +35,9 @@ all : (c : goal.After-operators) → c.operators.op ≡ length c.args.task.now.o
 all c = (let below = c.operators.auto.op-end in let above = c.operators-test.false in let e = c.operators-op-end.ensures in omega (arith, below, above, e))
 
 pub returns-clause-copies : goal.returns-clause-copies
-returns-clause-copies c = subst (λ (n : ℕ). AreCopies c.args.single.now (operators_below c.args.task.now c.args.cost n) c.operators.members.items) (all c) c.operators.invariant.copies
+returns-clause-copies c = subst (λ (n : ℕ). AreCopies c.args.single.now
+    (operators_below c.args.task.now c.args.cost n) c.operators.members.items) (all c) c.operators.invariant.copies
 
 pub returns-clause-have : goal.returns-clause-have
-returns-clause-have c = λ o nodes is. subst (λ (n : ℕ). HaveSteps o nodes (StepBelow c.args.task.now c.args.cost n) c.operators.members.items) (all c) (c.operators.invariant.have o nodes is)
+returns-clause-have c = λ o nodes is. subst (λ (n : ℕ). HaveSteps o nodes (StepBelow c.args.task.now c.args.cost n)
+    c.operators.members.items) (all c) (c.operators.invariant.have o nodes is)

@@ -10,7 +10,8 @@ operators-init c = record {
   kept = keeps_itself c.args.ops.now;
   reduced = c.table.ensures.reduced;
   roots = c.requires.roots;
-  so_far = subst (λ (xs : List Relation). SingleBelow c.args.task.now c.args.order.now c.args.ops.now 0 xs) (sym c.new-single.ensures.items) (single_none c.args.task.now c.args.order.now c.args.ops.now);
+  so_far = subst (λ (xs : List Relation). SingleBelow c.args.task.now c.args.order.now c.args.ops.now 0 xs)
+      (sym c.new-single.ensures.items) (single_none c.args.task.now c.args.order.now c.args.ops.now);
 }
 
 pub relation-requires-clause-roots : goal.relation-requires-clause-roots
@@ -28,7 +29,8 @@ operators-preserved c =
       reduced = it.reduced;
       roots = roots_kept task o c.operators.ops c.relation.new.ops c.args.derived.now it.kept inv.roots;
       so_far = subst (λ (xs : List Relation). SingleBelow task o c.relation.new.ops (c.operators.op + 1) xs) (sym c.in_ok-push.ensures.items)
-          (single_more task o c.operators.ops c.relation.new.ops c.operators.op c.operators.single.items r it.kept inv.so_far (related task o c.relation.new.ops c.operators.op r it.known it.ready it.relates));
+          (single_more task o c.operators.ops c.relation.new.ops c.operators.op c.operators.single.items r it.kept
+          inv.so_far (related task o c.relation.new.ops c.operators.op r it.known it.ready it.relates));
     }
 
 pub returns-clause-single : goal.returns-clause-single
@@ -36,4 +38,5 @@ returns-clause-single c =
     let below = c.operators.auto.op-end in
     let above = c.operators-test.false in
     let end = c.operators-op-end.ensures in
-    single_all c.args.task.now c.args.order.now c.operators.ops c.operators.op c.operators.single.items (omega (arith, below, above, end)) c.operators.invariant.so_far
+    single_all c.args.task.now c.args.order.now c.operators.ops c.operators.op c.operators.single.items
+    (omega (arith, below, above, end)) c.operators.invariant.so_far

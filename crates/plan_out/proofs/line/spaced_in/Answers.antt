@@ -11,11 +11,15 @@ loop-rest-init c = rw (c.of-plan.ensures, c.new.ensures.items) (begun c.args.spa
 
 pub loop-rest-preserved : goal.loop-rest-preserved
 loop-rest-preserved c =
-    rw c.in_ok-push-in-Some.ensures.ok (goes_on (spaced_in (length c.args.spaced.now) c.args.spaced.now) c.loop-rest.plan c.loop-rest.rest.now c.in-Some.operator c.in-Some.after.now
+    rw c.in_ok-push-in-Some.ensures.ok (goes_on (spaced_in (length c.args.spaced.now) c.args.spaced.now)
+    c.loop-rest.plan c.loop-rest.rest.now c.in-Some.operator c.in-Some.after.now
     (is_some (length c.loop-rest.rest.now) (sym c.is_empty.ensures ∙ c.loop-rest-test.true)) c.in-Some.ensures c.loop-rest.invariant)
 
 pub returns-in-None : goal.returns-in-None
-returns-in-None c = breaks_off (spaced_in (length c.args.spaced.now) c.args.spaced.now) c.loop-rest.plan c.loop-rest.rest.now (is_some (length c.loop-rest.rest.now) (sym c.is_empty.ensures ∙ c.loop-rest-test.true)) c.in-None.ensures c.loop-rest.invariant
+returns-in-None c = breaks_off (spaced_in (length c.args.spaced.now) c.args.spaced.now) c.loop-rest.plan
+    c.loop-rest.rest.now (is_some (length c.loop-rest.rest.now) (sym c.is_empty.ensures ∙ c.loop-rest-test.true))
+    c.in-None.ensures c.loop-rest.invariant
 
 pub returns : goal.returns
-returns c = all_read (spaced_in (length c.args.spaced.now) c.args.spaced.now) c.loop-rest.plan c.loop-rest.rest.now (is_none (length c.loop-rest.rest.now) (sym c.is_empty.ensures ∙ c.loop-rest-test.false)) c.loop-rest.invariant
+returns c = all_read (spaced_in (length c.args.spaced.now) c.args.spaced.now) c.loop-rest.plan c.loop-rest.rest.now
+    (is_none (length c.loop-rest.rest.now) (sym c.is_empty.ensures ∙ c.loop-rest-test.false)) c.loop-rest.invariant

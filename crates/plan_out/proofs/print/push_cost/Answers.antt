@@ -20,4 +20,5 @@ returns-else-unit c =
     let n = c.args.cost in
     let front = step t (codes "; cost = ") (decimal n) c.in_ok-push_bytes.ensures.ok c.in_ok-push_number.ensures.ok in
     subst (λ (u : Bool). OnOk c.push_bytes-else-unit.result (c.push_bytes-else-unit.new.text ≡ t ++ cost_line n u)) (sym c.if-unit.false)
-    (on_ok c.push_bytes-else-unit.result _ _ (λ e. step t (codes "; cost = " ++ decimal n) (codes " (general cost)\n") front e) c.push_bytes-else-unit.ensures.ok)
+    (on_ok c.push_bytes-else-unit.result _ _ (λ e. step t (codes "; cost = " ++ decimal n) (codes " (general cost)\n")
+    front e) c.push_bytes-else-unit.ensures.ok)

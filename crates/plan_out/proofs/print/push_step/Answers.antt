@@ -15,6 +15,11 @@ returns c =
     let ops = c.args.task.now.operators in
     let same = c.as_slice.ensures ∙ ap (λ (x : TaskParts). x.operators) c.parts-parts.ensures.value in
     let name : List ℕ = option_map_or (λ operator. operator.name) (slice_get ops op) [] in
-    let is : c.as_slice-2.result.now ≡ name = c.as_slice-2.ensures ∙ ap (λ (o : Operator). o.name) (sym c.index-as_slice-operator.is) ∙ named ops c.as_slice.result.now op c.index-as_slice-operator.result same c.requires c.index-as_slice-operator.is in
-    let second : c.push_bytes-2.new.text ≡ c.push_bytes.new.text ++ name = c.in_ok-push_bytes-2.ensures.ok ∙ ap (λ (x : List ℕ). c.push_bytes.new.text ++ x) is in
-    on_ok c.push_bytes-3.result _ _ (λ e. step t (40 ∷ name) (41 ∷ 10 ∷ []) (step t (40 ∷ []) name c.in_ok-push_bytes.ensures.ok second) e) c.push_bytes-3.ensures.ok
+    let is : c.as_slice-2.result.now ≡ name = c.as_slice-2.ensures
+    ∙ ap (λ (o : Operator). o.name) (sym c.index-as_slice-operator.is)
+    ∙ named ops c.as_slice.result.now op c.index-as_slice-operator.result same c.requires
+    c.index-as_slice-operator.is in
+    let second : c.push_bytes-2.new.text ≡ c.push_bytes.new.text ++ name = c.in_ok-push_bytes-2.ensures.ok
+    ∙ ap (λ (x : List ℕ). c.push_bytes.new.text ++ x) is in
+    on_ok c.push_bytes-3.result _ _ (λ e. step t (40 ∷ name) (41 ∷ 10 ∷ [])
+    (step t (40 ∷ []) name c.in_ok-push_bytes.ensures.ok second) e) c.push_bytes-3.ensures.ok

@@ -24,10 +24,12 @@ returns-in_err-block-clause-offence c =
     (is_some (length c.loop-rest.rest) (sym c.is_empty.ensures ∙ c.loop-rest-test.true)) (sym there ∙ c.if-begins_with_end.false) fails c.loop-rest.invariant)
 
 pub loop-rest-smaller : goal.loop-rest-smaller
-loop-rest-smaller c = block_shorter (length c.as_slice.result.now + 1) c.loop-rest.rest c.in_ok-block.block c.in_ok-block.after (omega arith) c.in_ok-block.ensures
+loop-rest-smaller c = block_shorter (length c.as_slice.result.now + 1) c.loop-rest.rest c.in_ok-block.block
+    c.in_ok-block.after (omega arith) c.in_ok-block.ensures
 
 pub loop-rest-preserved : goal.loop-rest-preserved
 loop-rest-preserved c =
     let read = rw c.as_slice.ensures at c.in_ok-block.ensures in
     let small : length c.loop-rest.list + 1 < 2 ^ 64 = rw (← c.as_slice.ensures) (omega arith) in
-    rw c.in_ok-push.ensures.ok (begun_more c.args.lines c.loop-rest.list c.loop-rest.rest c.in_ok-block.block c.in_ok-block.after small read c.loop-rest.invariant)
+    rw c.in_ok-push.ensures.ok (begun_more c.args.lines c.loop-rest.list c.loop-rest.rest c.in_ok-block.block
+    c.in_ok-block.after small read c.loop-rest.invariant)

@@ -20,7 +20,8 @@ stops_at : (task : TaskParts) (p : List ℕ) (i : ℕ) → Stops task p i → (1
 stops_at task p i h = (omega arith, (let e : i ≡ i + 1 - 1 = omega arith in subst (λ (k : ℕ). Stops task p k) e h))
 
 -- what is noted at the end says whether the run walks back
-back_at_end : (task : TaskParts) (mode : Mode) (s p : List ℕ) (left : List (List ℕ)) (t : List ℕ) (passed : Passed) → IsInitial task s → Walks task s p left t → IsPassed mode left t passed → WalksBack task mode p passed.back
+back_at_end : (task : TaskParts) (mode : Mode) (s p : List ℕ) (left : List (List ℕ)) (t : List ℕ) (passed : Passed)
+    → IsInitial task s → Walks task s p left t → IsPassed mode left t passed → WalksBack task mode p passed.back
 back_at_end task TopK s p left t passed initial walks h = h
 back_at_end task Unordered s p left t passed initial walks h = h
 back_at_end task Loopless s p left t passed initial walks h = (s, left ++ t ∷ [], initial, walks_trace task s p left t walks, fresh_or _ _ _ passed.back h)
@@ -29,7 +30,13 @@ pub loop-i-init : goal.loop-i-init
 loop-i-init c = record {
   state = c.in_ok-state.ensures.state;
   valued = c.in_ok-values.ensures;
-  walks = (c.in_ok-state.state, [], c.in_ok-state.ensures, walks_none c.args.task.now c.in_ok-state.state, c.new-passed.ensures c.args.mode c.in_ok-state.state);
+  walks = (
+    c.in_ok-state.state,
+    [],
+    c.in_ok-state.ensures,
+    walks_none c.args.task.now c.in_ok-state.state,
+    c.new-passed.ensures c.args.mode c.in_ok-state.state,
+  );
 }
 
 pub returns-then-not-applies_in : goal.returns-then-not-applies_in
@@ -45,7 +52,9 @@ returns-then-not-applies_in c =
       t = c.loop-i.state;
       initial = r.2;
       runs = walks_run task r.0 (take i p) r.1 c.loop-i.state r.3;
-      stuck = (λ h. false≢true (sym c.if-not-applies_in.true ∙ c.applies_in.ensures.1 (subst (λ (q : List ℕ). Applies task c.loop-i.state (get_or q i 0)) (sym c.as_slice-operators.ensures) h)));
+      stuck = (λ h. false≢true (sym c.if-not-applies_in.true
+          ∙ c.applies_in.ensures.1 (subst (λ (q : List ℕ). Applies task c.loop-i.state (get_or q i 0))
+          (sym c.as_slice-operators.ensures) h)));
     })
 
 pub loop-i-preserved : goal.loop-i-preserved
@@ -59,9 +68,11 @@ loop-i-preserved c =
     let applies : Applies task c.loop-i.state (get_or numbers i 0) = c.applies_in.ensures.0 c.if-not-applies_in.false in
     let after : After task c.loop-i.state (get_or numbers i 0) next = c.in_ok-next.ensures.after in
     let one : Step task c.loop-i.state (get_or numbers i 0) next = (applies, after) in
-    let step : Step task c.loop-i.state (get_or p i 0) next = subst (λ (q : List ℕ). Step task c.loop-i.state (get_or q i 0) next) c.as_slice-operators.ensures one in
+    let step : Step task c.loop-i.state (get_or p i 0) next =
+    subst (λ (q : List ℕ). Step task c.loop-i.state (get_or q i 0) next) c.as_slice-operators.ensures one in
     let r = c.loop-i.invariant.walks in
-    let count : i + 1 ≡ length r.1 + 1 = (let a = walks_length task r.0 (take i p) r.1 c.loop-i.state r.3 in let b = length-take-le i p (omega (arith, lt)) in omega (arith, a, b)) in
+    let count : i + 1 ≡ length r.1 + 1 = (let a = walks_length task r.0 (take i p) r.1 c.loop-i.state r.3 in
+    let b = length-take-le i p (omega (arith, lt)) in omega (arith, a, b)) in
     record {
       state = c.in_ok-next.ensures.state;
       valued = c.in_ok-values-2.ensures;
@@ -86,4 +97,11 @@ returns c =
     let r = c.loop-i.invariant.walks in
     let all : length p ≤ c.loop-i.i = subst (λ (q : List ℕ). length q ≤ c.loop-i.i) c.as_slice-operators.ensures c.loop-i-test.false in
     let walk = subst (λ (q : List ℕ). Walks task r.0 q r.1 c.loop-i.state) (take_all c.loop-i.i p all) r.3 in
-    record { s = r.0; t = c.loop-i.state; initial = r.2; runs = walks_run task r.0 p r.1 c.loop-i.state walk; missed = (λ h. absurd (false≢true (sym c.if-goal_in.false ∙ c.goal_in.ensures.1 h))) }
+    record {
+      s = r.0;
+      t = c.loop-i.state;
+      initial = r.2;
+      runs = walks_run task r.0 p r.1 c.loop-i.state walk;
+      missed =
+          (λ h. absurd (false≢true (sym c.if-goal_in.false ∙ c.goal_in.ensures.1 h)));
+    }

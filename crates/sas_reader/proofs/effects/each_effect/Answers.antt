@@ -7,10 +7,16 @@ use Rattle.sas_reader.proofs.effects.each_effect.Goals as goal
 pub returns-in_err-effect : goal.returns-in_err-effect
 returns-in_err-effect c =
     let p = err_from_is_err_and c.from_residual.result c.from_residual.ensures.1 in
-    rw (p.1, p.2) (ends_so (effect_at c.args.variables.now) kept c.loop.effects c.args.count c.loop.counter tt c.loop.rest (many_at (effect_at c.args.variables.now) kept c.args.count tt c.args.lines) c.in_err-effect.field-0.0 c.loop-test.true c.in_err-effect.ensures c.loop.invariant)
+    rw (p.1, p.2) (ends_so (effect_at c.args.variables.now) kept c.loop.effects c.args.count c.loop.counter tt
+    c.loop.rest (many_at (effect_at c.args.variables.now) kept c.args.count tt c.args.lines)
+    c.in_err-effect.field-0.0 c.loop-test.true c.in_err-effect.ensures c.loop.invariant)
 
 pub loop-preserved : goal.loop-preserved
-loop-preserved c = rw c.in_ok-push.ensures.ok (goes_on (effect_at c.args.variables.now) kept c.loop.effects c.args.count c.loop.counter tt c.loop.rest (many_at (effect_at c.args.variables.now) kept c.args.count tt c.args.lines) c.in_ok-effect.effect c.in_ok-effect.after c.loop-test.true c.in_ok-effect.ensures c.loop.invariant)
+loop-preserved c = rw c.in_ok-push.ensures.ok (goes_on (effect_at c.args.variables.now) kept c.loop.effects
+    c.args.count c.loop.counter tt c.loop.rest (many_at (effect_at c.args.variables.now) kept c.args.count tt
+    c.args.lines) c.in_ok-effect.effect c.in_ok-effect.after c.loop-test.true
+    c.in_ok-effect.ensures c.loop.invariant)
 
 pub returns : goal.returns
-returns c = is_done (effect_at c.args.variables.now) kept c.loop.effects c.args.count c.loop.counter tt c.loop.rest (many_at (effect_at c.args.variables.now) kept c.args.count tt c.args.lines) c.loop-test.false c.loop.invariant
+returns c = is_done (effect_at c.args.variables.now) kept c.loop.effects c.args.count c.loop.counter tt c.loop.rest
+    (many_at (effect_at c.args.variables.now) kept c.args.count tt c.args.lines) c.loop-test.false c.loop.invariant

@@ -7,10 +7,15 @@ use Rattle.sas_reader.proofs.facts.each_fact.Goals as goal
 pub returns-in_err-fact : goal.returns-in_err-fact
 returns-in_err-fact c =
     let p = err_from_is_err_and c.from_residual.result c.from_residual.ensures.1 in
-    rw (p.1, p.2) (ends_so (fact_at c.args.variables.now) kept c.loop.facts c.args.count c.loop.counter tt c.loop.rest (many_at (fact_at c.args.variables.now) kept c.args.count tt c.args.lines) c.in_err-fact.field-0.0 c.loop-test.true c.in_err-fact.ensures c.loop.invariant)
+    rw (p.1, p.2) (ends_so (fact_at c.args.variables.now) kept c.loop.facts c.args.count c.loop.counter tt c.loop.rest
+    (many_at (fact_at c.args.variables.now) kept c.args.count tt c.args.lines) c.in_err-fact.field-0.0
+    c.loop-test.true c.in_err-fact.ensures c.loop.invariant)
 
 pub loop-preserved : goal.loop-preserved
-loop-preserved c = rw c.in_ok-push.ensures.ok (goes_on (fact_at c.args.variables.now) kept c.loop.facts c.args.count c.loop.counter tt c.loop.rest (many_at (fact_at c.args.variables.now) kept c.args.count tt c.args.lines) c.in_ok-fact.fact c.in_ok-fact.after c.loop-test.true c.in_ok-fact.ensures c.loop.invariant)
+loop-preserved c = rw c.in_ok-push.ensures.ok (goes_on (fact_at c.args.variables.now) kept c.loop.facts c.args.count
+    c.loop.counter tt c.loop.rest (many_at (fact_at c.args.variables.now) kept c.args.count tt c.args.lines)
+    c.in_ok-fact.fact c.in_ok-fact.after c.loop-test.true c.in_ok-fact.ensures c.loop.invariant)
 
 pub returns : goal.returns
-returns c = is_done (fact_at c.args.variables.now) kept c.loop.facts c.args.count c.loop.counter tt c.loop.rest (many_at (fact_at c.args.variables.now) kept c.args.count tt c.args.lines) c.loop-test.false c.loop.invariant
+returns c = is_done (fact_at c.args.variables.now) kept c.loop.facts c.args.count c.loop.counter tt c.loop.rest
+    (many_at (fact_at c.args.variables.now) kept c.args.count tt c.args.lines) c.loop-test.false c.loop.invariant

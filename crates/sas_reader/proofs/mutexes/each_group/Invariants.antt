@@ -5,4 +5,5 @@ use Rattle.sas_reader.specs.Reading.{group_at, kept}
 use Rattle.sas_reader.proofs.mutexes.each_group.Given as goal
 
 abbrev pub invariant-loop : goal.invariant-loop
-invariant-loop l = with_front l.groups (many_at (group_at l.variables) kept (l.count - l.counter) tt l.rest) ≡ many_at (group_at l.variables) kept l.count tt l.fn.lines
+invariant-loop l = with_front l.groups (many_at (group_at l.variables) kept (l.count - l.counter) tt l.rest) ≡ many_at
+    (group_at l.variables) kept l.count tt l.fn.lines

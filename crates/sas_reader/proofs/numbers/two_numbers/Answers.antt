@@ -4,7 +4,11 @@ use Rattle.sas_reader.proofs.NumbersLeft.{two_are, not_two, none_at_blank, some_
 use Rattle.sas_reader.proofs.numbers.two_numbers.Goals as goal
 
 pub returns-then-is_blank : goal.returns-then-is_blank
-returns-then-is_blank c = two_are (numbers_of c.args.line.now) (numbers_of c.in_ok-one.rest.now) (numbers_of c.in_ok-two.rest.now) c.in_ok-one.one c.in_ok-two.two c.in_ok-one.ensures c.in_ok-two.ensures (let t = c.if-is_blank.true in none_at_blank c.in_ok-two.rest.now (sym c.is_blank.ensures ∙ t))
+returns-then-is_blank c = two_are (numbers_of c.args.line.now) (numbers_of c.in_ok-one.rest.now)
+    (numbers_of c.in_ok-two.rest.now) c.in_ok-one.one c.in_ok-two.two c.in_ok-one.ensures c.in_ok-two.ensures
+    (let t = c.if-is_blank.true in none_at_blank c.in_ok-two.rest.now (sym c.is_blank.ensures ∙ t))
 
 pub returns-else-is_blank : goal.returns-else-is_blank
-returns-else-is_blank c = not_two (numbers_of c.args.line.now) (numbers_of c.in_ok-one.rest.now) (numbers_of c.in_ok-two.rest.now) c.in_ok-one.one c.in_ok-two.two c.in_ok-one.ensures c.in_ok-two.ensures (let t = c.if-is_blank.false in some_at_ink c.in_ok-two.rest.now (sym c.is_blank.ensures ∙ t))
+returns-else-is_blank c = not_two (numbers_of c.args.line.now) (numbers_of c.in_ok-one.rest.now)
+    (numbers_of c.in_ok-two.rest.now) c.in_ok-one.one c.in_ok-two.two c.in_ok-one.ensures c.in_ok-two.ensures
+    (let t = c.if-is_blank.false in some_at_ink c.in_ok-two.rest.now (sym c.is_blank.ensures ∙ t))

@@ -13,9 +13,12 @@ overflow_sub-result c =
 
 pub returns-in-Ok-parts_of-clause-file : goal.returns-in-Ok-parts_of-clause-file
 returns-in-Ok-parts_of-clause-file c =
-    file_given c.of.result (lines c.args.bytes.now) c.in-Ok-parts_of.parts c.of-in-Ok-parts_of.result (c.of.ensures ∙ c.as_slice-lines.ensures.value ∙ c.in-Ok.ensures) c.of-in-Ok-parts_of.ensures c.in-Ok-parts_of.ensures
+    file_given c.of.result (lines c.args.bytes.now) c.in-Ok-parts_of.parts c.of-in-Ok-parts_of.result
+    (c.of.ensures ∙ c.as_slice-lines.ensures.value ∙ c.in-Ok.ensures) c.of-in-Ok-parts_of.ensures
+    c.in-Ok-parts_of.ensures
 
 pub returns-clause-offence : goal.returns-clause-offence
 returns-clause-offence c =
     let e = rw c.in-Err-Offence.field-0-is at c.in-Err-Offence.ensures in
-    refused_at c.of.result c.as_slice-lines.result.now (lines c.args.bytes.now) c.in-Err-Offence.offence c.of.ensures (c.as_slice-lines.ensures.value ∙ c.in-Ok.ensures) e
+    refused_at c.of.result c.as_slice-lines.result.now (lines c.args.bytes.now) c.in-Err-Offence.offence c.of.ensures
+    (c.as_slice-lines.ensures.value ∙ c.in-Ok.ensures) e

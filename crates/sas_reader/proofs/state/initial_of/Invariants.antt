@@ -5,4 +5,5 @@ use Rattle.sas_reader.specs.Reading.{value_at, next_place, initial_at}
 use Rattle.sas_reader.proofs.state.initial_of.Given as goal
 
 abbrev pub invariant-loop-var : goal.invariant-loop-var
-invariant-loop-var l = with_front l.values (many_at (value_at l.variables) next_place (length l.variables - l.var) l.var l.rest) ≡ initial_at l.variables l.fn.lines
+invariant-loop-var l = with_front l.values (many_at (value_at l.variables) next_place (length l.variables - l.var)
+    l.var l.rest) ≡ initial_at l.variables l.fn.lines

@@ -8,4 +8,9 @@ pub returns : goal.returns
 unfolding rule_lines
 returns c =
     let t = c.args.text.now in
-    on_ok c.push_word-2.result _ _ (λ e. then t (((codes "begin_rule" ∷ []) ++ (facts_lines c.args.rule.now.conds)) ++ (head_line c.args.rule.now ∷ [])) (codes "end_rule" ∷ []) (then t ((codes "begin_rule" ∷ []) ++ (facts_lines c.args.rule.now.conds)) (head_line c.args.rule.now ∷ []) (then t (codes "begin_rule" ∷ []) (facts_lines c.args.rule.now.conds) (c.in_ok-push_word.ensures) c.in_ok-push_facts.ensures) c.in_ok-push_head.ensures) e) c.push_word-2.ensures
+    on_ok c.push_word-2.result _ _
+    (λ e. then t (((codes "begin_rule" ∷ []) ++ (facts_lines c.args.rule.now.conds))
+    ++ (head_line c.args.rule.now ∷ [])) (codes "end_rule" ∷ [])
+    (then t ((codes "begin_rule" ∷ []) ++ (facts_lines c.args.rule.now.conds)) (head_line c.args.rule.now ∷ [])
+    (then t (codes "begin_rule" ∷ []) (facts_lines c.args.rule.now.conds) (c.in_ok-push_word.ensures)
+    c.in_ok-push_facts.ensures) c.in_ok-push_head.ensures) e) c.push_word-2.ensures

@@ -8,4 +8,6 @@ pub returns : goal.returns
 unfolding mutex_lines
 returns c =
     let t = c.args.text.now in
-    on_ok c.push_word-2.result _ _ (λ e. then t ((codes "begin_mutex_group" ∷ []) ++ (facts_lines c.args.facts.now)) (codes "end_mutex_group" ∷ []) (then t (codes "begin_mutex_group" ∷ []) (facts_lines c.args.facts.now) (c.in_ok-push_word.ensures) c.in_ok-push_facts.ensures) e) c.push_word-2.ensures
+    on_ok c.push_word-2.result _ _ (λ e. then t ((codes "begin_mutex_group" ∷ []) ++ (facts_lines c.args.facts.now))
+    (codes "end_mutex_group" ∷ []) (then t (codes "begin_mutex_group" ∷ []) (facts_lines c.args.facts.now)
+    (c.in_ok-push_word.ensures) c.in_ok-push_facts.ensures) e) c.push_word-2.ensures

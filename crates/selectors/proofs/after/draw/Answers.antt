@@ -8,7 +8,10 @@ plans-smaller g c =
     let e = g.I.LazyPlans in
     let gave = rw (i.system, i.mode, i.most) at (rw c.in-Ok-Some.field-0-is at c.in-Ok-Some.ensures.law) in
     let listed = c.is_listed.ensures.listed.0 (search rules) in
-    still_falls _ c.args.mode c.args.mode _ c.args.keys.now (e.pends c.plans.inner) (e.pends c.next_plan.new.self) c.in-Ok-Some.plan (e.tells c.plans.inner) (e.tells c.next_plan.new.self) (g.met.I.LazyPlans.told c.plans.inner i.lawful) (g.met.I.LazyPlans.told c.next_plan.new.self c.in-Ok-Some.ensures.lawful) gave listed
+    still_falls _ c.args.mode c.args.mode _ c.args.keys.now (e.pends c.plans.inner) (e.pends c.next_plan.new.self)
+    c.in-Ok-Some.plan (e.tells c.plans.inner) (e.tells c.next_plan.new.self)
+    (g.met.I.LazyPlans.told c.plans.inner i.lawful) (g.met.I.LazyPlans.told c.next_plan.new.self
+    c.in-Ok-Some.ensures.lawful) gave listed
 
 pub plans-preserved : goal.plans-preserved
 plans-preserved g c =
@@ -22,7 +25,8 @@ plans-preserved g c =
       mode = c.in-Ok-Some.ensures.mode ∙ i.mode;
       most = c.in-Ok-Some.ensures.most ∙ i.most;
       capacity = omega (arith, i.capacity, c.is_listed.ensures.capacity);
-      stays = after_skips _ c.args.mode _ c.args.keys.now (e.pends c.args.inner.now) (e.pends c.plans.inner) (e.pends c.next_plan.new.self) i.stays c.in-Ok-Some.plan gave listed;
+      stays = after_skips _ c.args.mode _ c.args.keys.now (e.pends c.args.inner.now) (e.pends c.plans.inner)
+          (e.pends c.next_plan.new.self) i.stays c.in-Ok-Some.plan gave listed;
       again = λ n. c.in-Ok-Some.ensures.again (λ z. n (sym (i.again n) ∙ z)) ∙ i.again n;
     }
 
@@ -31,4 +35,5 @@ returns-in-Err-clause-law g c =
     let i = c.plans.invariant in
     let e = g.I.LazyPlans in
     let law = rw (i.system, i.most) at (rw c.in-Err.stop-is at c.in-Err.ensures.law) in
-    after_stop _ c.args.mode _ c.args.keys.now (e.pends c.args.inner.now) (e.pends c.plans.inner) (e.pends c.next_plan.new.self) i.stays c.in-Err.stop c.requires.keyed law
+    after_stop _ c.args.mode _ c.args.keys.now (e.pends c.args.inner.now) (e.pends c.plans.inner)
+    (e.pends c.next_plan.new.self) i.stays c.in-Err.stop c.requires.keyed law

@@ -21,7 +21,8 @@ returns-in-Ok-true-clause-seen g c =
     let e = g.I.LazyPlans in
     let gave = rw (i.system, i.mode, i.most) at (rw c.in-Ok-Some.field-0-is at c.in-Ok-Some.ensures.law) in
     let noted = rw (c.in-Ok-true.field-0-test, i.seen) at c.in-Ok-true.ensures.ok in
-    keys_more (e.system c.args.inner.now) Unordered (e.most c.args.inner.now) c.args.seen.now _ c.in-Ok-Some.plan noted.key c.requires.seen gave.fits noted.is noted.more
+    keys_more (e.system c.args.inner.now) Unordered (e.most c.args.inner.now) c.args.seen.now _ c.in-Ok-Some.plan
+    noted.key c.requires.seen gave.fits noted.is noted.more
 
 pub returns-in-Ok-true-clause-law : goal.returns-in-Ok-true-clause-law
 returns-in-Ok-true-clause-law g c =
@@ -29,14 +30,19 @@ returns-in-Ok-true-clause-law g c =
     let e = g.I.LazyPlans in
     let gave = rw (i.system, i.mode, i.most) at (rw c.in-Ok-Some.field-0-is at c.in-Ok-Some.ensures.law) in
     let noted = rw (c.in-Ok-true.field-0-test, i.seen) at c.in-Ok-true.ensures.ok in
-    law_fresh _ _ c.args.seen.now (e.pends c.args.inner.now) (e.pends c.plans.inner) (e.pends c.next_plan.new.self) i.stays c.in-Ok-Some.plan noted.key _ c.plans.held gave (key_same Unordered c.in-Ok-Some.plan noted.key noted.is) noted.fresh noted.more i.held
+    law_fresh _ _ c.args.seen.now (e.pends c.args.inner.now) (e.pends c.plans.inner) (e.pends c.next_plan.new.self)
+    i.stays c.in-Ok-Some.plan noted.key _ c.plans.held gave
+    (key_same Unordered c.in-Ok-Some.plan noted.key noted.is) noted.fresh noted.more i.held
 
 pub returns-in-Err-note_class-clause-law : goal.returns-in-Err-note_class-clause-law
 returns-in-Err-note_class-clause-law g c =
     let i = c.plans.invariant in
     let e = g.I.LazyPlans in
-    let gave = rw (i.system, i.mode, i.most) at (rw c.in-Ok-Some.field-0-is at c.in-Ok-Some.ensures.law) in
-    (tt, law_held _ _ c.args.seen.now (e.pends c.args.inner.now) (e.pends c.plans.inner) (e.pends c.next_plan.new.self) i.stays c.in-Ok-Some.plan _ gave (c.in-Err-note_class.ensures.err ∙ i.seen))
+    let gave = rw (i.system, i.mode, i.most) at (rw c.in-Ok-Some.field-0-is at c.in-Ok-Some.ensures.law) in (
+      tt,
+      law_held _ _ c.args.seen.now (e.pends c.args.inner.now) (e.pends c.plans.inner)
+          (e.pends c.next_plan.new.self) i.stays c.in-Ok-Some.plan _ gave (c.in-Err-note_class.ensures.err ∙ i.seen),
+    )
 
 pub plans-smaller : goal.plans-smaller
 plans-smaller g c =
@@ -44,7 +50,10 @@ plans-smaller g c =
     let e = g.I.LazyPlans in
     let gave = rw (i.system, i.mode, i.most) at (rw c.in-Ok-Some.field-0-is at c.in-Ok-Some.ensures.law) in
     let noted = rw c.in-Ok-false.field-0-test at c.in-Ok-false.ensures.ok in
-    let falls = still_falls _ TopK Unordered _ c.plans.seen (e.pends c.plans.inner) (e.pends c.next_plan.new.self) c.in-Ok-Some.plan (e.tells c.plans.inner) (e.tells c.next_plan.new.self) (g.met.I.LazyPlans.told c.plans.inner i.lawful) (g.met.I.LazyPlans.told c.next_plan.new.self c.in-Ok-Some.ensures.lawful) gave noted.0 in
+    let falls = still_falls _ TopK Unordered _ c.plans.seen (e.pends c.plans.inner) (e.pends c.next_plan.new.self)
+    c.in-Ok-Some.plan (e.tells c.plans.inner) (e.tells c.next_plan.new.self)
+    (g.met.I.LazyPlans.told c.plans.inner i.lawful) (g.met.I.LazyPlans.told c.next_plan.new.self
+    c.in-Ok-Some.ensures.lawful) gave noted.0 in
     rw noted.1 falls
 
 pub plans-preserved : goal.plans-preserved
@@ -60,7 +69,8 @@ plans-preserved g c =
       most = c.in-Ok-Some.ensures.most ∙ i.most;
       seen = noted.1;
       held = i.held;
-      stays = law_skips _ _ c.args.seen.now (e.pends c.args.inner.now) (e.pends c.plans.inner) (e.pends c.next_plan.new.self) i.stays c.in-Ok-Some.plan gave noted.0;
+      stays = law_skips _ _ c.args.seen.now (e.pends c.args.inner.now) (e.pends c.plans.inner)
+          (e.pends c.next_plan.new.self) i.stays c.in-Ok-Some.plan gave noted.0;
     }
 
 pub returns-in-Err-clause-law : goal.returns-in-Err-clause-law
@@ -68,7 +78,8 @@ returns-in-Err-clause-law g c =
     let i = c.plans.invariant in
     let e = g.I.LazyPlans in
     let law = rw (i.system, i.most) at (rw c.in-Err.stop-is at c.in-Err.ensures.law) in
-    law_stop _ _ c.args.seen.now (e.pends c.args.inner.now) (e.pends c.plans.inner) (e.pends c.next_plan.new.self) i.stays c.in-Err.stop _ c.plans.held c.requires.seen law i.seen i.held
+    law_stop _ _ c.args.seen.now (e.pends c.args.inner.now) (e.pends c.plans.inner) (e.pends c.next_plan.new.self)
+    i.stays c.in-Err.stop _ c.plans.held c.requires.seen law i.seen i.held
 
 pub note_class-requires : goal.note_class-requires
 note_class-requires g c = rw c.plans.invariant.seen c.requires.seen.each

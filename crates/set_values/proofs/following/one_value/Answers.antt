@@ -8,8 +8,11 @@ bits-preserved c = record {
   small = rw c.with_bit-value.ensures (small_more c.bits.value c.bits.bit c.in_ok-is_set.is_set c.bits.invariant.small);
   told = λ b m. (
       let i = c.bits.invariant.told b m in
-      let t = c.in_ok-is_set.ensures.only b i.0 in
-      (t.1, rw c.with_bit-value.ensures (spelled_more b c.args.block.first c.args.block.width c.bits.bit c.bits.value _ c.in_ok-is_set.is_set c.bits-test.true refl t.0 i.1)));
+      let t = c.in_ok-is_set.ensures.only b i.0 in (
+        t.1,
+        rw c.with_bit-value.ensures (spelled_more b c.args.block.first c.args.block.width c.bits.bit c.bits.value
+            _ c.in_ok-is_set.is_set c.bits-test.true refl t.0 i.1),
+      ));
 }
 
 pub returns-clause-one : goal.returns-clause-one

@@ -8,5 +8,7 @@ abbrev pub invariant-bits : goal.invariant-bits
 invariant-bits l = record {
   known : l.id < length l.table;
   small : l.value < 2 ^ l.bit;
-  told : (b : Bits) → means l.table l.root b ≡ true → (means l.table l.id b ≡ true) × (value_of l.block b ≡ l.value * 2 ^ (l.block.width - l.bit) + number b 0 (l.block.first + l.bit) (l.block.width - l.bit));
+  told : (b : Bits) → means l.table l.root b ≡ true → (means l.table l.id b ≡ true)
+      × (value_of l.block b ≡ l.value * 2 ^ (l.block.width - l.bit) + number b 0 (l.block.first + l.bit)
+      (l.block.width - l.bit));
 }

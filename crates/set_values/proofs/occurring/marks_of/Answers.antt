@@ -12,4 +12,5 @@ returns c =
     let marks = c.walk.new.marks.items in
     are_occurring o nodes c.args.set starts slots marks c.requires.places.slots
     (subst (λ (xs : List ℕ). AreMarked o nodes c.args.set starts marks xs (length xs)) c.deref-2.ensures.value
-    (subst (λ (xs : List ℕ). AreMarked o nodes c.args.set xs marks c.deref-2.result.now (length c.deref-2.result.now)) c.deref-3.ensures.value c.in_ok-walk.ensures))
+    (subst (λ (xs : List ℕ). AreMarked o nodes c.args.set xs marks c.deref-2.result.now (length c.deref-2.result.now))
+    c.deref-3.ensures.value c.in_ok-walk.ensures))

@@ -13,6 +13,7 @@ prevail-preserved c =
 
 pub returns : goal.returns
 returns c =
-    let all : c.prevail.fact-index ≡ length c.args.prevail.now = (let t = c.prevail-test.false in let e = c.prevail.auto.fact-index-end in omega (arith, t, e)) in
+    let all : c.prevail.fact-index ≡ length c.args.prevail.now =
+    (let t = c.prevail-test.false in let e = c.prevail.auto.fact-index-end in omega (arith, t, e)) in
     others_all (λ f. Contains c.args.facts.now f) c.args.prevail.now c.prevail.facts c.args.on.now
     (subst (λ (n : ℕ). OthersBelow (λ f. Contains c.args.facts.now f) c.args.prevail.now c.args.on.now n c.prevail.facts) all c.prevail.invariant)

@@ -12,5 +12,9 @@ loop-operator-preserved c =
 
 pub returns : goal.returns
 returns c =
-    let all : c.loop-operator.operator-index ≡ length c.args.operators.now = (let t = c.loop-operator-test.false in let e = c.loop-operator.auto.operator-index-end in omega (arith, t, e)) in
-    facts_all IsAsked c.args.operators.now c.loop-operator.lists.items (subst (λ (n : ℕ). FactsBelow IsAsked c.args.operators.now c.loop-operator.lists.items n) all c.loop-operator.invariant)
+    let all : c.loop-operator.operator-index ≡ length c.args.operators.now =
+    (let t = c.loop-operator-test.false in let e = c.loop-operator.auto.operator-index-end in omega
+    (arith, t, e)) in
+    facts_all IsAsked c.args.operators.now c.loop-operator.lists.items
+    (subst (λ (n : ℕ). FactsBelow IsAsked c.args.operators.now c.loop-operator.lists.items n) all
+    c.loop-operator.invariant)

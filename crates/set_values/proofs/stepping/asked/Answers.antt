@@ -9,7 +9,8 @@ pub effects-init : goal.effects-init
 effects-init c =
     let prevail = c.args.operator.now.prevail in
     let same : c.of-facts.result ≡ prevail = c.of-facts.ensures ∙ c.in_ok-from_slice.ensures.items ∙ c.as_slice.ensures in
-    asked_none (λ f. Contains prevail f) c.args.operator.now.effects c.of-facts.result (λ f. subst (λ (xs : List Fact). Contains xs f ↔ Contains prevail f) (sym same) ((λ h. h), (λ h. h)))
+    asked_none (λ f. Contains prevail f) c.args.operator.now.effects c.of-facts.result
+    (λ f. subst (λ (xs : List Fact). Contains xs f ↔ Contains prevail f) (sym same) ((λ h. h), (λ h. h)))
 
 pub effects-preserved : goal.effects-preserved
 effects-preserved c =

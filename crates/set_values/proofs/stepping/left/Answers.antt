@@ -16,4 +16,6 @@ returns c =
     let facts = c.add_others.new.facts in
     left_all o last facts on
     (subst (λ (es : List Effect). AreLast es last on) c.as_slice.ensures c.in_ok-add_effects.ensures)
-    (subst (λ (ps : List Fact). (f : Fact) → Contains facts f ↔ (Contains last f ⊎ (Contains ps f × IsFalse (contains nat_cmp on f.var)))) c.as_slice-2.ensures c.in_ok-add_others.ensures)
+    (subst (λ (ps : List Fact). (f : Fact) → Contains facts f
+    ↔ (Contains last f ⊎ (Contains ps f × IsFalse (contains nat_cmp on f.var)))) c.as_slice-2.ensures
+    c.in_ok-add_others.ensures)

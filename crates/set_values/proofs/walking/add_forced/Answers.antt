@@ -5,5 +5,7 @@ use Rattle.set_values.proofs.walking.add_forced.Goals as goal
 pub returns-then-value-block : goal.returns-then-value-block
 returns-then-value-block c =
     on_ok_weaker c.add_end.result
-    (adds_forced c.args.table.now c.args.block c.args.start c.args.id c.args.value c.args.end c.args.ends.now.items c.add_end.new.ends.items c.args.marks.now.items c.add_end.new.marks.items c.held.ensures.reduced c.requires.end c.requires.ends c.requires.forced)
+    (adds_forced c.args.table.now c.args.block c.args.start c.args.id c.args.value c.args.end c.args.ends.now.items
+    c.add_end.new.ends.items c.args.marks.now.items c.add_end.new.marks.items c.held.ensures.reduced
+    c.requires.end c.requires.ends c.requires.forced)
     c.add_end.ensures

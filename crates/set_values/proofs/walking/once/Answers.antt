@@ -4,4 +4,6 @@ use Rattle.set_values.proofs.Passing.{once_same}
 use Rattle.set_values.proofs.walking.once.Goals as goal
 
 pub returns : goal.returns
-returns c = once_same c.args.ends.now.items c.sort_unstable.new.self.items c.dedup.new.self.items c.sort_unstable.ensures.permutation (dedup_is eqb c.sort_unstable.new.self.items c.dedup.new.self.items c.dedup.ensures.filtered)
+returns c = once_same c.args.ends.now.items c.sort_unstable.new.self.items c.dedup.new.self.items
+    c.sort_unstable.ensures.permutation (dedup_is eqb c.sort_unstable.new.self.items c.dedup.new.self.items
+    c.dedup.ensures.filtered)

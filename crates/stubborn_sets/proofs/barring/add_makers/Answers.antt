@@ -12,4 +12,6 @@ returns-clause-has c =
     let ops = c.of.result.now in
     let new = c.add_all.new.self.marks.items in
     let all : Type 0 = All (λ op. IsTrue (is_in new op)) ops in
-    on_both c.add_all.result all all (HasMakers c.args.parts.now c.args.fact new) (λ has _. has_makers c.args.parts.now c.args.fact ops new c.of.ensures has) c.add_all.ensures.has c.add_all.ensures.has
+    on_both c.add_all.result all all (HasMakers c.args.parts.now c.args.fact new)
+    (λ has _. has_makers c.args.parts.now c.args.fact ops new c.of.ensures has)
+    c.add_all.ensures.has c.add_all.ensures.has

@@ -13,7 +13,8 @@ add-requires c =
 
 pub bar_on-requires-clause-barring : goal.bar_on-requires-clause-barring
 bar_on-requires-clause-barring c =
-    barring_begins c.args.parts.now c.args.values.now c.in_ok-barred.barred c.add.new.self c.args.set.now c.len.result c.len.ensures c.in_ok-barred.ensures.marks c.in_ok-barred.ensures.waiting c.in_ok-add.ensures.adds
+    barring_begins c.args.parts.now c.args.values.now c.in_ok-barred.barred c.add.new.self c.args.set.now c.len.result
+    c.len.ensures c.in_ok-barred.ensures.marks c.in_ok-barred.ensures.waiting c.in_ok-add.ensures.adds
 
 pub returns-clause-barred : goal.returns-clause-barred
 returns-clause-barred c =
@@ -22,6 +23,8 @@ returns-clause-barred c =
     let old = c.add.new.self.marks.items in
     let barred = c.bar_on.new.barred.marks.items in
     let marks = c.bar_on.new.set.marks.items in
-    if_both c.bar_on.result (λ (all : Bool). IsTrue all → Grows old barred) (λ all. IsTrue all → AreBarredRules parts values barred marks parts.rules) (λ all. IsTrue all → IsBarred parts values marks c.args.fact)
+    if_both c.bar_on.result (λ (all : Bool). IsTrue all → Grows old barred)
+    (λ all. IsTrue all → AreBarredRules parts values barred marks parts.rules)
+    (λ all. IsTrue all → IsBarred parts values marks c.args.fact)
     (λ all grows bars yes. record { barred = barred; raises = (c.requires.raising, grows yes c.args.fact.var c.in_ok-add.ensures.has); rules = bars yes })
     c.bar_on.ensures.grows c.bar_on.ensures.bars

@@ -8,5 +8,6 @@ abbrev pub invariant-loop-number : goal.invariant-loop-number
 invariant-loop-number l = record {
   spreads : Adds l.fn.barred l.barred;
   adds : Adds l.fn.set l.set;
-  rules : (j d : ℕ) (e : Rule) → j < l.number-index → IsStopped l.parts l.values l.barred.marks.items l.set.marks.items (slice_index_or l.parts.rules (slice_index_or l.number-items j d) e);
+  rules : (j d : ℕ) (e : Rule) → j < l.number-index → IsStopped l.parts l.values l.barred.marks.items
+      l.set.marks.items (slice_index_or l.parts.rules (slice_index_or l.number-items j d) e);
 }

@@ -7,4 +7,6 @@ returns-clause-adds c =
     let old = c.args.set.now in
     let mid = c.bar_raised.new.set in
     let new = c.add_makers.new.set in
-    on_both c.add_makers.result (Adds mid new) (Adds mid new) (Adds old new) (λ adds _. adds_trans old mid new c.in_ok-bar_raised.ensures.adds adds) c.add_makers.ensures.adds c.add_makers.ensures.adds
+    on_both c.add_makers.result (Adds mid new) (Adds mid new) (Adds old new)
+    (λ adds _. adds_trans old mid new c.in_ok-bar_raised.ensures.adds adds) c.add_makers.ensures.adds
+    c.add_makers.ensures.adds

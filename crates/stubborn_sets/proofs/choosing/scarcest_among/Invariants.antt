@@ -7,6 +7,7 @@ use Rattle.stubborn_sets.proofs.choosing.scarcest_among.Given as goal
 
 abbrev pub invariant-loop-fact : goal.invariant-loop-fact
 invariant-loop-fact l = record {
-  which : MatchOption l.best ((k : ℕ) (d : Fact) → k < l.fact-index → HasValue l.values (slice_index_or l.facts k d)) (λ lack. IsUnmet l.values l.facts lack.fact);
+  which : MatchOption l.best ((k : ℕ) (d : Fact) → k < l.fact-index → HasValue l.values (slice_index_or l.facts k d))
+      (λ lack. IsUnmet l.values l.facts lack.fact);
   waits : IfSome l.best (λ lack. lack.makers ≡ 0 → Waits l.parts l.barred l.marks lack.fact);
 }

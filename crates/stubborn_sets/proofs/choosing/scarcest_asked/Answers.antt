@@ -16,11 +16,15 @@ loop-effect-preserved c =
     let Waiting : Option Lack → Type 0 = λ o. IfSome o (λ lack. lack.makers ≡ 0 → HasMakers c.args.parts.now lack.fact c.args.marks.now) in
     elim c.match-refused.branch [
       | in-None w ↦ record {
-        which = subst (Asked values effects c.args.before (n + 1)) (sym w.best-is) (asks_none values effects c.args.before n effect best c.loop-effect-test.true c.effect-item.is w.in-None.ensures inv.which);
+        which = subst (Asked values effects c.args.before (n + 1)) (sym w.best-is)
+            (asks_none values effects c.args.before n effect best c.loop-effect-test.true c.effect-item.is
+            w.in-None.ensures inv.which);
         waits = subst Waiting (sym w.best-is) inv.waits;
       }
       | in-Some w ↦ record {
-        which = subst (Asked values effects c.args.before (n + 1)) (sym w.best-is) (asks_one values effects c.args.before n effect w.in-Some.fact best w.scarcer.result c.loop-effect-test.true c.effect-item.is w.in-Some.ensures w.scarcer.ensures.which inv.which);
+        which = subst (Asked values effects c.args.before (n + 1)) (sym w.best-is)
+            (asks_one values effects c.args.before n effect w.in-Some.fact best w.scarcer.result
+            c.loop-effect-test.true c.effect-item.is w.in-Some.ensures w.scarcer.ensures.which inv.which);
         waits = subst Waiting (sym w.best-is) (λ none. waits_makers c.args.parts.now c.args.marks.now w.scarcer.result.fact (w.scarcer.ensures.waits none));
       }
     ]

@@ -17,8 +17,11 @@ loop-op-preserved c =
     let lt : op < length task.operators = omega (arith, c.loop-op-test.true, c.operators-op-end.ensures) in
     let here = (operator_at task c.as_slice-operators.result.now op operator c.parts.ensures.fits all lt c.index-operators-op.is).0 in
     let effects = c.as_slice-effects.ensures ∙ ap (λ (o : Operator). o.effects) (sym c.index-operators-op.is) in
-    givers_more task c.args.firsts.now op operator (list_at c.loop-op.given) (list_at c.add_effects.new.given) here c.loop-op.invariant c.in_ok-add_effects.ensures.adds
-    (subst (λ (z : List Effect). All (λ (e : Effect). Contains (list_at c.add_effects.new.given (number_of c.args.firsts.now (given_by e))) op) z) effects c.in_ok-add_effects.ensures.has)
+    givers_more task c.args.firsts.now op operator (list_at c.loop-op.given) (list_at c.add_effects.new.given) here
+    c.loop-op.invariant c.in_ok-add_effects.ensures.adds
+    (subst (λ (z : List Effect). All (λ (e : Effect). Contains
+    (list_at c.add_effects.new.given (number_of c.args.firsts.now (given_by e))) op) z) effects
+    c.in_ok-add_effects.ensures.has)
 
 pub returns : goal.returns
 returns c =

@@ -10,8 +10,11 @@ loop-number-init c = rules_none c.args.rules.now (list_at c.new-lists.result) c.
 
 pub loop-number-preserved : goal.loop-number-preserved
 loop-number-preserved c =
-    rules_more c.args.rules.now c.loop-number.number c.index-rules-number.result (list_at c.loop-number.lists) (list_at c.add.new.self) c.loop-number-test.true c.index-rules-number.is
-    c.loop-number.invariant c.in_ok-add.ensures.adds (subst (λ (z : Rule). Contains (list_at c.add.new.self z.var) c.loop-number.number) (sym c.index-rules-number.is) c.in_ok-add.ensures.has)
+    rules_more c.args.rules.now c.loop-number.number c.index-rules-number.result (list_at c.loop-number.lists)
+    (list_at c.add.new.self) c.loop-number-test.true c.index-rules-number.is
+    c.loop-number.invariant c.in_ok-add.ensures.adds
+    (subst (λ (z : Rule). Contains (list_at c.add.new.self z.var) c.loop-number.number)
+    (sym c.index-rules-number.is) c.in_ok-add.ensures.has)
 
 pub returns : goal.returns
 returns c = λ var.

@@ -17,7 +17,9 @@ loop-op-preserved c =
     let operators = c.as_slice-operators.result.now in
     let operator = c.index-operators-op.result in
     elim c.if-not-writes_off.branch [
-      | then-not-writes_off+in_ok-push w ↦ puts_last (IsOff task marks) op c.loop-op.ops.items c.if-not-writes_off.ops.items c.loop-op.invariant (ap (λ (v : Vec ℕ Global). v.items) w.ops-is ∙ w.in_ok-push.ensures.items)
+      | then-not-writes_off+in_ok-push w ↦ puts_last (IsOff task marks) op c.loop-op.ops.items
+          c.if-not-writes_off.ops.items c.loop-op.invariant
+          (ap (λ (v : Vec ℕ Global). v.items) w.ops-is ∙ w.in_ok-push.ensures.items)
       | else-not-writes_off w ↦ (
           let all = c.as_slice-operators.ensures ∙ ap (λ (z : TaskParts). z.operators) c.parts.ensures.value in
           let lt : op < length task.operators = omega (arith, c.loop-op-test.true, c.operators-op-end.ensures) in
@@ -26,5 +28,7 @@ loop-op-preserved c =
           let off : WritesOff marks c.as_slice.result.now = c.writes_off.ensures.0 w.if-not-writes_off.false in
           let by : WritesOff marks operator.effects = subst (λ (z : List Effect). WritesOff marks z) effects off in
           subst (λ (v : Vec ℕ Global). LeavesOut (IsOff task marks) (op + 1) v.items) (sym w.ops-is)
-          (leaves_out (IsOff task marks) op c.loop-op.ops.items c.loop-op.invariant (subst (λ (o : Option Operator). IsSomeAnd o (λ (z : Operator). WritesOff marks z.effects)) (sym here) by)))
+          (leaves_out (IsOff task marks) op c.loop-op.ops.items c.loop-op.invariant
+          (subst (λ (o : Option Operator). IsSomeAnd o (λ (z : Operator). WritesOff marks z.effects)) (sym here)
+          by)))
     ]

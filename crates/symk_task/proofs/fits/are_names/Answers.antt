@@ -9,7 +9,8 @@ pub returns-then-not-is_name : goal.returns-then-not-is_name
 returns-then-not-is_name c =
     let i = c.loop-name.name-index in
     let items = c.as_slice-name-items.ensures in
-    let here : c.name-item.result ≡ get_or c.args.names.now i c.name-item.result = c.name-item.is ∙ ap (λ (z : List (List ℕ)). get_or z i c.name-item.result) items in
+    let here : c.name-item.result ≡ get_or c.args.names.now i c.name-item.result = c.name-item.is
+    ∙ ap (λ (z : List (List ℕ)). get_or z i c.name-item.result) items in
     let within : i < length c.args.names.now = subst (λ (z : List (List ℕ)). i < length z) items c.loop-name-test.true in (
       (λ t. cc),
       (λ all. let yes = c.is_name.ensures.1 (subst IsName (sym here) (all i c.name-item.result within)) in cc),
@@ -19,7 +20,8 @@ pub loop-name-preserved : goal.loop-name-preserved
 loop-name-preserved c =
     let i = c.loop-name.name-index in
     let items = c.as_slice-name-items.ensures in
-    let here : c.name-item.result ≡ get_or c.args.names.now i c.name-item.result = c.name-item.is ∙ ap (λ (z : List (List ℕ)). get_or z i c.name-item.result) items in
+    let here : c.name-item.result ≡ get_or c.args.names.now i c.name-item.result = c.name-item.is
+    ∙ ap (λ (z : List (List ℕ)). get_or z i c.name-item.result) items in
     let within : i < length c.args.names.now = subst (λ (z : List (List ℕ)). i < length z) items c.loop-name-test.true in
     All-more IsName c.args.names.now i c.name-item.result within c.loop-name.invariant (subst IsName here (c.is_name.ensures.0 c.if-not-is_name.false))
 

@@ -10,7 +10,10 @@ loop-at-preserved c =
       | then-bytes-at-eq10+in_ok-push w ↦ rw (w.items-is, w.from-is) (record {
         within = omega arith;
         none = λ k low high. absurd (omega arith);
-        so_far = rw (w.in_ok-push.ensures.items, w.of.ensures, w.without_return.ensures) (one_line_more c.args.bytes.now c.loop-at.items.items c.loop-at.from c.loop-at.at c.loop-at.invariant.within c.loop-at-test.true w.if-bytes-at-eq10.true c.loop-at.invariant.none c.loop-at.invariant.so_far);
+        so_far = rw (w.in_ok-push.ensures.items, w.of.ensures, w.without_return.ensures)
+            (one_line_more c.args.bytes.now c.loop-at.items.items c.loop-at.from c.loop-at.at
+            c.loop-at.invariant.within c.loop-at-test.true w.if-bytes-at-eq10.true c.loop-at.invariant.none
+            c.loop-at.invariant.so_far);
       })
       | else-bytes-at-eq10 w ↦ rw (w.items-is, w.from-is) (record {
         within = omega arith;
@@ -25,9 +28,17 @@ none_left c = λ k low high. c.loop-at.invariant.none k low (omega arith)
 whole : (c : goal.Joined-not-is_empty) → c.if-not-is_empty.items.items ≡ lines c.args.bytes.now
 whole c =
     elim c.if-not-is_empty.branch [
-      | then-not-is_empty+in_ok-push-2 w ↦ rw (w.items-is, w.in_ok-push-2.ensures.items, w.of-then-not-is_empty.ensures, w.without_return-then-not-is_empty.ensures)
-          (with_last c.args.bytes.now c.loop-at.items.items c.loop-at.from (let t = w.if-not-is_empty.true in cc (c.is_empty.ensures, t)) (none_left c) c.loop-at.invariant.so_far)
-      | else-not-is_empty w ↦ rw w.items-is (without_last c.args.bytes.now c.loop-at.items.items c.loop-at.from (let t = w.if-not-is_empty.false in cc (c.is_empty.ensures, t)) c.loop-at.invariant.so_far)
+      | then-not-is_empty+in_ok-push-2 w ↦ rw (
+        w.items-is,
+        w.in_ok-push-2.ensures.items,
+        w.of-then-not-is_empty.ensures,
+        w.without_return-then-not-is_empty.ensures,
+      )
+          (with_last c.args.bytes.now c.loop-at.items.items c.loop-at.from
+          (let t = w.if-not-is_empty.true in cc (c.is_empty.ensures, t)) (none_left c)
+          c.loop-at.invariant.so_far)
+      | else-not-is_empty w ↦ rw w.items-is (without_last c.args.bytes.now c.loop-at.items.items c.loop-at.from
+          (let t = w.if-not-is_empty.false in cc (c.is_empty.ensures, t)) c.loop-at.invariant.so_far)
     ]
 
 pub returns : goal.returns
@@ -37,7 +48,10 @@ pub invariant_of-result : goal.invariant_of-result
 invariant_of-result c = rw (whole c) (lines_are_lines c.args.bytes.now)
 
 pub of-requires : goal.of-requires
-of-requires c = rw c.without_return.ensures (piece_is_line c.args.bytes.now c.loop-at.from c.loop-at.at c.loop-at.invariant.within (omega arith) c.loop-at.invariant.none)
+of-requires c = rw c.without_return.ensures (piece_is_line c.args.bytes.now c.loop-at.from c.loop-at.at
+    c.loop-at.invariant.within (omega arith) c.loop-at.invariant.none)
 
 pub of-requires-then-not-is_empty : goal.of-requires-then-not-is_empty
-of-requires-then-not-is_empty c = rw c.without_return-then-not-is_empty.ensures (piece_is_line c.args.bytes.now c.loop-at.from (length c.args.bytes.now) (omega arith) (omega arith) (λ k low high. c.loop-at.invariant.none k low (omega arith)))
+of-requires-then-not-is_empty c = rw c.without_return-then-not-is_empty.ensures
+    (piece_is_line c.args.bytes.now c.loop-at.from (length c.args.bytes.now) (omega arith) (omega arith)
+    (λ k low high. c.loop-at.invariant.none k low (omega arith)))

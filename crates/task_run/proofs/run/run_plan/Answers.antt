@@ -24,7 +24,8 @@ loop-i-preserved c =
     let applies : Applies task c.loop-i.state (get_or numbers i 0) = c.applies_in.ensures.0 c.if-not-applies_in.false in
     let after : After task c.loop-i.state (get_or numbers i 0) next = c.in_ok-state-2.ensures.after in
     let one : Step task c.loop-i.state (get_or numbers i 0) next = (applies, after) in
-    let step : Step task c.loop-i.state (get_or p i 0) next = subst (λ (q : List ℕ). Step task c.loop-i.state (get_or q i 0) next) c.as_slice-numbers.ensures one in
+    let step : Step task c.loop-i.state (get_or p i 0) next =
+    subst (λ (q : List ℕ). Step task c.loop-i.state (get_or q i 0) next) c.as_slice-numbers.ensures one in
     let r = c.loop-i.invariant.runs in
     record {
       state = c.in_ok-state-2.ensures.state;

@@ -7,4 +7,5 @@ pub returns : goal.returns
 returns c =
     let task = c.args.task.now in
     let facts : c.as_slice.result.now ≡ task.goal = c.as_slice.ensures ∙ ap (λ (x : TaskParts). x.goal) c.parts.ensures.value in
-    goal_law task c.args.state.now c.args.values.now c.as_slice-2.result.now c.as_slice.result.now c.all_have.result c.parts.ensures.fits c.requires (c.as_slice-2.ensures) facts c.all_have.ensures
+    goal_law task c.args.state.now c.args.values.now c.as_slice-2.result.now c.as_slice.result.now c.all_have.result
+    c.parts.ensures.fits c.requires (c.as_slice-2.ensures) facts c.all_have.ensures

@@ -21,11 +21,14 @@ loop-effect-preserved c =
           record {
             each = rw items (length-set c.loop-effect.next.items e.var e.post ∙ c.loop-effect.invariant.each);
             values = λ var. one_more F es i e var (get_or c.args.values.now var 0) (get_or c.if-fires.next.items var 0) c.loop-effect-test.true c.effect-item.is
-                (rw items (written F (take i es) e var (get_or c.args.values.now var 0) c.loop-effect.next.items (c.fires.ensures.0 w.if-fires.true) within (c.loop-effect.invariant.values var)));
+                (rw items (written F (take i es) e var (get_or c.args.values.now var 0) c.loop-effect.next.items
+                (c.fires.ensures.0 w.if-fires.true) within (c.loop-effect.invariant.values var)));
           })
       | else-fires w ↦ record {
         each = rw w.next-is c.loop-effect.invariant.each;
         values = λ var. one_more F es i e var (get_or c.args.values.now var 0) (get_or c.if-fires.next.items var 0) c.loop-effect-test.true c.effect-item.is
-            (rw w.next-is (unchanged F (take i es) e var (get_or c.args.values.now var 0) (get_or c.loop-effect.next.items var 0) (λ _ f. absurd (false≢true (sym w.if-fires.false ∙ c.fires.ensures.1 f))) (c.loop-effect.invariant.values var)));
+            (rw w.next-is (unchanged F (take i es) e var (get_or c.args.values.now var 0)
+            (get_or c.loop-effect.next.items var 0) (λ _ f. absurd
+            (false≢true (sym w.if-fires.false ∙ c.fires.ensures.1 f))) (c.loop-effect.invariant.values var)));
       }
     ]

@@ -28,7 +28,9 @@ loop-i-preserved c =
           record {
             each = rw items (length_push c.loop-i.values.items y ∙ ap (λ (z : ℕ). z + 1) inv.each);
             place = w.place-is ∙ omega (arith, inv.place, n);
-            values = rw items (start_push (start_value variables defaults s) c.loop-i.values.items i y inv.each (start_at variables defaults s i v true c.loop-i-test.true c.index-variables-i.is t ∙ ap (λ (z : ℕ). get_or s z 0) (sym inv.place)) inv.values);
+            values = rw items (start_push (start_value variables defaults s) c.loop-i.values.items i y inv.each
+                (start_at variables defaults s i v true c.loop-i-test.true c.index-variables-i.is t
+                ∙ ap (λ (z : ℕ). get_or s z 0) (sym inv.place)) inv.values);
           })
       | else-is_none+in_ok-push-2 w ↦ (
           let t : is_base v ≡ false = b ∙ w.if-is_none.false in
@@ -38,6 +40,7 @@ loop-i-preserved c =
           record {
             each = rw items (length_push c.loop-i.values.items y ∙ ap (λ (z : ℕ). z + 1) inv.each);
             place = w.place-is ∙ omega (arith, inv.place, n);
-            values = rw items (start_push (start_value variables defaults s) c.loop-i.values.items i y inv.each (start_at variables defaults s i v false c.loop-i-test.true c.index-variables-i.is t) inv.values);
+            values = rw items (start_push (start_value variables defaults s) c.loop-i.values.items i y inv.each
+                (start_at variables defaults s i v false c.loop-i-test.true c.index-variables-i.is t) inv.values);
           })
     ]

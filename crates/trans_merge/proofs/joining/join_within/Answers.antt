@@ -7,5 +7,7 @@ pub returns-else-branch-clause-large : goal.returns-else-branch-clause-large
 returns-else-branch-clause-large c = (
   c.in_ok-joined.joined,
   c.in_ok-joined.ensures.joined,
-  (λ few. true≢false (sym (c.in_ok-is_within.ensures.1 (subst (λ (nodes : List Node). HasAtMost nodes c.in_ok-joined.joined.root c.args.bound) (sym c.table.ensures.same) few)) ∙ c.if-branch.false)),
+  (λ few. true≢false (sym (c.in_ok-is_within.ensures.1 (subst
+      (λ (nodes : List Node). HasAtMost nodes c.in_ok-joined.joined.root c.args.bound) (sym c.table.ensures.same)
+      few)) ∙ c.if-branch.false)),
 )

@@ -11,11 +11,15 @@ use Rattle.trans_merge.proofs.merging.+merge.Goals as goal
 
 pub returns-then-len-lt2-clause-merges : goal.returns-then-len-lt2-clause-merges
 returns-then-len-lt2-clause-merges t c =
-    merges_few c.args.order.now c.args.bound c.args.ops.now c.args.ops.now c.args.relations.items (keeps_itself c.args.ops.now) c.requires (let a = c.len.ensures in let b = c.args.relations.ok.0 in let d = c.if-len-lt2.true in omega (arith, a, b, d))
+    merges_few c.args.order.now c.args.bound c.args.ops.now c.args.ops.now c.args.relations.items
+    (keeps_itself c.args.ops.now) c.requires (let a = c.len.ensures in let b = c.args.relations.ok.0 in
+    let d = c.if-len-lt2.true in omega (arith, a, b, d))
 
 pub returns-then-len-lt2-clause-halved : goal.returns-then-len-lt2-clause-halved
 returns-then-len-lt2-clause-halved t c =
-    halved_few c.args.order.now c.args.bound c.args.ops.now c.args.relations.items (let a = c.len.ensures in let b = c.args.relations.ok.0 in let d = c.if-len-lt2.true in omega (arith, a, b, d))
+    halved_few c.args.order.now c.args.bound c.args.ops.now c.args.relations.items
+    (let a = c.len.ensures in let b = c.args.relations.ok.0 in
+    let d = c.if-len-lt2.true in omega (arith, a, b, d))
 
 pub merge-requires-2 : goal.merge-requires-2
 merge-requires-2 t c =
@@ -25,7 +29,11 @@ merge-requires-2 t c =
     let second = c.in_ok-second.second.items in
     let all = c.args.relations.items in
     let n = c.len.result in
-    let h = halves_of all first second n (c.len-half.result / 2) (let a = c.len.ensures in let b = c.args.relations.ok.0 in omega (arith, a, b)) (let d = c.if-len-lt2.false in omega (arith, d)) (let a = c.len-half.ensures in let b = c.len.ensures in let e : c.len-half.result ≡ n = omega (arith, a, b) in ap (λ (k : ℕ). k / 2) e) c.in_ok-second.ensures.items c.in_ok-second.ensures.tail in
+    let h = halves_of all first second n (c.len-half.result / 2)
+    (let a = c.len.ensures in let b = c.args.relations.ok.0 in omega (arith, a, b))
+    (let d = c.if-len-lt2.false in omega (arith, d)) (let a = c.len-half.ensures in let b = c.len.ensures in
+    let e : c.len-half.result ≡ n = omega (arith, a, b) in ap (λ (k : ℕ). k / 2) e) c.in_ok-second.ensures.items
+    c.in_ok-second.ensures.tail in
     let known : All (IsRelation o start) (first ++ second) = subst (λ (rs : List Relation). All (IsRelation o start) rs) (sym h.whole) c.requires in
     let one = front_holds (IsRelation o start) first second known in
     let two = behind_holds (IsRelation o start) first second known in
@@ -42,7 +50,11 @@ combine-requires-clause-left t c =
     let second = c.in_ok-second.second.items in
     let all = c.args.relations.items in
     let n = c.len.result in
-    let h = halves_of all first second n (c.len-half.result / 2) (let a = c.len.ensures in let b = c.args.relations.ok.0 in omega (arith, a, b)) (let d = c.if-len-lt2.false in omega (arith, d)) (let a = c.len-half.ensures in let b = c.len.ensures in let e : c.len-half.result ≡ n = omega (arith, a, b) in ap (λ (k : ℕ). k / 2) e) c.in_ok-second.ensures.items c.in_ok-second.ensures.tail in
+    let h = halves_of all first second n (c.len-half.result / 2)
+    (let a = c.len.ensures in let b = c.args.relations.ok.0 in omega (arith, a, b))
+    (let d = c.if-len-lt2.false in omega (arith, d)) (let a = c.len-half.ensures in let b = c.len.ensures in
+    let e : c.len-half.result ≡ n = omega (arith, a, b) in ap (λ (k : ℕ). k / 2) e) c.in_ok-second.ensures.items
+    c.in_ok-second.ensures.tail in
     let known : All (IsRelation o start) (first ++ second) = subst (λ (rs : List Relation). All (IsRelation o start) rs) (sym h.whole) c.requires in
     let one = front_holds (IsRelation o start) first second known in
     let two = behind_holds (IsRelation o start) first second known in
@@ -65,7 +77,11 @@ combine-requires-clause-right t c =
     let second = c.in_ok-second.second.items in
     let all = c.args.relations.items in
     let n = c.len.result in
-    let h = halves_of all first second n (c.len-half.result / 2) (let a = c.len.ensures in let b = c.args.relations.ok.0 in omega (arith, a, b)) (let d = c.if-len-lt2.false in omega (arith, d)) (let a = c.len-half.ensures in let b = c.len.ensures in let e : c.len-half.result ≡ n = omega (arith, a, b) in ap (λ (k : ℕ). k / 2) e) c.in_ok-second.ensures.items c.in_ok-second.ensures.tail in
+    let h = halves_of all first second n (c.len-half.result / 2)
+    (let a = c.len.ensures in let b = c.args.relations.ok.0 in omega (arith, a, b))
+    (let d = c.if-len-lt2.false in omega (arith, d)) (let a = c.len-half.ensures in let b = c.len.ensures in
+    let e : c.len-half.result ≡ n = omega (arith, a, b) in ap (λ (k : ℕ). k / 2) e) c.in_ok-second.ensures.items
+    c.in_ok-second.ensures.tail in
     let known : All (IsRelation o start) (first ++ second) = subst (λ (rs : List Relation). All (IsRelation o start) rs) (sym h.whole) c.requires in
     let one = front_holds (IsRelation o start) first second known in
     let two = behind_holds (IsRelation o start) first second known in
@@ -88,7 +104,11 @@ returns-clause-merges t c =
     let second = c.in_ok-second.second.items in
     let all = c.args.relations.items in
     let n = c.len.result in
-    let h = halves_of all first second n (c.len-half.result / 2) (let a = c.len.ensures in let b = c.args.relations.ok.0 in omega (arith, a, b)) (let d = c.if-len-lt2.false in omega (arith, d)) (let a = c.len-half.ensures in let b = c.len.ensures in let e : c.len-half.result ≡ n = omega (arith, a, b) in ap (λ (k : ℕ). k / 2) e) c.in_ok-second.ensures.items c.in_ok-second.ensures.tail in
+    let h = halves_of all first second n (c.len-half.result / 2)
+    (let a = c.len.ensures in let b = c.args.relations.ok.0 in omega (arith, a, b))
+    (let d = c.if-len-lt2.false in omega (arith, d)) (let a = c.len-half.ensures in let b = c.len.ensures in
+    let e : c.len-half.result ≡ n = omega (arith, a, b) in ap (λ (k : ℕ). k / 2) e) c.in_ok-second.ensures.items
+    c.in_ok-second.ensures.tail in
     let known : All (IsRelation o start) (first ++ second) = subst (λ (rs : List Relation). All (IsRelation o start) rs) (sym h.whole) c.requires in
     let one = front_holds (IsRelation o start) first second known in
     let two = behind_holds (IsRelation o start) first second known in
@@ -106,7 +126,8 @@ returns-clause-merges t c =
     ok_by c.combine.result _ _ c.combine.ensures.combined (λ results both.
     subst (λ (rs : List Relation). Merges o bound start rs new results.items) h.whole
     (merges_combined o bound start first second old new left right results.items r.reduced c.combine.ensures.reduced c.combine.ensures.kept
-    (merges_kept o bound start first mid old left l.reduced r.reduced r.kept l.merges) (merges_since o bound start mid second old right l.kept two r.merges) both))
+    (merges_kept o bound start first mid old left l.reduced r.reduced r.kept l.merges)
+    (merges_since o bound start mid second old right l.kept two r.merges) both))
 
 pub returns-clause-halved : goal.returns-clause-halved
 returns-clause-halved t c =
@@ -116,7 +137,11 @@ returns-clause-halved t c =
     let second = c.in_ok-second.second.items in
     let all = c.args.relations.items in
     let n = c.len.result in
-    let h = halves_of all first second n (c.len-half.result / 2) (let a = c.len.ensures in let b = c.args.relations.ok.0 in omega (arith, a, b)) (let d = c.if-len-lt2.false in omega (arith, d)) (let a = c.len-half.ensures in let b = c.len.ensures in let e : c.len-half.result ≡ n = omega (arith, a, b) in ap (λ (k : ℕ). k / 2) e) c.in_ok-second.ensures.items c.in_ok-second.ensures.tail in
+    let h = halves_of all first second n (c.len-half.result / 2)
+    (let a = c.len.ensures in let b = c.args.relations.ok.0 in omega (arith, a, b))
+    (let d = c.if-len-lt2.false in omega (arith, d)) (let a = c.len-half.ensures in let b = c.len.ensures in
+    let e : c.len-half.result ≡ n = omega (arith, a, b) in ap (λ (k : ℕ). k / 2) e) c.in_ok-second.ensures.items
+    c.in_ok-second.ensures.tail in
     let known : All (IsRelation o start) (first ++ second) = subst (λ (rs : List Relation). All (IsRelation o start) rs) (sym h.whole) c.requires in
     let one = front_holds (IsRelation o start) first second known in
     let two = behind_holds (IsRelation o start) first second known in

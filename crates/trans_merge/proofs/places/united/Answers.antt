@@ -12,6 +12,10 @@ loop-place-preserved c =
     let before = c.loop-place.invariant in
     let test = either_of a b c.loop-place.place c.is_among.result c.is_among-in-loop-place.result c.is_among.ensures c.is_among-in-loop-place.ensures in
     elim c.if-touched.branch [
-      | then-touched+in_ok-push w ↦ ap (λ (v : _). v.items) w.places-is ∙ w.in_ok-push.ensures.items ∙ kept_next (λ p. is_in a p || is_in b p) c.loop-place.place c.loop-place.places.items before (sym test ∙ w.if-touched.true)
-      | else-touched w ↦ ap (λ (v : _). v.items) w.places-is ∙ left_next (λ p. is_in a p || is_in b p) c.loop-place.place c.loop-place.places.items before (sym test ∙ w.if-touched.false)
+      | then-touched+in_ok-push w ↦ ap (λ (v : _). v.items) w.places-is ∙ w.in_ok-push.ensures.items
+          ∙ kept_next (λ p. is_in a p || is_in b p) c.loop-place.place c.loop-place.places.items before
+          (sym test ∙ w.if-touched.true)
+      | else-touched w ↦ ap (λ (v : _). v.items) w.places-is
+          ∙ left_next (λ p. is_in a p || is_in b p) c.loop-place.place c.loop-place.places.items before
+          (sym test ∙ w.if-touched.false)
     ]

@@ -4,7 +4,12 @@ use Rattle.trans_merge.proofs.Visiting.{IsCounted, in_keys, counted_none, counte
 use Rattle.trans_merge.proofs.size.is_within.Goals as goal
 
 pub nodes-init : goal.nodes-init
-nodes-init c = ([], counted_none c.args.table.now c.args.root (in_keys c.new-waiting.result.keys) (in_keys c.put.new.waiting.keys) c.requires (λ q. ap (λ (ks : List ℕ). in_keys ks q) c.new-waiting.ensures.empty) c.in_ok-put.ensures)
+nodes-init c = (
+  [],
+  counted_none c.args.table.now c.args.root (in_keys c.new-waiting.result.keys)
+      (in_keys c.put.new.waiting.keys) c.requires (λ q. ap (λ (ks : List ℕ). in_keys ks q)
+      c.new-waiting.ensures.empty) c.in_ok-put.ensures,
+)
 
 pub nodes-preserved : goal.nodes-preserved
 nodes-preserved c =
@@ -14,7 +19,8 @@ nodes-preserved c =
     let most = in_keys c.put-in-nodes-2.new.waiting.keys in
     let k = c.in-Some.id in (
       k ∷ c.nodes.invariant.0,
-      counted_next c.args.table.now c.args.root c.held.ensures.reduced has rest more most c.nodes.counter k c.nodes.invariant.0 c.nodes.invariant.1 c.in-Some.ensures.member
+      counted_next c.args.table.now c.args.root c.held.ensures.reduced has rest more most c.nodes.counter k
+          c.nodes.invariant.0 c.nodes.invariant.1 c.in-Some.ensures.member
           (λ q h. ge_from_not_lt k q (c.in-Some.ensures.greatest q h))
           (λ q. pop_law k q (has q) (rest q) (c.in-Some.ensures.updates.0 q))
           (λ q. subst (λ (x : ℕ). (more q ≡ true) ↔ (((q ≡ x) × (2 ≤ x)) ⊎ (rest q ≡ true))) c.lo.ensures.value (c.in_ok-put-2.ensures q))
@@ -23,7 +29,8 @@ nodes-preserved c =
 
 pub returns-in_default : goal.returns-in_default
 returns-in_default c = (
-  (λ _. before_the_bound c.args.table.now c.args.root c.nodes.counter c.args.bound c.nodes.invariant.0 c.nodes.waiting.keys c.held.ensures.reduced c.nodes.invariant.1
+  (λ _. before_the_bound c.args.table.now c.args.root c.nodes.counter c.args.bound c.nodes.invariant.0
+      c.nodes.waiting.keys c.held.ensures.reduced c.nodes.invariant.1
       (none_left c.pop_last.result _ c.in_default.not-Some c.pop_last.ensures.variant) (let t = c.nodes-test.true in omega (arith, t))),
   (λ _. refl),
 )

@@ -7,16 +7,21 @@ use Rattle.trans_merge.proofs.Staying.{all_stay}
 use Rattle.trans_merge.proofs.widening.stays.Goals as goal
 
 pub loop-place-init : goal.loop-place-init
-loop-place-init c = conj_none (stays_at c.args.own.now c.args.wide.now) c.args.ops.now (bits c.args.order.now) c.bits-bits.result c.table.ensures.reduced c.bits-bits.ensures.value
+loop-place-init c = conj_none (stays_at c.args.own.now c.args.wide.now) c.args.ops.now (bits c.args.order.now)
+    c.bits-bits.result c.table.ensures.reduced c.bits-bits.ensures.value
 
 pub loop-place-preserved : goal.loop-place-preserved
 loop-place-preserved c =
     let o = c.args.order.now in
     let i = c.loop-place.place - 1 in
-    conj_more (stays_at c.args.own.now c.args.wide.now) c.args.ops.now c.loop-place.ops c.stay_at.new.ops c.conj.new.self c.loop-place.all c.in_ok-stay.stay c.in_ok-all.all c.loop-place.place i (bits o)
-    c.loop-place.invariant (let t = c.loop-place-test.true in omega (arith, t)) (let t = c.loop-place-test.true in let a = c.loop-place.auto.place in let e = c.bits-bits.ensures.value in omega (arith, t, a, e))
+    conj_more (stays_at c.args.own.now c.args.wide.now) c.args.ops.now c.loop-place.ops c.stay_at.new.ops
+    c.conj.new.self c.loop-place.all c.in_ok-stay.stay c.in_ok-all.all c.loop-place.place i (bits o)
+    c.loop-place.invariant (let t = c.loop-place-test.true in omega (arith, t))
+    (let t = c.loop-place-test.true in let a = c.loop-place.auto.place in
+    let e = c.bits-bits.ensures.value in omega (arith, t, a, e))
     c.in_ok-stay.ensures.kept c.in_ok-stay.ensures.known c.in_ok-stay.ensures.meaning
     c.in_ok-all.ensures.kept c.in_ok-all.ensures.reduced c.in_ok-all.ensures.known c.in_ok-all.ensures.meaning
 
 pub returns-clause-meaning : goal.returns-clause-meaning
-returns-clause-meaning c = λ b. through (c.loop-place.invariant.meaning b) (all_stay c.args.order.now c.args.own.now c.args.wide.now b c.loop-place.place c.loop-place-test.false)
+returns-clause-meaning c = λ b. through (c.loop-place.invariant.meaning b)
+    (all_stay c.args.order.now c.args.own.now c.args.wide.now b c.loop-place.place c.loop-place-test.false)

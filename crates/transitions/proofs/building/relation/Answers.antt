@@ -27,8 +27,12 @@ returns-clause-touched c =
     let task = c.args.task.now in
     let order = c.args.order.now in
     let operator = c.index-as_slice-op.result in
-    let here = (operator_at task c.as_slice.result.now c.args.op operator c.parts.ensures.fits (c.as_slice.ensures ∙ ap (λ (t : TaskParts). t.operators) c.parts.ensures.value) c.requires.op c.index-as_slice-op.is).0 in
-    ap (λ (v : _). v.items) c.in_ok-of.ensures.touched ∙ c.in_ok-touched.ensures ∙ ap (touched_places order) (c.as_slice-2.ensures ∙ sym (ap (λ (x : Option Operator). option_map_or (λ (o : Operator). o.effects) x []) here))
+    let here = (operator_at task c.as_slice.result.now c.args.op operator c.parts.ensures.fits
+    (c.as_slice.ensures ∙ ap (λ (t : TaskParts). t.operators) c.parts.ensures.value) c.requires.op
+    c.index-as_slice-op.is).0 in
+    ap (λ (v : _). v.items) c.in_ok-of.ensures.touched ∙ c.in_ok-touched.ensures
+    ∙ ap (touched_places order) (c.as_slice-2.ensures ∙ sym
+    (ap (λ (x : Option Operator). option_map_or (λ (o : Operator). o.effects) x []) here))
 
 pub returns-clause-relates : goal.returns-clause-relates
 returns-clause-relates c =
@@ -36,8 +40,13 @@ returns-clause-relates c =
     let order = c.args.order.now in
     let operator = c.index-as_slice-op.result in
     let fits = c.parts.ensures.fits in
-    let here = (operator_at task c.as_slice.result.now c.args.op operator fits (c.as_slice.ensures ∙ ap (λ (t : TaskParts). t.operators) c.parts.ensures.value) c.requires.op c.index-as_slice-op.is).0 in
+    let here = (operator_at task c.as_slice.result.now c.args.op operator fits
+    (c.as_slice.ensures ∙ ap (λ (t : TaskParts). t.operators) c.parts.ensures.value) c.requires.op
+    c.index-as_slice-op.is).0 in
     let places = ap (λ (v : _). v.items) c.in_ok-of.ensures.touched ∙ c.in_ok-touched.ensures ∙ ap (touched_places order) c.as_slice-2.ensures in
-    let law = relation_law task order c.requires.order fits c.args.op operator here (leads task c.args.op operator fits here) (means c.steps_of.new.ops c.in_ok-root.root) c.in_ok-root.ensures.meaning in
+    let law = relation_law task order c.requires.order fits c.args.op operator here
+    (leads task c.args.op operator fits here) (means c.steps_of.new.ops c.in_ok-root.root)
+    c.in_ok-root.ensures.meaning in
     subst (λ (xs : List ℕ). Relates order xs (λ s t. Step task s c.args.op t) (means c.steps_of.new.ops c.in_ok-of.field-0.root)) (sym places)
-    (subst (λ (id : ℕ). Relates order (touched_places order operator.effects) (λ s t. Step task s c.args.op t) (means c.steps_of.new.ops id)) (sym c.in_ok-of.ensures.root) law)
+    (subst (λ (id : ℕ). Relates order (touched_places order operator.effects) (λ s t. Step task s c.args.op t)
+    (means c.steps_of.new.ops id)) (sym c.in_ok-of.ensures.root) law)

@@ -18,7 +18,9 @@ returns-clause-meaning c = ok_by c.conj-2.result _ _ c.conj-2.ensures.meaning (�
     let next = means c.next_values.new.ops c.in_ok-next.next in
     steps_law task order c.requires.order operator valid applies next (means c.conj-2.new.self id)
     c.in_ok-valid.ensures.meaning c.in_ok-applies.ensures.meaning
-    (subst (λ (effects : List Effect). EachState task order (λ s b. (next b ≡ true) ↔ All (λ (e : Effect). Arrives task order effects e.var s b) effects)) c.as_slice.ensures c.in_ok-next.ensures.meaning)
+    (subst (λ (effects : List Effect). EachState task order (λ s b. (next b ≡ true) ↔ All
+    (λ (e : Effect). Arrives task order effects e.var s b) effects)) c.as_slice.ensures
+    c.in_ok-next.ensures.meaning)
     (λ b. m b ∙ ap (λ (t : Bool). t && next b)
     (c.in_ok-next.ensures.kept.meaning c.in_ok-from.from b c.in_ok-from.ensures.known
     ∙ c.in_ok-from.ensures.meaning b

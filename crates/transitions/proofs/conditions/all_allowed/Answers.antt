@@ -17,6 +17,8 @@ loop-effect-preserved c =
       reduced = it.reduced;
       roots = roots_kept task order c.loop-effect.ops c.allowed.new.ops c.args.derived.now it.kept inv.roots;
       known = it.known;
-      left = λ s b state code. more_allowed (means c.args.ops.now c.args.set b ≡ true) (Allows task s) c.args.effects.now c.loop-effect.effect-index c.effect-item.result
-          (means c.loop-effect.ops c.loop-effect.left b) (means c.allowed.new.ops c.in_ok-left.left b) c.loop-effect-test.true c.effect-item.is (inv.left s b state code) (it.meaning s b state code);
+      left = λ s b state code. more_allowed (means c.args.ops.now c.args.set b ≡ true) (Allows task s)
+          c.args.effects.now c.loop-effect.effect-index c.effect-item.result
+          (means c.loop-effect.ops c.loop-effect.left b) (means c.allowed.new.ops c.in_ok-left.left b)
+          c.loop-effect-test.true c.effect-item.is (inv.left s b state code) (it.meaning s b state code);
     }

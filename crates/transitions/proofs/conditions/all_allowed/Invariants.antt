@@ -11,5 +11,7 @@ invariant-loop-effect l = record {
   reduced : IsReduced l.ops;
   roots : AreRoots l.task l.order l.ops l.derived;
   known : l.left < length l.ops;
-  left : EachState l.task l.order (λ s b. (means l.ops l.left b ≡ true) ↔ ((means l.fn.ops l.set b ≡ true) × ((k : ℕ) (d : Effect) → k < l.effect-index → Allows l.task s (get_or l.effects k d))));
+  left : EachState l.task l.order (λ s b. (means l.ops l.left b ≡ true)
+      ↔ ((means l.fn.ops l.set b ≡ true) × ((k : ℕ) (d : Effect) → k < l.effect-index → Allows l.task s
+      (get_or l.effects k d))));
 }

@@ -21,7 +21,8 @@ loop-effect-init c =
       reduced = it.reduced;
       roots = roots_kept task order c.args.ops.now c.stays.new.ops c.args.derived.now it.kept c.requires.roots;
       known = it.known;
-      next = λ s b state code. next_start task order c.args.var s b (means c.stays.new.ops c.in_ok-asked.asked b) (code_value task order 0 s b c.args.var c.requires.order code c.requires.var)
+      next = λ s b state code. next_start task order c.args.var s b (means c.stays.new.ops c.in_ok-asked.asked b)
+          (code_value task order 0 s b c.args.var c.requires.order code c.requires.var)
           (it.meaning b ∙ ap (λ (x : Block). number b 1 x.first x.width == number b 0 x.first x.width) c.block_of-block.ensures.is);
     }
 
@@ -37,7 +38,8 @@ loop-effect-preserved c =
       roots = roots_kept task order c.loop-effect.ops c.with_effect.new.ops c.args.derived.now it.kept inv.roots;
       known = it.known;
       next = λ s b state code. next_more task order c.args.effects.now c.loop-effect.effect-index c.effect-item.result c.args.var s b
-          (means c.loop-effect.ops c.loop-effect.asked b) (means c.with_effect.new.ops c.in_ok-asked-2.asked b) c.loop-effect-test.true c.effect-item.is (inv.next s b state code) (it.turn s b state code);
+          (means c.loop-effect.ops c.loop-effect.asked b) (means c.with_effect.new.ops c.in_ok-asked-2.asked b)
+          c.loop-effect-test.true c.effect-item.is (inv.next s b state code) (it.turn s b state code);
     }
 
 pub returns-clause-meaning : goal.returns-clause-meaning

@@ -42,13 +42,17 @@ loop-effect-preserved c =
           let meaning = it.meaning s b state code in
           conj_more (λ (e : Effect). Arrives task order effects e.var s b) effects c.loop-effect.effect-index c.effect-item.result
           (means c.loop-effect.ops c.loop-effect.all b) (means c.next_value.new.ops c.loop-effect.all b) value (means c.conj.new.self c.in_ok-all.all b)
-          c.loop-effect-test.true c.effect-item.is (inv.next s b state code)
-          ((λ h. arrives task order effects c.effect-item.result.var s b value meaning h), (λ h. arrived task order effects c.effect-item.result.var s b value meaning h))
+          c.loop-effect-test.true c.effect-item.is (inv.next s b state code) (
+            (λ h. arrives task order effects c.effect-item.result.var s b value meaning h),
+            (λ h. arrived task order effects c.effect-item.result.var s b value meaning h),
+          )
           (c.in_ok-all.ensures.meaning b) (it.kept.meaning c.loop-effect.all b inv.known);
     }
 
 pub returns-clause-meaning : goal.returns-clause-meaning
 returns-clause-meaning c = λ s b state code.
     let P = λ (e : Effect). Arrives c.args.task.now c.args.order.now c.args.effects.now e.var s b in
-    let at = c.loop-effect.invariant.next s b state code in
-    ((λ h. first_all P c.args.effects.now c.loop-effect.effect-index c.loop-effect-test.false (at.0 h)), (λ all. at.1 (λ k d lt. all k d (let far = c.loop-effect.auto.effect-index-end in omega (arith, far, lt)))))
+    let at = c.loop-effect.invariant.next s b state code in (
+      (λ h. first_all P c.args.effects.now c.loop-effect.effect-index c.loop-effect-test.false (at.0 h)),
+      (λ all. at.1 (λ k d lt. all k d (let far = c.loop-effect.auto.effect-index-end in omega (arith, far, lt)))),
+    )

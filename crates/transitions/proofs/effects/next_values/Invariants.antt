@@ -11,5 +11,7 @@ invariant-loop-effect l = record {
   reduced : IsReduced l.ops;
   roots : AreRoots l.task l.order l.ops l.derived;
   known : l.all < length l.ops;
-  next : EachState l.task l.order (λ s b. (means l.ops l.all b ≡ true) ↔ ((k : ℕ) (d : Effect) → k < l.effect-index → Arrives l.task l.order l.effects (get_or l.effects k d).var s b));
+  next : EachState l.task l.order (λ s b. (means l.ops l.all b ≡ true)
+      ↔ ((k : ℕ) (d : Effect) → k < l.effect-index → Arrives l.task l.order l.effects (get_or l.effects k d).var s
+      b));
 }

@@ -14,10 +14,15 @@ returns-clause-turn c = ok_by c.choice.result _ _ c.choice.ensures.meaning (λ i
     let order = c.args.order.now in
     let effect = c.args.effect.now in
     let fires = c.in_ok-fires.fires in
-    let at = subst (λ (facts : List Fact). IsTrueWhere task order c.facts_set.new.ops (λ s. All (Holds task s) facts) fires) c.as_slice.ensures c.in_ok-fires.ensures.meaning s b state code in
+    let at = subst (λ (facts : List Fact). IsTrueWhere task order c.facts_set.new.ops (λ s. All (Holds task s) facts)
+    fires) c.as_slice.ensures c.in_ok-fires.ensures.meaning s b state code in
     let moved = c.in_ok-post.ensures.kept.meaning fires b c.in_ok-fires.ensures.known in
-    let asked = c.in_ok-post.ensures.kept.meaning c.args.asked b (let k = c.in_ok-fires.ensures.kept.known in let l = c.requires.asked in omega (arith, k, l)) ∙ c.in_ok-fires.ensures.kept.meaning c.args.asked b c.requires.asked in
-    effect_chosen task order effect c.args.var s b (means c.next_fact_set.new.ops fires b) (means c.next_fact_set.new.ops c.in_ok-post.post b) (means c.args.ops.now c.args.asked b) (means c.choice.new.ops id b)
+    let asked = c.in_ok-post.ensures.kept.meaning c.args.asked b
+    (let k = c.in_ok-fires.ensures.kept.known in let l = c.requires.asked in omega (arith, k, l))
+    ∙ c.in_ok-fires.ensures.kept.meaning c.args.asked b c.requires.asked in
+    effect_chosen task order effect c.args.var s b (means c.next_fact_set.new.ops fires b)
+    (means c.next_fact_set.new.ops c.in_ok-post.post b) (means c.args.ops.now c.args.asked b)
+    (means c.choice.new.ops id b)
     c.if-effect-var.false
     ((λ h. at.0 (sym moved ∙ h)), (λ f. moved ∙ at.1 f))
     (c.in_ok-post.ensures.meaning b)

@@ -14,4 +14,6 @@ returns-clause-meaning c =
     let roots = c.args.self.now in
     let are = roots_kept task o c.args.ops.now ys roots c.value_set.ensures.kept c.requires.roots in
     ok_by c.value_set.result _ _ c.value_set.ensures.meaning (λ id m. fact_holds task o ys roots c.args.fact id c.parts.ensures.fits are c.requires.fact
-    (subst (λ (z : List ℕ). Says task o ys z (λ values. HasValue values c.args.fact) id) c.roots.ensures (subst (λ (z : TaskParts). Says z o ys c.roots.result.now (λ values. HasValue values c.args.fact) id) c.parts.ensures.value m)))
+    (subst (λ (z : List ℕ). Says task o ys z (λ values. HasValue values c.args.fact) id) c.roots.ensures
+    (subst (λ (z : TaskParts). Says z o ys c.roots.result.now (λ values. HasValue values c.args.fact) id)
+    c.parts.ensures.value m)))

@@ -16,4 +16,6 @@ returns-clause-meaning c =
     let facts = c.args.facts.now in
     let are = roots_kept task o c.args.ops.now ys roots c.values_set.ensures.kept c.requires.roots in
     ok_by c.values_set.result _ _ c.values_set.ensures.meaning (λ id m. facts_hold task o ys roots facts id c.parts.ensures.fits are c.requires.facts
-    (subst (λ (z : List ℕ). Says task o ys z (λ values. All (HasValue values) facts) id) c.roots.ensures (subst (λ (z : TaskParts). Says z o ys c.roots.result.now (λ values. All (HasValue values) facts) id) c.parts.ensures.value m)))
+    (subst (λ (z : List ℕ). Says task o ys z (λ values. All (HasValue values) facts) id) c.roots.ensures
+    (subst (λ (z : TaskParts). Says z o ys c.roots.result.now (λ values. All (HasValue values) facts) id)
+    c.parts.ensures.value m)))

@@ -12,7 +12,9 @@ pub invariant_of-self : goal.invariant_of-self
 invariant_of-self c = space_grown _ _ _ c.self.invariant c.conj.ensures.kept c.conj.ensures.reduced
 
 pub returns-clause-made : goal.returns-clause-made
-returns-clause-made c = common_by _ _ _ c.self.invariant c.self.view_is c.args.a c.id-f.result c.id-f.ensures.is c.conj.new.self c.conj.result c.conj.ensures.known c.args.b c.id-g.result c.id-g.ensures.is c.conj.ensures.meaning
+returns-clause-made c = common_by _ _ _ c.self.invariant c.self.view_is c.args.a c.id-f.result c.id-f.ensures.is
+    c.conj.new.self c.conj.result c.conj.ensures.known c.args.b c.id-g.result
+    c.id-g.ensures.is c.conj.ensures.meaning
 
 pub returns-clause-grows : goal.returns-clause-grows
 returns-clause-grows c = grows_by _ _ _ c.self.invariant c.self.view_is c.conj.new.self c.conj.ensures.kept

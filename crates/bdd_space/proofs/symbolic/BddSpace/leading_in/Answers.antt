@@ -16,4 +16,6 @@ pub leading_into-requires-clause-steps : goal.leading_into-requires-clause-steps
 leading_into-requires-clause-steps c = c.self.invariant.steps
 
 pub returns : goal.returns
-returns c = into_by _ _ _ c.self.invariant c.self.view_is c.args.a c.id-set.result c.id-set.ensures.is c.table-table.result.now c.table-table.ensures.same (λ ops. ops.items) c.leading_into.result c.leading_into.ensures
+returns c = into_by _ _ _ c.self.invariant c.self.view_is c.args.a c.id-set.result c.id-set.ensures.is
+    c.table-table.result.now c.table-table.ensures.same (λ ops. ops.items)
+    c.leading_into.result c.leading_into.ensures

@@ -16,4 +16,6 @@ pub leading_from-requires-clause-steps : goal.leading_from-requires-clause-steps
 leading_from-requires-clause-steps c = c.self.invariant.steps
 
 pub returns : goal.returns
-returns c = from_by _ _ _ c.self.invariant c.self.view_is c.args.a c.id-set.result c.id-set.ensures.is c.table-table.result.now c.table-table.ensures.same (λ ops. ops.items) c.leading_from.result c.leading_from.ensures
+returns c = from_by _ _ _ c.self.invariant c.self.view_is c.args.a c.id-set.result c.id-set.ensures.is
+    c.table-table.result.now c.table-table.ensures.same (λ ops. ops.items)
+    c.leading_from.result c.leading_from.ensures

@@ -3,7 +3,8 @@ use Rattle.bdd_space.proofs.Keeping.{own_grown, no_sets}
 use Rattle.bdd_space.proofs.symbolic.BddSpace.of.Goals as goal
 
 pub of-requires-3-clause-roots : goal.of-requires-3-clause-roots
-of-requires-3-clause-roots c = roots_kept c.args.task.now c.in_ok-order.order c.compile.new.ops c.own_sets.new.ops c.in_ok-derived.derived c.in_ok-own.ensures.kept c.in_ok-derived.ensures.roots
+of-requires-3-clause-roots c = roots_kept c.args.task.now c.in_ok-order.order c.compile.new.ops c.own_sets.new.ops
+    c.in_ok-derived.derived c.in_ok-own.ensures.kept c.in_ok-derived.ensures.roots
 
 pub invariant_of-result : goal.invariant_of-result
 invariant_of-result c = record {

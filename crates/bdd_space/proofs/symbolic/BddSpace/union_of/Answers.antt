@@ -12,7 +12,9 @@ pub invariant_of-self : goal.invariant_of-self
 invariant_of-self c = space_grown _ _ _ c.self.invariant c.disj.ensures.kept c.disj.ensures.reduced
 
 pub returns-clause-made : goal.returns-clause-made
-returns-clause-made c = united_by _ _ _ c.self.invariant c.self.view_is c.args.a c.id-f.result c.id-f.ensures.is c.disj.new.self c.disj.result c.disj.ensures.known c.args.b c.id-g.result c.id-g.ensures.is c.disj.ensures.meaning
+returns-clause-made c = united_by _ _ _ c.self.invariant c.self.view_is c.args.a c.id-f.result c.id-f.ensures.is
+    c.disj.new.self c.disj.result c.disj.ensures.known c.args.b c.id-g.result
+    c.id-g.ensures.is c.disj.ensures.meaning
 
 pub returns-clause-grows : goal.returns-clause-grows
 returns-clause-grows c = grows_by _ _ _ c.self.invariant c.self.view_is c.disj.new.self c.disj.ensures.kept

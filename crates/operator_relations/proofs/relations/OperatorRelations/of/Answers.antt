@@ -9,7 +9,8 @@ pub single_relations-requires : goal.single_relations-requires
 single_relations-requires c = c.requires
 
 pub joined_by_cost-requires : goal.joined_by_cost-requires
-joined_by_cost-requires c = subst (λ (rs : List Relation). AreSingle c.args.task.now c.args.order.now c.single_relations.new.ops rs) (sym c.deref.ensures.value) c.in_ok-single.ensures.single
+joined_by_cost-requires c = subst (λ (rs : List Relation). AreSingle c.args.task.now c.args.order.now
+    c.single_relations.new.ops rs) (sym c.deref.ensures.value) c.in_ok-single.ensures.single
 
 pub returns-clause-relations : goal.returns-clause-relations
 returns-clause-relations c =
@@ -32,5 +33,7 @@ returns-clause-halved c =
     let end = c.joined_by_cost.new.ops in
     let starts = c.in_ok-joined.starts.items in
     let joined = c.in_ok-joined.joined.items in
-    subst (λ (rs : List Relation). AreHalved task o c.args.bound end rs c.in_ok-costs.costs.items (length c.in_ok-costs.costs.items) starts joined) c.deref.ensures.value
-    (subst (λ (xs : List ℕ). AreHalved task o c.args.bound end c.deref.result.now xs (length xs) starts joined) c.deref-2.ensures.value c.in_ok-joined.ensures.halved)
+    subst (λ (rs : List Relation). AreHalved task o c.args.bound end rs c.in_ok-costs.costs.items
+    (length c.in_ok-costs.costs.items) starts joined) c.deref.ensures.value
+    (subst (λ (xs : List ℕ). AreHalved task o c.args.bound end c.deref.result.now xs (length xs) starts joined)
+    c.deref-2.ensures.value c.in_ok-joined.ensures.halved)

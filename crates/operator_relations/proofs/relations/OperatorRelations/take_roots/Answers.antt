@@ -18,8 +18,10 @@ taken : (c : goal.After-self-2-1) → AreTaken c.args.self.now (after c) c.args.
 taken c =
     let r = c.args.self.now in
     let places = c.args.roots.now in
-    let single : length c.put_roots.new.relations ≡ length r.single.items = c.put_roots.auto.relations ∙ ap (λ (xs : List Relation). length xs) c.deref_mut.ensures.value in
-    let joined : length c.put_roots-2.new.relations ≡ length r.joined.items = c.put_roots-2.auto.relations ∙ ap (λ (xs : List Relation). length xs) c.deref_mut-2.ensures.value in
+    let single : length c.put_roots.new.relations ≡ length r.single.items = c.put_roots.auto.relations
+    ∙ ap (λ (xs : List Relation). length xs) c.deref_mut.ensures.value in
+    let joined : length c.put_roots-2.new.relations ≡ length r.joined.items = c.put_roots-2.auto.relations
+    ∙ ap (λ (xs : List Relation). length xs) c.deref_mut-2.ensures.value in
     let k = r.single.ok.0 in
     let m = r.joined.ok.0 in
     let first = with_items_is r.single c.put_roots.new.relations (omega (arith, single, k)) in
@@ -28,12 +30,16 @@ taken c =
       same = (let l = c.len.ensures in omega (arith, l, k));
       single_count = ap (λ (xs : List Relation). length xs) first ∙ single;
       joined_count = ap (λ (xs : List Relation). length xs) second ∙ joined;
-      single = given_at r.single.items (after c).single.items c.deref_mut.result.now c.put_roots.new.relations (λ i. get_or places (c.args.from + i) 0) c.deref_mut.ensures.value first c.put_roots.ensures;
-      joined = given_at r.joined.items (after c).joined.items c.deref_mut-2.result.now c.put_roots-2.new.relations (λ i. get_or places (c.args.from + c.len.result + i) 0) c.deref_mut-2.ensures.value second c.put_roots-2.ensures;
+      single = given_at r.single.items (after c).single.items c.deref_mut.result.now c.put_roots.new.relations
+          (λ i. get_or places (c.args.from + i) 0) c.deref_mut.ensures.value first c.put_roots.ensures;
+      joined = given_at r.joined.items (after c).joined.items c.deref_mut-2.result.now c.put_roots-2.new.relations
+          (λ i. get_or places (c.args.from + c.len.result + i) 0) c.deref_mut-2.ensures.value
+          second c.put_roots-2.ensures;
     }
 
 pub returns-clause-taken : goal.returns-clause-taken
 returns-clause-taken c = taken_roots c.args.self.now (after c) c.args.roots.now c.args.from (c.args.from + c.len.result) (taken c) c.requires
 
 pub returns-clause-moved : goal.returns-clause-moved
-returns-clause-moved c = λ task o old new is moved. taken_moved task o old new c.args.self.now (after c) c.args.roots.now c.args.from (c.args.from + c.len.result) (taken c) is moved
+returns-clause-moved c = λ task o old new is moved. taken_moved task o old new c.args.self.now (after c)
+    c.args.roots.now c.args.from (c.args.from + c.len.result) (taken c) is moved

@@ -13,6 +13,10 @@ returns c =
     let same = c.as_slice-operators.ensures ∙ ap (λ (t : TaskParts). t.operators) c.parts.ensures.value in
     record {
       places = c.in_ok-places.ensures;
-      before = subst (λ (xs : List Operator). AreWatched o starts IsAsked xs c.in_ok-before.before.items) same (watched_of o starts IsAsked operators c.in_ok-asked.asked.items c.in_ok-before.before.items c.in_ok-asked.ensures (rw (c.deref.ensures.value, c.deref-2.ensures.value) at c.in_ok-before.ensures));
-      after = subst (λ (xs : List Operator). AreWatched o starts IsLeft xs c.in_ok-after.after.items) same (watched_of o starts IsLeft operators c.in_ok-left.left.items c.in_ok-after.after.items c.in_ok-left.ensures (rw (c.deref-3.ensures.value, c.deref-4.ensures.value) at c.in_ok-after.ensures));
+      before = subst (λ (xs : List Operator). AreWatched o starts IsAsked xs c.in_ok-before.before.items) same
+          (watched_of o starts IsAsked operators c.in_ok-asked.asked.items c.in_ok-before.before.items
+          c.in_ok-asked.ensures (rw (c.deref.ensures.value, c.deref-2.ensures.value) at c.in_ok-before.ensures));
+      after = subst (λ (xs : List Operator). AreWatched o starts IsLeft xs c.in_ok-after.after.items) same
+          (watched_of o starts IsLeft operators c.in_ok-left.left.items c.in_ok-after.after.items
+          c.in_ok-left.ensures (rw (c.deref-3.ensures.value, c.deref-4.ensures.value) at c.in_ok-after.ensures));
     }

@@ -8,12 +8,18 @@ pub returns-then-is_base : goal.returns-then-is_base
 returns-then-is_base c =
     let task = c.args.parts.now in
     let makers = c.args.self.now in
-    subst (AreMakers task c.args.fact) (sym (c.at.ensures ∙ ap (list_at makers.given) (c.number_of.ensures ∙ ap (λ (z : List ℕ). number_of z c.args.fact) c.deref.ensures.value)))
+    subst (AreMakers task c.args.fact)
+    (sym (c.at.ensures ∙ ap (list_at makers.given) (c.number_of.ensures ∙ ap
+    (λ (z : List ℕ). number_of z c.args.fact) c.deref.ensures.value)))
     (makers_given task (givers_of makers.firsts.items makers.given) c.args.fact c.requires.known.given (c.is_base.ensures.0 c.if-is_base.true))
 
 pub returns-else-is_base : goal.returns-else-is_base
 returns-else-is_base c =
     let task = c.args.parts.now in
     let makers = c.args.self.now in
-    subst (AreMakers task c.args.fact) (sym (c.list_of.ensures ∙ ap (λ (z : List (Vec ℕ Global)). list_in z c.args.fact.var) c.deref-else-is_base.ensures.value))
-    (makers_changers task (list_in makers.changers.items c.args.fact.var) c.args.fact (c.requires.known.changers c.args.fact.var c.requires.within) (λ base. false≢true (sym c.if-is_base.false ∙ c.is_base.ensures.1 base)))
+    subst (AreMakers task c.args.fact)
+    (sym (c.list_of.ensures ∙ ap (λ (z : List (Vec ℕ Global)). list_in z c.args.fact.var)
+    c.deref-else-is_base.ensures.value))
+    (makers_changers task (list_in makers.changers.items c.args.fact.var) c.args.fact
+    (c.requires.known.changers c.args.fact.var c.requires.within)
+    (λ base. false≢true (sym c.if-is_base.false ∙ c.is_base.ensures.1 base)))

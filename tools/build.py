@@ -166,7 +166,8 @@ class Build:
         for it, built in self.proved.items():
             share(it, built, copy)
         jobs = max(1, self.lanes // (len(self.running) + 1 + waiting))
-        words = ["rt", "run", "--jobs", str(jobs), "--", "demo", "1"] if crate == PROGRAM else ["rt", "lib", "--jobs", str(jobs)]
+        verb, *more = ["run", "--", "demo", "1"] if crate == PROGRAM else ["lib"]
+        words = [sys.executable, "-B", str(TOP / "tools/rt.py"), verb, "--jobs", str(jobs), *more]
         with open(self.log(crate), "wb") as log:
             how = {"stdin": subprocess.DEVNULL, "stdout": log, "stderr": subprocess.STDOUT, "start_new_session": True}
             self.running[subprocess.Popen(words, cwd=copy / "crates" / crate, **how)] = (copy, crate, time.monotonic())

@@ -1,8 +1,8 @@
 #!/usr/bin/env python3
 """own_checks.py: what no proof says of the tools and the pages. The last line is `N passed, N failed`; the status is 0 where none failed.
 
-Tests of python/symk.py (test_symk.py), of tools/to_list.py (test_to_list.py), of tools/table.py (test_table.py) and of tools/docstrings.py
-(test_docstrings.py); the names that the pages give (check_docs.py), and the docstrings of the sources (docstrings.py). Tests that run the
+Tests of python/symk.py (test_symk.py), of tools/to_list.py (test_to_list.py), of tools/table.py (test_table.py), of tools/docstrings.py
+(test_docstrings.py) and of tools/rt.py (test_rt.py); the names that the pages give (check_docs.py), and the docstrings of the sources (docstrings.py). Tests that run the
 planner take the program of SYMK_PROGRAM, else .symk/symk, else what a check of one's own left in crates/symk_cli/out, else what `./symk`
 compiles of the sources as they stand; where there is none they are skipped, which is said.
 """
@@ -30,13 +30,14 @@ sys.path[:0] = [str(TOP / "tools"), str(TOP / "python")]
 import check_docs  # noqa: E402
 import docstrings  # noqa: E402
 import test_docstrings  # noqa: E402
+import test_rt  # noqa: E402
 import test_symk  # noqa: E402
 import test_table  # noqa: E402
 import test_to_list  # noqa: E402
 
 
 def main():
-    tests = unittest.TestSuite(map(unittest.defaultTestLoader.loadTestsFromModule, (test_symk, test_to_list, test_table, test_docstrings)))
+    tests = unittest.TestSuite(map(unittest.defaultTestLoader.loadTestsFromModule, (test_symk, test_to_list, test_table, test_docstrings, test_rt)))
     ran = unittest.TextTestRunner(stream=sys.stdout).run(tests)
     bad = len(ran.failures) + len(ran.errors)
     if ran.skipped:

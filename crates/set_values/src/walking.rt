@@ -5,7 +5,7 @@ ghost use Rattle.bdd_table.specs.Diagram.{Bits, means};
 ghost use Rattle.set_values.specs.Marks.{value_of, Passes};
 ghost use Rattle.set_values.specs.Ends.{CanPass, HasId, AreKnown, AddsEnd, Adds};
 
-use crate::following::{follow, one_value};
+use crate::following::{OneValue, follow, one_value};
 use crate::marking::{mark, mark_all};
 use bdd_table::{FALSE, Id, Table};
 use symk_task::Memory;
@@ -95,22 +95,21 @@ fn add_forced(
     block: Block,
     start: usize,
     id: Id,
-    value: u32,
-    end: Id,
+    one: OneValue,
     marks: &mut Vec<bool>,
     ends: &mut Vec<Id>,
 ) -> Result<(), Memory>
-    requires end { end < length table.now }
+    requires end { one.end < length table.now }
     requires ends { AreKnown table.now ends.old.items }
     requires room { CanPass block start }
     requires forced { (b : Bits) → means table.now id b ≡ true
-        → (value_of block b ≡ value) × (means table.now end b ≡ true) }
+        → (value_of block b ≡ one.value) × (means table.now one.end b ≡ true) }
     ensures { OnOk result (Adds table.now block start id ends.old.items ends.new.items marks.old.items
         marks.new.items) }
 {
     let _ = table.held();
-    if value < block.values {
-        add_end(start + value as usize, end, marks, ends)
+    if one.value < block.values {
+        add_end(start + one.value as usize, one.end, marks, ends)
     } else {
         Ok(())
     }
@@ -132,7 +131,7 @@ fn add_inside(
         marks.new.items) }
 {
     match one_value(table, id, block) {
-        Some(one) => add_forced(table, block, start, id, one.value, one.end, marks, ends),
+        Some(one) => add_forced(table, block, start, id, one, marks, ends),
         None => add_ends(table, block, start, id, marks, ends),
     }
 }

@@ -14,10 +14,10 @@ ghost use Rattle.member_plans.specs.Moves.{Serves, is_taken};
 ghost use Rattle.member_plans.specs.Children.{AreChosen, AreEnough};
 
 use crate::front::Front;
-use crate::taking::{is_one_nearer, takes};
+use crate::taking::{Taken, is_one_nearer, takes};
 use cost_to_go::CostToGo;
-use prefix_ends::Ranks;
-use prefix_tree::{Entry, Move, Node, StateGraph, find_moves, node_at};
+use prefix_ends::{Heuristic, Ranks};
+use prefix_tree::{Entry, Move, Node, find_moves, node_at};
 use space_api::{Space, SpaceFault};
 use std::alloc::Global;
 
@@ -25,36 +25,34 @@ use std::alloc::Global;
 /// aren't, to the tree and tells them. Out of memory, it leaves what came so far.
 fn add_some<S: Space>(
     alloc: Global,
-    space: &S,
-    search: &CostToGo<S::Set>,
-    graph: &StateGraph,
+    heuristic: &Heuristic<S>,
     ranks: &mut Ranks,
     tree: &mut Vec<Node>,
     entry: Entry,
     moves: &[Move],
-    marks: &[bool],
-    marked: bool,
+    taken: Taken<'_>,
 ) -> Result<Vec<Entry>, SpaceFault>
-    requires search { IsCostToGo (S.view space.now) search.now }
-    requires graph { IsStateGraph (S.view space.now).system graph.now }
-    requires tree { IsTree (S.view space.now).system TopK (states_of graph.now) tree.old.items }
-    requires entry { IsEntry (S.view space.now) search.now tree.old.items entry }
-    requires moves { AreMoves (S.view space.now).system (states_of graph.now)
-        (end_at (states_of graph.now) tree.old.items entry.node) moves.now }
-    ensures grows { Grows (S.view space.now).system TopK (states_of graph.now) tree.old.items tree.new.items }
-    ensures children { IfOk result (λ kids. AreChosen (S.view space.now) search.now tree.new.items
-        (path_at tree.old.items entry.node) (is_taken marks.now marked) (S.view space.now).system.operators kids.items) }
+    requires search { IsCostToGo (S.view heuristic.now.space.now) heuristic.now.search.now }
+    requires graph { IsStateGraph (S.view heuristic.now.space.now).system heuristic.now.graph.now }
+    requires tree { IsTree (S.view heuristic.now.space.now).system TopK (states_of heuristic.now.graph.now)
+        tree.old.items }
+    requires entry { IsEntry (S.view heuristic.now.space.now) heuristic.now.search.now tree.old.items entry }
+    requires moves { AreMoves (S.view heuristic.now.space.now).system (states_of heuristic.now.graph.now)
+        (end_at (states_of heuristic.now.graph.now) tree.old.items entry.node) moves.now }
+    ensures grows { Grows (S.view heuristic.now.space.now).system TopK (states_of heuristic.now.graph.now)
+        tree.old.items tree.new.items }
+    ensures children { IfOk result (λ kids. AreChosen (S.view heuristic.now.space.now) heuristic.now.search.now
+        tree.new.items (path_at tree.old.items entry.node) (is_taken taken.entry.marks.now taken.entry.marked)
+        (S.view heuristic.now.space.now).system.operators kids.items) }
 {
     let mut children = Vec::new(alloc);
     'moves: for step in moves {
-        if !takes(marks, marked, step.op) {
+        if !takes(taken, step.op) {
             continue;
         }
         ranks.add_child(
             alloc,
-            space,
-            search,
-            graph,
+            heuristic,
             tree,
             entry,
             *step,
@@ -68,36 +66,41 @@ fn add_some<S: Space>(
 /// that circles that cost nothing don't put off what is nearer for ever.
 fn add_enough<S: Space>(
     alloc: Global,
-    space: &S,
-    search: &CostToGo<S::Set>,
-    graph: &StateGraph,
+    heuristic: &Heuristic<S>,
     ranks: &mut Ranks,
     tree: &mut Vec<Node>,
     entry: Entry,
     moves: &[Move],
     marks: &[bool],
 ) -> Result<Vec<Entry>, SpaceFault>
-    requires search { IsCostToGo (S.view space.now) search.now }
-    requires graph { IsStateGraph (S.view space.now).system graph.now }
-    requires tree { IsTree (S.view space.now).system TopK (states_of graph.now) tree.old.items }
-    requires entry { IsEntry (S.view space.now) search.now tree.old.items entry }
-    requires moves { AreMoves (S.view space.now).system (states_of graph.now)
-        (end_at (states_of graph.now) tree.old.items entry.node) moves.now }
-    requires marks { Stubborn (S.view space.now).system (is_in marks.now)
-        (end_at (states_of graph.now) tree.old.items entry.node) }
-    ensures grows { Grows (S.view space.now).system TopK (states_of graph.now) tree.old.items tree.new.items }
-    ensures children { IfOk result (λ kids. AreEnough (S.view space.now) search.now tree.new.items
-        (path_at tree.old.items entry.node) (end_at (states_of graph.now) tree.old.items entry.node) kids.items) }
+    requires search { IsCostToGo (S.view heuristic.now.space.now) heuristic.now.search.now }
+    requires graph { IsStateGraph (S.view heuristic.now.space.now).system heuristic.now.graph.now }
+    requires tree { IsTree (S.view heuristic.now.space.now).system TopK (states_of heuristic.now.graph.now)
+        tree.old.items }
+    requires entry { IsEntry (S.view heuristic.now.space.now) heuristic.now.search.now tree.old.items entry }
+    requires moves { AreMoves (S.view heuristic.now.space.now).system (states_of heuristic.now.graph.now)
+        (end_at (states_of heuristic.now.graph.now) tree.old.items entry.node) moves.now }
+    requires marks { Stubborn (S.view heuristic.now.space.now).system (is_in marks.now)
+        (end_at (states_of heuristic.now.graph.now) tree.old.items entry.node) }
+    ensures grows { Grows (S.view heuristic.now.space.now).system TopK (states_of heuristic.now.graph.now)
+        tree.old.items tree.new.items }
+    ensures children { IfOk result (λ kids. AreEnough (S.view heuristic.now.space.now) heuristic.now.search.now
+        tree.new.items (path_at tree.old.items entry.node)
+        (end_at (states_of heuristic.now.graph.now) tree.old.items entry.node) kids.items) }
 {
-    let mut children = add_some(
-        alloc, space, search, graph, ranks, tree, entry, moves, marks, true,
-    )?;
+    let marked = Taken {
+        marks,
+        marked: true,
+    };
+    let mut children = add_some(alloc, heuristic, ranks, tree, entry, moves, marked)?;
     if is_one_nearer(&children, entry) {
         return Ok(children);
     }
-    let others = add_some(
-        alloc, space, search, graph, ranks, tree, entry, moves, marks, false,
-    )?;
+    let unmarked = Taken {
+        marks,
+        marked: false,
+    };
+    let others = add_some(alloc, heuristic, ranks, tree, entry, moves, unmarked)?;
     children.extend_from_slice(&others)?;
     Ok(children)
 }
@@ -133,17 +136,22 @@ fn children_of<S: Space>(
     let marks = front.moves.marks_of(here.state);
     match front.graph.moves_of(here.state) {
         None => unreachable!(),
-        Some(moves) => add_enough(
-            alloc,
-            space,
-            search,
-            &front.graph,
-            &mut front.ranks,
-            &mut front.tree,
-            entry,
-            moves,
-            marks,
-        ),
+        Some(moves) => {
+            let heuristic = Heuristic {
+                space,
+                search,
+                graph: &front.graph,
+            };
+            add_enough(
+                alloc,
+                &heuristic,
+                &mut front.ranks,
+                &mut front.tree,
+                entry,
+                moves,
+                marks,
+            )
+        }
     }
 }
 

@@ -1,5 +1,12 @@
 //! Some of the moves from a state, and whether they lead on.
 
+/// Which moves are taken: where marked ones are, those whose operators are marked, else those whose operators aren't.
+#[derive(Clone, Copy)]
+pub(crate) struct Taken<'a> {
+    pub(crate) marks: &'a [bool],
+    pub(crate) marked: bool,
+}
+
 ghost use Rattle.std.specs.Prelude.{◌≡◌};
 ghost use Rattle.stubborn_sets.specs.Closing.{is_in};
 ghost use Rattle.member_plans.specs.Moves.{is_taken};
@@ -16,14 +23,14 @@ fn is_marked(marks: &[bool], op: u32) -> bool
     }
 }
 
-/// Whether the move by this operator is taken: where marked ones are, if it is marked, else if it isn't.
-pub(crate) fn takes(marks: &[bool], marked: bool, op: u32) -> bool
-    ensures { result ≡ is_taken marks.now marked op }
+/// Whether the move by this operator is taken.
+pub(crate) fn takes(taken: Taken<'_>, op: u32) -> bool
+    ensures { result ≡ is_taken taken.entry.marks.now taken.entry.marked op }
 {
-    if marked {
-        return is_marked(marks, op);
+    if taken.marked {
+        return is_marked(taken.marks, op);
     }
-    !is_marked(marks, op)
+    !is_marked(taken.marks, op)
 }
 
 /// Whether the child is nearer to a plan than the entry: it keeps the bound, and costs more so far or has a lower ring.

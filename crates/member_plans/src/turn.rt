@@ -15,6 +15,7 @@ use crate::expand::expand;
 use crate::front::Front;
 use cost_to_go::CostToGo;
 use lazy_plans::Steps;
+use prefix_ends::Heuristic;
 use prefix_tree::{Entry, operators_to};
 use space_api::{Space, SpaceFault};
 use std::alloc::{AllocError, Global};
@@ -44,11 +45,14 @@ pub(crate) fn learn<S: Space, L: Ledger>(
     ensures one { OnOk result (steps.new ≡ steps.old + 1) }
     ensures none { OnErr result (steps.new ≡ steps.old) }
 {
-    front.ranks.learn(
-        alloc,
+    let heuristic = Heuristic {
         space,
         search,
-        &front.graph,
+        graph: &front.graph,
+    };
+    front.ranks.learn(
+        alloc,
+        &heuristic,
         &front.tree,
         &mut front.queue,
         entry,

@@ -8,11 +8,10 @@ ghost use Rattle.prefix_tree.specs.StateGraph.{states_of, IsStateGraph, IsMove};
 ghost use Rattle.cost_to_go.specs.Standing.{IsCostToGo};
 ghost use Rattle.prefix_ends.specs.Children.{IsEntry, Added};
 
-use crate::left::Left;
+use crate::left::{Heuristic, Left};
 use crate::ranks::Ranks;
 use crate::reach::reach;
-use cost_to_go::CostToGo;
-use prefix_tree::{Entry, Move, Node, StateGraph, add};
+use prefix_tree::{Entry, Move, Node, add};
 use space_api::{Space, SpaceFault};
 use std::alloc::Global;
 use std::cmp::Reverse;
@@ -46,25 +45,25 @@ impl Ranks {
     pub fn add_child<S: Space>(
         &mut self,
         alloc: Global,
-        space: &S,
-        search: &CostToGo<S::Set>,
-        graph: &StateGraph,
+        heuristic: &Heuristic<S>,
         tree: &mut Vec<Node>,
         entry: Entry,
         step: Move,
         children: &mut Vec<Entry>,
     ) -> Result<(), SpaceFault>
-        requires search { IsCostToGo (S.view space.now) search.now }
-        requires graph { IsStateGraph (S.view space.now).system graph.now }
-        requires tree { IsTree (S.view space.now).system TopK (states_of graph.now) tree.old.items }
-        requires entry { IsEntry (S.view space.now) search.now tree.old.items entry }
-        requires step { IsMove (S.view space.now).system (states_of graph.now)
-            (end_at (states_of graph.now) tree.old.items entry.node) step }
-        ensures grows { Grows (S.view space.now).system TopK (states_of graph.now) tree.old.items tree.new.items }
-        ensures added { OnOk result (Added (S.view space.now) search.now tree.new.items
+        requires search { IsCostToGo (S.view heuristic.now.space.now) heuristic.now.search.now }
+        requires graph { IsStateGraph (S.view heuristic.now.space.now).system heuristic.now.graph.now }
+        requires tree { IsTree (S.view heuristic.now.space.now).system TopK (states_of heuristic.now.graph.now)
+            tree.old.items }
+        requires entry { IsEntry (S.view heuristic.now.space.now) heuristic.now.search.now tree.old.items entry }
+        requires step { IsMove (S.view heuristic.now.space.now).system (states_of heuristic.now.graph.now)
+            (end_at (states_of heuristic.now.graph.now) tree.old.items entry.node) step }
+        ensures grows { Grows (S.view heuristic.now.space.now).system TopK (states_of heuristic.now.graph.now)
+            tree.old.items tree.new.items }
+        ensures added { OnOk result (Added (S.view heuristic.now.space.now) heuristic.now.search.now tree.new.items
             (path_at tree.old.items entry.node) step.op children.old.items children.new.items) }
     {
-        match reach(alloc, space, search, graph, self, tree, entry, step)? {
+        match reach(alloc, heuristic, self, tree, entry, step)? {
             None => Ok(()),
             Some(to) => {
                 let node = add(tree, entry.node, step.op, step.to)?;

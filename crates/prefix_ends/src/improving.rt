@@ -9,32 +9,29 @@ ghost use Rattle.prefix_ends.specs.Children.{IsEntry};
 ghost use Rattle.prefix_ends.specs.Standing.{IsBetter};
 
 use crate::children::entry_of;
-use crate::left::{left_after, left_from};
+use crate::left::{Heuristic, left_after, left_from};
 use crate::ranks::Ranks;
-use cost_to_go::CostToGo;
-use prefix_tree::{Entry, Node, StateGraph, node_at};
+use prefix_tree::{Entry, Node, node_at};
 use space_api::Space;
 
 /// The entry with what the search knows now; None where no plan goes on from it.
 pub(crate) fn improve<S: Space>(
-    space: &S,
-    search: &CostToGo<S::Set>,
-    graph: &StateGraph,
+    heuristic: &Heuristic<S>,
     ranks: &mut Ranks,
     tree: &[Node],
     entry: Entry,
 ) -> Option<Entry>
-    requires search { IsCostToGo (S.view space.now) search.now }
-    requires graph { IsStateGraph (S.view space.now).system graph.now }
-    requires tree { IsTree (S.view space.now).system TopK (states_of graph.now) tree.now }
-    requires entry { IsEntry (S.view space.now) search.now tree.now entry }
-    ensures { IsBetter (S.view space.now) search.now tree.now entry result }
+    requires search { IsCostToGo (S.view heuristic.now.space.now) heuristic.now.search.now }
+    requires graph { IsStateGraph (S.view heuristic.now.space.now).system heuristic.now.graph.now }
+    requires tree { IsTree (S.view heuristic.now.space.now).system TopK (states_of heuristic.now.graph.now) tree.now }
+    requires entry { IsEntry (S.view heuristic.now.space.now) heuristic.now.search.now tree.now entry }
+    ensures { IsBetter (S.view heuristic.now.space.now) heuristic.now.search.now tree.now entry result }
 {
     let low = left_after(entry.bound.0, entry.cost);
     let here = node_at(tree, entry.node);
-    let state = graph.state(here.state);
+    let state = heuristic.graph.state(here.state);
     let (cost, first) = (entry.cost, entry.ring.0);
-    match left_from(space, search, ranks, state, here.state, cost, first, low) {
+    match left_from(heuristic, ranks, state, here.state, cost, first, low) {
         None => None,
         Some(left) => Some(entry_of(cost, left, entry.node, entry.at_goal)),
     }

@@ -9,8 +9,17 @@ ghost use Rattle.prefix_ends.specs.Left.{least_unranked, IsRanked, IsLeft};
 
 use crate::ranks::Ranks;
 use cost_to_go::CostToGo;
+use prefix_tree::StateGraph;
 use space_api::Space;
 use symk_task::State;
+
+/// What tells how much is left: a search from both ends over its space, and the states by number. All is lent.
+#[derive(Drop)]
+pub struct Heuristic<'a, S: Space> {
+    pub space: &'a S,
+    pub search: &'a CostToGo<S::Set>,
+    pub graph: &'a StateGraph,
+}
 
 /// What is left at least.
 #[derive(Clone, Copy, Debug, PartialEq, Eq)]
@@ -46,8 +55,7 @@ fn left_unranked<T: Copy>(search: &CostToGo<T>, cost: u128) -> Option<u128>
 /// The caller knows that no less than `low` is left, and that no rank below `first` has the state; so no other ranks
 /// are looked at.
 pub(crate) fn left_from<S: Space>(
-    space: &S,
-    search: &CostToGo<S::Set>,
+    heuristic: &Heuristic<S>,
     ranks: &mut Ranks,
     state: &State,
     number: usize,
@@ -55,12 +63,14 @@ pub(crate) fn left_from<S: Space>(
     first: usize,
     low: u64,
 ) -> Option<Left>
-    requires search { IsCostToGo (S.view space.now) search.now }
-    requires reached { ReachedAt (S.view space.now).system cost state.now }
-    requires first { (c i : ℕ) → i < first → ¬ IsRanked (S.view space.now) search.now c i state.now }
-    requires low { CostsAtLeast (S.view space.now).system state.now low }
-    ensures { IsLeft (S.view space.now) search.now cost state.now result }
+    requires search { IsCostToGo (S.view heuristic.now.space.now) heuristic.now.search.now }
+    requires reached { ReachedAt (S.view heuristic.now.space.now).system cost state.now }
+    requires first { (c i : ℕ) → i < first → ¬ IsRanked (S.view heuristic.now.space.now)
+        heuristic.now.search.now c i state.now }
+    requires low { CostsAtLeast (S.view heuristic.now.space.now).system state.now low }
+    ensures { IsLeft (S.view heuristic.now.space.now) heuristic.now.search.now cost state.now result }
 {
+    let (space, search) = (heuristic.space, heuristic.search);
     if let Some(rank) = ranks.rank_from(space, search, state, number, first, low) {
         return Some(Left {
             cost: rank.cost as u128,

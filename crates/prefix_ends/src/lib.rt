@@ -22,5 +22,6 @@ mod turns;
 
 pub use knowing::{go_on, is_outdated, top_of};
 pub use leading::goes_on;
+pub use left::Heuristic;
 pub use ranks::Ranks;
 pub use turns::plan_of;

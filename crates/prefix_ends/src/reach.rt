@@ -12,10 +12,9 @@ ghost use Rattle.cost_to_go.specs.Telling.{CostsAtLeast};
 ghost use Rattle.prefix_ends.specs.Children.{IsEntry};
 ghost use Rattle.prefix_ends.specs.Reach.{IsReach};
 
-use crate::left::{Left, left_after, left_from};
+use crate::left::{Heuristic, Left, left_after, left_from};
 use crate::ranks::Ranks;
-use cost_to_go::CostToGo;
-use prefix_tree::{Entry, Move, Node, StateGraph};
+use prefix_tree::{Entry, Move, Node};
 use single_states::goal_at;
 use space_api::{Space, SpaceFault};
 use std::alloc::Global;
@@ -50,29 +49,28 @@ fn goal_after<S: Space>(
 /// What is known of the state to which the move leads from the end of the entry's prefix; None where no plan goes on so.
 pub(crate) fn reach<S: Space>(
     alloc: Global,
-    space: &S,
-    search: &CostToGo<S::Set>,
-    graph: &StateGraph,
+    heuristic: &Heuristic<S>,
     ranks: &mut Ranks,
     tree: &[Node],
     entry: Entry,
     step: Move,
 ) -> Result<Option<Reached>, SpaceFault>
-    requires search { IsCostToGo (S.view space.now) search.now }
-    requires graph { IsStateGraph (S.view space.now).system graph.now }
-    requires tree { IsTree (S.view space.now).system TopK (states_of graph.now) tree.now }
-    requires entry { IsEntry (S.view space.now) search.now tree.now entry }
-    requires step { IsMove (S.view space.now).system (states_of graph.now)
-        (end_at (states_of graph.now) tree.now entry.node) step }
-    ensures { IfOk result (IsReach (S.view space.now) search.now (path_at tree.now entry.node) step.op) }
+    requires search { IsCostToGo (S.view heuristic.now.space.now) heuristic.now.search.now }
+    requires graph { IsStateGraph (S.view heuristic.now.space.now).system heuristic.now.graph.now }
+    requires tree { IsTree (S.view heuristic.now.space.now).system TopK (states_of heuristic.now.graph.now) tree.now }
+    requires entry { IsEntry (S.view heuristic.now.space.now) heuristic.now.search.now tree.now entry }
+    requires step { IsMove (S.view heuristic.now.space.now).system (states_of heuristic.now.graph.now)
+        (end_at (states_of heuristic.now.graph.now) tree.now entry.node) step }
+    ensures { IfOk result (IsReach (S.view heuristic.now.space.now) heuristic.now.search.now
+        (path_at tree.now entry.node) step.op) }
 {
-    let next = graph.state(step.to);
-    let cost = entry.cost + space.cost_of(step.op) as u128;
+    let next = heuristic.graph.state(step.to);
+    let cost = entry.cost + heuristic.space.cost_of(step.op) as u128;
     let low = left_after(entry.bound.0, cost);
-    match left_from(space, search, ranks, next, step.to, cost, 0, low) {
+    match left_from(heuristic, ranks, next, step.to, cost, 0, low) {
         None => Ok(None),
         Some(left) => {
-            let at_goal = goal_after(alloc, space, next, left)?;
+            let at_goal = goal_after(alloc, heuristic.space, next, left)?;
             Ok(Some(Reached {
                 cost,
                 left,

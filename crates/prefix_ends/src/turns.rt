@@ -7,10 +7,10 @@ ghost use Rattle.prefix_tree.specs.Entries.{entries_of};
 ghost use Rattle.prefix_ends.specs.Standing.{IsReady, Learned, IsPlanAt, listed_of};
 
 use crate::improving::improve;
+use crate::left::Heuristic;
 use crate::ranks::Ranks;
-use cost_to_go::CostToGo;
 use lazy_plans::Steps;
-use prefix_tree::{Entry, Node, Queue, StateGraph, operators_to};
+use prefix_tree::{Entry, Node, Queue, operators_to};
 use space_api::Space;
 use std::alloc::{AllocError, Global};
 use std::sync::ledger::Ledger;
@@ -36,25 +36,25 @@ impl Ranks {
     pub fn learn<S: Space, L: Ledger>(
         &mut self,
         alloc: Global,
-        space: &S,
-        search: &CostToGo<S::Set>,
-        graph: &StateGraph,
+        heuristic: &Heuristic<S>,
         tree: &[Node],
         queue: &mut Queue,
         entry: Entry,
         steps: &mut Steps<L>,
     ) -> Result<(), AllocError>
-        requires ready { IsReady (S.view space.now) search.now graph.now tree.now (entries_of queue.old) }
+        requires ready { IsReady (S.view heuristic.now.space.now) heuristic.now.search.now heuristic.now.graph.now
+            tree.now (entries_of queue.old) }
         requires some { 0 < length (entries_of queue.old) }
         requires first { entry ≡ slice_index_or (entries_of queue.old) 0 entry }
-        ensures ready { IsReady (S.view space.now) search.now graph.now tree.now (entries_of queue.new) }
-        ensures ok { OnOk result (Learned (S.view space.now) search.now tree.now entry (entries_of queue.old)
-            (entries_of queue.new)) }
+        ensures ready { IsReady (S.view heuristic.now.space.now) heuristic.now.search.now heuristic.now.graph.now
+            tree.now (entries_of queue.new) }
+        ensures ok { OnOk result (Learned (S.view heuristic.now.space.now) heuristic.now.search.now tree.now entry
+            (entries_of queue.old) (entries_of queue.new)) }
         ensures err { OnErr result (entries_of queue.new ≡ entries_of queue.old) }
         ensures one { OnOk result (steps.new ≡ steps.old + 1) }
         ensures none { OnErr result (steps.new ≡ steps.old) }
     {
-        let better = improve(space, search, graph, self, tree, entry);
+        let better = improve(heuristic, self, tree, entry);
         let others = one_or_none(alloc, better)?;
         queue.make_room(others.len())?;
         queue.replace(others, steps);

@@ -13,39 +13,38 @@ ghost use Rattle.prefix_plans.specs.Standing.{Stands};
 
 use crate::front::Front;
 use cost_to_go::CostToGo;
-use prefix_ends::Ranks;
-use prefix_tree::{Entry, Move, Node, StateGraph, find_moves, node_at};
+use prefix_ends::{Heuristic, Ranks};
+use prefix_tree::{Entry, Move, Node, find_moves, node_at};
 use space_api::{Space, SpaceFault};
 use std::alloc::Global;
 
 /// The children by all moves from the end of the entry's prefix, which stand in the tree then.
 fn add_all<S: Space>(
     alloc: Global,
-    space: &S,
-    search: &CostToGo<S::Set>,
-    graph: &StateGraph,
+    heuristic: &Heuristic<S>,
     ranks: &mut Ranks,
     tree: &mut Vec<Node>,
     entry: Entry,
     moves: &[Move],
 ) -> Result<Vec<Entry>, SpaceFault>
-    requires search { IsCostToGo (S.view space.now) search.now }
-    requires graph { IsStateGraph (S.view space.now).system graph.now }
-    requires tree { IsTree (S.view space.now).system TopK (states_of graph.now) tree.old.items }
-    requires entry { IsEntry (S.view space.now) search.now tree.old.items entry }
-    requires moves { AreMoves (S.view space.now).system (states_of graph.now)
-        (end_at (states_of graph.now) tree.old.items entry.node) moves.now }
-    ensures grows { Grows (S.view space.now).system TopK (states_of graph.now) tree.old.items tree.new.items }
-    ensures children { IfOk result (λ kids. AreChildren (S.view space.now) search.now tree.new.items
-        (path_at tree.old.items entry.node) (S.view space.now).system.operators kids.items) }
+    requires search { IsCostToGo (S.view heuristic.now.space.now) heuristic.now.search.now }
+    requires graph { IsStateGraph (S.view heuristic.now.space.now).system heuristic.now.graph.now }
+    requires tree { IsTree (S.view heuristic.now.space.now).system TopK (states_of heuristic.now.graph.now)
+        tree.old.items }
+    requires entry { IsEntry (S.view heuristic.now.space.now) heuristic.now.search.now tree.old.items entry }
+    requires moves { AreMoves (S.view heuristic.now.space.now).system (states_of heuristic.now.graph.now)
+        (end_at (states_of heuristic.now.graph.now) tree.old.items entry.node) moves.now }
+    ensures grows { Grows (S.view heuristic.now.space.now).system TopK (states_of heuristic.now.graph.now)
+        tree.old.items tree.new.items }
+    ensures children { IfOk result (λ kids. AreChildren (S.view heuristic.now.space.now) heuristic.now.search.now
+        tree.new.items (path_at tree.old.items entry.node) (S.view heuristic.now.space.now).system.operators
+        kids.items) }
 {
     let mut children = Vec::new(alloc);
     'moves: for step in moves {
         ranks.add_child(
             alloc,
-            space,
-            search,
-            graph,
+            heuristic,
             tree,
             entry,
             *step,
@@ -78,11 +77,14 @@ pub(crate) fn expand<S: Space>(
     match front.graph.moves_of(here.state) {
         None => unreachable!(),
         Some(moves) => {
-            let children = add_all(
-                alloc,
+            let heuristic = Heuristic {
                 space,
                 search,
-                &front.graph,
+                graph: &front.graph,
+            };
+            let children = add_all(
+                alloc,
+                &heuristic,
                 &mut front.ranks,
                 &mut front.tree,
                 entry,

@@ -18,7 +18,7 @@ use crate::range::is_left;
 use crate::turn::open;
 use cost_to_go::CostToGo;
 use lazy_plans::{Steps, Stop};
-use prefix_ends::{go_on, is_outdated, top_of};
+use prefix_ends::{Heuristic, go_on, is_outdated, top_of};
 use prefix_tree::Entry;
 use space_api::{Space, SpaceFault};
 use std::alloc::Global;
@@ -65,11 +65,14 @@ fn act<S: Space, L: Ledger>(
     if !is_outdated(search, entry) {
         return Ok(Some(Halt::Waits));
     }
-    front.ranks.learn(
-        alloc,
+    let heuristic = Heuristic {
         space,
         search,
-        &front.graph,
+        graph: &front.graph,
+    };
+    front.ranks.learn(
+        alloc,
+        &heuristic,
         &front.tree,
         &mut front.queue,
         entry,

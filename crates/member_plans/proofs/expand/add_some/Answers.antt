@@ -17,13 +17,13 @@ use Rattle.member_plans.proofs.expand.add_some.Goals as goal
 
 pub moves-init : goal.moves-init
 moves-init g c =
-    let v = g.S.Space.view c.args.space.now in
-    let f = c.args.search.now in
+    let v = g.S.Space.view c.args.heuristic.now.space.now in
+    let f = c.args.heuristic.now.search.now in
     let a = c.args.tree.now.items in
     let e = path_at a c.args.entry.node in
-    let set = is_taken c.args.marks.now c.args.marked in
+    let set = is_taken c.args.taken.marks.now c.args.taken.marked in
     record {
-      grows = grows_refl v.system TopK (states_of c.args.graph.now) a c.requires.tree;
+      grows = grows_refl v.system TopK (states_of c.args.heuristic.now.graph.now) a c.requires.tree;
       children = (0, past_none (ops_of c.args.moves.now), subst (AreChosen v f a e set 0) (sym c.new-children.ensures.items) (chosen_none v f a e set));
     }
 
@@ -32,14 +32,14 @@ add_child-requires-clause-tree g c = c.moves.invariant.grows.tree
 
 pub add_child-requires-clause-entry : goal.add_child-requires-clause-entry
 add_child-requires-clause-entry g c =
-    let v = g.S.Space.view c.args.space.now in
+    let v = g.S.Space.view c.args.heuristic.now.space.now in
     let i = c.moves.invariant.grows in
-    entry_like v c.args.search.now c.args.tree.now.items c.moves.tree.items i.longer i.paths c.args.entry c.requires.entry
+    entry_like v c.args.heuristic.now.search.now c.args.tree.now.items c.moves.tree.items i.longer i.paths c.args.entry c.requires.entry
 
 pub add_child-requires-clause-step : goal.add_child-requires-clause-step
 add_child-requires-clause-step g c =
-    let y = (g.S.Space.view c.args.space.now).system in
-    let ss = states_of c.args.graph.now in
+    let y = (g.S.Space.view c.args.heuristic.now.space.now).system in
+    let ss = states_of c.args.heuristic.now.graph.now in
     let d : Move = record { op = 0; to = 0 } in
     subst (λ (s : State). IsMove y ss s (get_or c.args.moves.now c.moves.step-index d))
     (sym (ap (state_at ss) (c.moves.invariant.grows.ends c.args.entry.node c.requires.entry.inside)))
@@ -47,16 +47,16 @@ add_child-requires-clause-step g c =
 
 pub moves-preserved : goal.moves-preserved
 moves-preserved g c =
-    let v = g.S.Space.view c.args.space.now in
-    let f = c.args.search.now in
-    let ss = states_of c.args.graph.now in
+    let v = g.S.Space.view c.args.heuristic.now.space.now in
+    let f = c.args.heuristic.now.search.now in
+    let ss = states_of c.args.heuristic.now.graph.now in
     let a = c.args.tree.now.items in
     let b = c.moves.tree.items in
     let t = c.add_child.new.tree.items in
     let e = path_at a c.args.entry.node in
     let d : Move = record { op = 0; to = 0 } in
     let moves = c.args.moves.now in
-    let set = is_taken c.args.marks.now c.args.marked in
+    let set = is_taken c.args.taken.marks.now c.args.taken.marked in
     let at = c.moves.step-index in
     let ops = ops_of moves in
     let op = get_or (ops_of moves) at 0 in
@@ -84,29 +84,29 @@ moves-preserved g c =
 
 pub returns-clause-children : goal.returns-clause-children
 returns-clause-children g c =
-    let v = g.S.Space.view c.args.space.now in
-    let ss = states_of c.args.graph.now in
+    let v = g.S.Space.view c.args.heuristic.now.space.now in
+    let ss = states_of c.args.heuristic.now.graph.now in
     let i = c.moves.invariant in
     let few = ops_many c.args.moves.now c.moves.step-index c.moves-test.false in
-    let f = c.args.search.now in
+    let f = c.args.heuristic.now.search.now in
     let a = c.args.tree.now.items in
     let none = lost v f ss a c.args.entry.node c.requires.tree c.requires.entry.inside c.args.moves.now c.requires.moves in
-    let set = is_taken c.args.marks.now c.args.marked in
+    let set = is_taken c.args.taken.marks.now c.args.taken.marked in
     skip_to v f c.moves.tree.items (path_at a c.args.entry.node) set (ops_of c.args.moves.now) none
     c.moves.children.items c.moves.step-index i.children.0 v.system.operators i.children.1
     (λ j ge lt. absurd (omega (arith, ge, lt, few))) i.children.2
 
 pub moves-preserved-then-not-takes : goal.moves-preserved-then-not-takes
 moves-preserved-then-not-takes g c =
-    let v = g.S.Space.view c.args.space.now in
-    let f = c.args.search.now in
-    let ss = states_of c.args.graph.now in
+    let v = g.S.Space.view c.args.heuristic.now.space.now in
+    let f = c.args.heuristic.now.search.now in
+    let ss = states_of c.args.heuristic.now.graph.now in
     let a = c.args.tree.now.items in
     let b = c.moves.tree.items in
     let e = path_at a c.args.entry.node in
     let d : Move = record { op = 0; to = 0 } in
     let moves = c.args.moves.now in
-    let set = is_taken c.args.marks.now c.args.marked in
+    let set = is_taken c.args.taken.marks.now c.args.taken.marked in
     let at = c.moves.step-index in
     let ops = ops_of moves in
     let op = get_or (ops_of moves) at 0 in
@@ -114,7 +114,7 @@ moves-preserved-then-not-takes g c =
     let old = c.moves.children.items in
     let is = op_at c.args.moves.now d c.moves.step-index c.moves-test.true in
     let inside = ops_few c.args.moves.now c.moves.step-index c.moves-test.true in
-    let off : is_taken c.args.marks.now c.args.marked (get_or c.args.moves.now c.moves.step-index d).op ≡ false =
+    let off : is_taken c.args.taken.marks.now c.args.taken.marked (get_or c.args.moves.now c.moves.step-index d).op ≡ false =
     grind (arith, c.takes.ensures, c.if-not-takes.true) in
     let none = lost v f ss a c.args.entry.node c.requires.tree c.requires.entry.inside moves c.requires.moves in
     let sofar = skip_to v f b e set ops none old at i.children.0 op i.children.1 (never_falls ops c.requires.moves.rising at) i.children.2 in
@@ -124,6 +124,6 @@ moves-preserved-then-not-takes g c =
         op + 1,
         past_next ops c.requires.moves.rising at inside,
         chosen_left v f b e set op old sofar
-            (subst (λ (k : ℕ). is_taken c.args.marks.now c.args.marked k ≡ false) is off),
+            (subst (λ (k : ℕ). is_taken c.args.taken.marks.now c.args.taken.marked k ≡ false) is off),
       );
     }

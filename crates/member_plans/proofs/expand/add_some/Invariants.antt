@@ -9,10 +9,10 @@ use Rattle.member_plans.proofs.expand.add_some.Given as goal
 
 abbrev pub invariant-moves : goal.invariant-moves
 invariant-moves g l =
-    let v = g.S.Space.view l.space in
+    let v = g.S.Space.view l.heuristic.space.now in
     record {
-      grows : Grows v.system TopK (states_of l.graph) l.fn.tree.items l.tree.items;
+      grows : Grows v.system TopK (states_of l.heuristic.graph.now) l.fn.tree.items l.tree.items;
       children : (m : ℕ) × IsPast (ops_of l.moves) l.step-index m
-          × AreChosen v l.search l.tree.items (path_at l.fn.tree.items l.entry.node)
-          (is_taken l.marks l.marked) m l.children.items;
+          × AreChosen v l.heuristic.search.now l.tree.items (path_at l.fn.tree.items l.entry.node)
+          (is_taken l.taken.marks.now l.taken.marked) m l.children.items;
     }

@@ -8,14 +8,14 @@ rank_from-requires-clause-state g c = (c.requires.reached.0, c.requires.reached.
 
 pub returns-in-Some : goal.returns-in-Some
 returns-in-Some g c =
-    let v = g.S.Space.view c.args.space.now in
+    let v = g.S.Space.view c.args.heuristic.now.space.now in
     let left : Left = record { cost = c.in-Some.rank.cost; ranked = true; ring = c.in-Some.rank.number } in
-    known_some v c.args.search.now c.requires.search c.args.state.now c.args.cost c.requires.reached left (rw c.in-Some.is at c.rank_from.ensures) refl
+    known_some v c.args.heuristic.now.search.now c.requires.search c.args.state.now c.args.cost c.requires.reached left (rw c.in-Some.is at c.rank_from.ensures) refl
 
 pub returns-in-None : goal.returns-in-None
 returns-in-None g c =
-    let v = g.S.Space.view c.args.space.now in
-    let f = c.args.search.now in
+    let v = g.S.Space.view c.args.heuristic.now.space.now in
+    let f = c.args.heuristic.now.search.now in
     let s = c.args.state.now in
     let none = unranked_by v f c.requires.search s c.args.cost c.requires.reached c.args.first c.args.low
     c.requires.low c.requires.first (rw c.in_default.is at c.rank_from.ensures) in
@@ -23,8 +23,8 @@ returns-in-None g c =
 
 pub returns-in-Some-left_unranked : goal.returns-in-Some-left_unranked
 returns-in-Some-left_unranked g c =
-    let v = g.S.Space.view c.args.space.now in
-    let f = c.args.search.now in
+    let v = g.S.Space.view c.args.heuristic.now.space.now in
+    let f = c.args.heuristic.now.search.now in
     let s = c.args.state.now in
     let none = unranked_by v f c.requires.search s c.args.cost c.requires.reached c.args.first c.args.low
     c.requires.low c.requires.first (rw c.in_default.is at c.rank_from.ensures) in

@@ -12,9 +12,9 @@ use Rattle.prefix_ends.proofs.reach.reach.Goals as goal
 
 pub left_from-requires-clause-reached : goal.left_from-requires-clause-reached
 left_from-requires-clause-reached g c =
-    let v = g.S.Space.view c.args.space.now in
-    let f = c.args.search.now in
-    let ss = states_of c.args.graph.now in
+    let v = g.S.Space.view c.args.heuristic.now.space.now in
+    let f = c.args.heuristic.now.search.now in
+    let ss = states_of c.args.heuristic.now.graph.now in
     let i = c.args.entry.node in
     let cost = next_cost v f ss c.args.tree.now i c.requires.tree c.requires.entry.inside c.args.step c.requires.step
     c.args.entry c.requires.entry refl (c.args.entry.cost + c.cost_of.result)
@@ -25,9 +25,9 @@ left_from-requires-clause-reached g c =
 
 pub left_from-requires-clause-low : goal.left_from-requires-clause-low
 left_from-requires-clause-low g c =
-    let v = g.S.Space.view c.args.space.now in
-    let f = c.args.search.now in
-    let ss = states_of c.args.graph.now in
+    let v = g.S.Space.view c.args.heuristic.now.space.now in
+    let f = c.args.heuristic.now.search.now in
+    let ss = states_of c.args.heuristic.now.graph.now in
     let low = ends_longer v f c.args.tree.now c.args.entry c.requires.entry c.args.step.op c.left_after-low.result
     (omega (arith, c.left_after-low.ensures, c.cost_of.ensures)) in
     subst (λ (s : State). CostsAtLeast v.system s c.left_after-low.result) (sym c.state-next.ensures)
@@ -35,7 +35,7 @@ left_from-requires-clause-low g c =
     c.requires.step c.left_after-low.result low)
 
 pub goal_after-requires-clause-reached : goal.goal_after-requires-clause-reached
-goal_after-requires-clause-reached g c = subst (IsReached (g.S.Space.view c.args.space.now).system)
+goal_after-requires-clause-reached g c = subst (IsReached (g.S.Space.view c.args.heuristic.now.space.now).system)
     (sym c.state-next.ensures) (c.requires.graph.reached c.args.step.to c.requires.step.within)
 
 pub goal_after-requires-clause-left : goal.goal_after-requires-clause-left
@@ -43,9 +43,9 @@ goal_after-requires-clause-left g c = (rw c.in-Some.is at c.left_from.ensures).l
 
 pub returns-in-None : goal.returns-in-None
 returns-in-None g c =
-    let v = g.S.Space.view c.args.space.now in
-    let f = c.args.search.now in
-    let ss = states_of c.args.graph.now in
+    let v = g.S.Space.view c.args.heuristic.now.space.now in
+    let f = c.args.heuristic.now.search.now in
+    let ss = states_of c.args.heuristic.now.graph.now in
     let cost = c.args.entry.cost + c.cost_of.result in
     nowhere_lost v f ss c.args.tree.now c.args.entry.node c.requires.tree c.requires.entry.inside c.args.step
     c.requires.step (subst (λ (s : State). IsLeft v f (c.args.entry.cost + c.cost_of.result) s None)
@@ -53,9 +53,9 @@ returns-in-None g c =
 
 pub returns-in_ok-at_goal-in-Some : goal.returns-in_ok-at_goal-in-Some
 returns-in_ok-at_goal-in-Some g c =
-    let v = g.S.Space.view c.args.space.now in
-    let f = c.args.search.now in
-    let ss = states_of c.args.graph.now in
+    let v = g.S.Space.view c.args.heuristic.now.space.now in
+    let f = c.args.heuristic.now.search.now in
+    let ss = states_of c.args.heuristic.now.graph.now in
     let i = c.args.entry.node in
     let sum = c.args.entry.cost + c.cost_of.result in
     let cost = next_cost v f ss c.args.tree.now i c.requires.tree c.requires.entry.inside c.args.step c.requires.step

@@ -16,12 +16,12 @@ use Rattle.prefix_plans.proofs.expand.add_all.Goals as goal
 
 pub moves-init : goal.moves-init
 moves-init g c =
-    let v = g.S.Space.view c.args.space.now in
-    let f = c.args.search.now in
+    let v = g.S.Space.view c.args.heuristic.now.space.now in
+    let f = c.args.heuristic.now.search.now in
     let a = c.args.tree.now.items in
     let e = path_at a c.args.entry.node in
     record {
-      grows = grows_refl v.system TopK (states_of c.args.graph.now) a c.requires.tree;
+      grows = grows_refl v.system TopK (states_of c.args.heuristic.now.graph.now) a c.requires.tree;
       children = (
         0,
         past_none (ops_of c.args.moves.now),
@@ -33,14 +33,14 @@ moves-init g c =
 
 pub add_child-requires-clause-entry : goal.add_child-requires-clause-entry
 add_child-requires-clause-entry g c =
-    let v = g.S.Space.view c.args.space.now in
+    let v = g.S.Space.view c.args.heuristic.now.space.now in
     let i = c.moves.invariant.grows in
-    entry_like v c.args.search.now c.args.tree.now.items c.moves.tree.items i.longer i.paths c.args.entry c.requires.entry
+    entry_like v c.args.heuristic.now.search.now c.args.tree.now.items c.moves.tree.items i.longer i.paths c.args.entry c.requires.entry
 
 pub add_child-requires-clause-step : goal.add_child-requires-clause-step
 add_child-requires-clause-step g c =
-    let y = (g.S.Space.view c.args.space.now).system in
-    let ss = states_of c.args.graph.now in
+    let y = (g.S.Space.view c.args.heuristic.now.space.now).system in
+    let ss = states_of c.args.heuristic.now.graph.now in
     let d : Move = record { op = 0; to = 0 } in
     subst (λ (s : State). IsMove y ss s (get_or c.args.moves.now c.moves.step-index d))
     (sym (ap (state_at ss) (c.moves.invariant.grows.ends c.args.entry.node c.requires.entry.inside)))
@@ -48,9 +48,9 @@ add_child-requires-clause-step g c =
 
 pub moves-preserved : goal.moves-preserved
 moves-preserved g c =
-    let v = g.S.Space.view c.args.space.now in
-    let f = c.args.search.now in
-    let ss = states_of c.args.graph.now in
+    let v = g.S.Space.view c.args.heuristic.now.space.now in
+    let f = c.args.heuristic.now.search.now in
+    let ss = states_of c.args.heuristic.now.graph.now in
     let a = c.args.tree.now.items in
     let b = c.moves.tree.items in
     let t = c.add_child.new.tree.items in
@@ -88,11 +88,11 @@ moves-preserved g c =
 
 pub returns-clause-children : goal.returns-clause-children
 returns-clause-children g c =
-    let v = g.S.Space.view c.args.space.now in
-    let ss = states_of c.args.graph.now in
+    let v = g.S.Space.view c.args.heuristic.now.space.now in
+    let ss = states_of c.args.heuristic.now.graph.now in
     let i = c.moves.invariant in
     let few = ops_many c.args.moves.now c.moves.step-index c.moves-test.false in
-    let f = c.args.search.now in
+    let f = c.args.heuristic.now.search.now in
     let a = c.args.tree.now.items in
     let none = lost v f ss a c.args.entry.node c.requires.tree c.requires.entry.inside c.args.moves.now c.requires.moves in
     skip_to v f c.moves.tree.items (path_at a c.args.entry.node) (ops_of c.args.moves.now) none c.moves.children.items

@@ -52,8 +52,8 @@ module _ {R S : Type 0} (shape_of : R → S) (IsSpelled : R → List ℕ → Typ
   pub exact_after : {A : Type 0} (shape : S) (test : List ℕ → Option (Unit {0})) (row : R) (p : Reading S A) (rows : A → List R) (F : A → Type 0)
       → grammar.RowIs shape_of IsSpelled shape test (λ _. row) Always → Exact p rows F → Exact (after_at shape test p) (λ a. row ∷ rows a) F
   exact_after shape test row p rows F is ep =
-      grammar.exact_row_then shape_of IsSpelled shape test (λ _. row) Always (λ _. p) (λ _. tt) rows (λ _ a. F a) F
-      is (λ _ _. ep) (λ _ a _ f. (refl, f)) (λ a f. (tt, f))
+      grammar.exact_row_then shape_of IsSpelled is (λ _. p) (λ _. tt) rows (λ _ a. F a) F
+      (λ _ _. ep) (record { join = λ _ a _ f. (refl, f); split = λ a f. (tt, f) })
 
   pub exact_before : {A : Type 0} (p : Reading S A) (shape : S) (test : List ℕ → Option (Unit {0})) (row : R) (rows : A → List R) (F : A → Type 0)
       → grammar.RowIs shape_of IsSpelled shape test (λ _. row) Always → Exact p rows F → Exact (before_at p shape test) (λ a. rows a ++ row ∷ []) F
@@ -61,8 +61,9 @@ module _ {R S : Type 0} (shape_of : R → S) (IsSpelled : R → List ℕ → Typ
       grammar.exact_bind shape_of IsSpelled p (λ a. grammar.then_at shape_of IsSpelled (row_at shape test)
       (λ _ ls. Ok (a, ls))) rows F (λ _ _. row ∷ []) (λ a b. a ≡ b) (λ a. rows a ++ row ∷ []) F
       ep
-      (λ a f. grammar.exact_row_then shape_of IsSpelled shape test (λ _. row) Always (λ _ ls. Ok (a, ls)) (λ _. tt) (λ _. []) (λ _ b. a ≡ b) (λ b. a ≡ b)
-      is (λ _ _. grammar.exact_done shape_of IsSpelled a (λ _. []) (λ b. a ≡ b) refl (λ b e. (e, refl))) (λ _ b _ e. (refl, e)) (λ b e. (tt, e)))
+      (λ a f. grammar.exact_row_then shape_of IsSpelled is (λ _ ls. Ok (a, ls)) (λ _. tt) (λ _. []) (λ _ b. a ≡ b) (λ b. a ≡ b)
+      (λ _ _. grammar.exact_done shape_of IsSpelled a (λ _. []) (λ b. a ≡ b) refl (λ b e. (e, refl)))
+      (record { join = λ _ b _ e. (refl, e); split = λ b e. (tt, e) }))
       (record {
         join = λ a b f e. (subst F e f, sym (ap (λ (z : A). rows z ++ row ∷ []) e));
         split = λ a f. (a, f, refl, refl);
@@ -86,9 +87,8 @@ module _ {R S : Type 0} (shape_of : R → S) (IsSpelled : R → List ℕ → Typ
         → Exact (counted_at shape test item next state) (λ xs. row (length xs) ∷ flat_map rows xs)
         (λ xs. N (length xs) × grammar.FitFrom shape_of IsSpelled F next state xs)
     exact_counted shape test row N state is good =
-        grammar.exact_row_then shape_of IsSpelled shape test row N (λ n. many_at item next n state) (λ xs. length xs)
+        grammar.exact_row_then shape_of IsSpelled is (λ n. many_at item next n state) (λ xs. length xs)
         (flat_map rows) (λ n xs. grammar.ManyFit shape_of IsSpelled F next n state xs)
         (λ xs. N (length xs) × grammar.FitFrom shape_of IsSpelled F next state xs)
-        is (λ n f. exact_some n state (good n f))
-        (λ n xs f g. (g.0, (subst N (sym g.0) f, g.1)))
-        (λ xs f. (f.0, (refl, f.1)))
+        (λ n f. exact_some n state (good n f))
+        (record { join = λ n xs f g. (g.0, (subst N (sym g.0) f, g.1)); split = λ xs f. (f.0, (refl, f.1)) })

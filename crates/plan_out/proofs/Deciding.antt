@@ -207,7 +207,7 @@ leads task s values a fits state v h lt =
     let k = known task.operators a lt in
     let fit = fits_operator task a k.0 fits k.1 in
     let w = rest_written values [] k.0.effects values refl (λ var. inr (tt, refl)) (below task values k.0 v.each fit).1 in
-    (base_values task.variables w.next, (h, step_after task s a k.0 values w.next state k.1 fit.each v w.after w.size))
+    (base_values task.variables w.next, (h, step_after a w.next state k.1 fit.each v w.after w.size))
 
 -- Runs.
 

@@ -70,34 +70,34 @@ pub counting_within : (task : TaskParts) (x : Counting) → IsCounting task x �
 counting_within task x is = Rattle.symk_task.proofs.Places.within_some (IsOwn task x.layer) task.rules x.rule is
 
 -- the rules of a layer, one after the other
-pub same_more : (rules : List Counting) (layer from end : ℕ) (c : Counting) → end < length rules
-    → (get_or rules end c).layer ≡ layer → ((k : ℕ) (d : Counting) → from ≤ k → k < end → (get_or rules k d).layer
-    ≡ layer)
-    → (k : ℕ) (d : Counting) → from ≤ k → k < end + 1 → (get_or rules k d).layer ≡ layer
-same_more rules layer from end c within e h k d low lt = elim (cases_eq k end) [
-  | inl same ↦ (let it : get_or rules k d ≡ get_or rules end c = ap (λ (z : ℕ). get_or rules z d) same
-      ∙ get_or_default rules end d c within in ap (λ (z : Counting). z.layer) it ∙ e)
-  | inr ne ↦ (let ne2 : k ≡ end → ⊥ = ne in h k d low (omega (arith, ne2, lt)))
-]
-
-pub stacked_more : (rules : List Counting) (stack : List ℕ) (from end : ℕ) (c : Counting) → end < length rules
-    → ((k : ℕ) (d : Counting) → from ≤ k → k < end → Stands stack (get_or rules k d).rule)
-    → (k : ℕ) (d : Counting) → from ≤ k → k < end + 1 → Stands (stack ++ (get_or rules end c).rule ∷ []) (get_or rules k d).rule
-stacked_more rules stack from end c within h k d low lt = elim (cases_eq k end) [
-  | inl same ↦ (
-      let it : get_or rules k d ≡ get_or rules end c = ap (λ (z : ℕ). get_or rules z d) same ∙ get_or_default rules end d c within in
-      stands_right stack ((get_or rules end c).rule ∷ []) (get_or rules k d).rule (inl (ap (λ (z : Counting). z.rule) (sym it))))
-  | inr ne ↦ (let ne2 : k ≡ end → ⊥ = ne in stands_left stack ((get_or rules end c).rule ∷ []) (get_or rules k d).rule (h k d low (omega (arith, ne2, lt))))
-]
-
-pub only_more : (rules : List Counting) (old stack : List ℕ) (end : ℕ) (c : Counting) → end < length rules
-    → ((x : ℕ) → Stands stack x → Stands old x ⊎ Any (λ (counting : Counting). counting.rule ≡ x) rules)
-    → (x : ℕ) → Stands (stack ++ (get_or rules end c).rule ∷ []) x → Stands old x ⊎ Any (λ (counting : Counting). counting.rule ≡ x) rules
-only_more rules old stack end c within h x s = elim (stands_parts stack ((get_or rules end c).rule ∷ []) x s) [
-  | inl p ↦ h x p
-  | inr p ↦ elim p [
-    | inl e ↦ (let it : get_or rules end (get_or rules end c) ≡ get_or rules end c =
-        get_or_default rules end (get_or rules end c) c within in inr (end, get_or rules end c, within, it, e))
-    | inr n ↦ absurd n
+module _ (rules : List Counting) (end : ℕ) (c : Counting) (within : end < length rules) where
+  pub same_more : {layer : ℕ} (from : ℕ) → (get_or rules end c).layer ≡ layer
+      → ((k : ℕ) (d : Counting) → from ≤ k → k < end → (get_or rules k d).layer ≡ layer)
+      → (k : ℕ) (d : Counting) → from ≤ k → k < end + 1 → (get_or rules k d).layer ≡ layer
+  same_more from e h k d low lt = elim (cases_eq k end) [
+    | inl same ↦ (let it : get_or rules k d ≡ get_or rules end c = ap (λ (z : ℕ). get_or rules z d) same
+        ∙ get_or_default rules end d c within in ap (λ (z : Counting). z.layer) it ∙ e)
+    | inr ne ↦ (let ne2 : k ≡ end → ⊥ = ne in h k d low (omega (arith, ne2, lt)))
   ]
-]
+
+  pub stacked_more : (stack : List ℕ) (from : ℕ)
+      → ((k : ℕ) (d : Counting) → from ≤ k → k < end → Stands stack (get_or rules k d).rule)
+      → (k : ℕ) (d : Counting) → from ≤ k → k < end + 1 → Stands (stack ++ (get_or rules end c).rule ∷ []) (get_or rules k d).rule
+  stacked_more stack from h k d low lt = elim (cases_eq k end) [
+    | inl same ↦ (
+        let it : get_or rules k d ≡ get_or rules end c = ap (λ (z : ℕ). get_or rules z d) same ∙ get_or_default rules end d c within in
+        stands_right stack ((get_or rules end c).rule ∷ []) (get_or rules k d).rule (inl (ap (λ (z : Counting). z.rule) (sym it))))
+    | inr ne ↦ (let ne2 : k ≡ end → ⊥ = ne in stands_left stack ((get_or rules end c).rule ∷ []) (get_or rules k d).rule (h k d low (omega (arith, ne2, lt))))
+  ]
+
+  pub only_more : (old stack : List ℕ)
+      → ((x : ℕ) → Stands stack x → Stands old x ⊎ Any (λ (counting : Counting). counting.rule ≡ x) rules)
+      → (x : ℕ) → Stands (stack ++ (get_or rules end c).rule ∷ []) x → Stands old x ⊎ Any (λ (counting : Counting). counting.rule ≡ x) rules
+  only_more old stack h x s = elim (stands_parts stack ((get_or rules end c).rule ∷ []) x s) [
+    | inl p ↦ h x p
+    | inr p ↦ elim p [
+      | inl e ↦ (let it : get_or rules end (get_or rules end c) ≡ get_or rules end c =
+          get_or_default rules end (get_or rules end c) c within in inr (end, get_or rules end c, within, it, e))
+      | inr n ↦ absurd n
+    ]
+  ]

@@ -40,9 +40,9 @@ take_less (x ∷ p) zero (suc j) lt le = (refl, refl, omega arith)
 take_less (x ∷ p) (suc i) (suc j) lt le = (let r = take_less p i j (omega arith) (omega arith) in (ap (λ (z : List ℕ). x ∷ z) r.0, r.1, omega (arith, r.2)))
 
 -- where a run stops, no longer one goes on
-not_further : (task : TaskParts) (p : List ℕ) (i : ℕ) (s q u : List ℕ) → Fits task → Stops task p i → IsInitial task s
-    → take i q ≡ take i p → get_or q i 0 ≡ get_or p i 0 → i < length q → Runs task s q u → ⊥
-not_further task p i s q u fits stops init front here lt h =
+not_further : {task : TaskParts} {p : List ℕ} {i : ℕ} {s : List ℕ} (q u : List ℕ) → Fits task → Stops task p i
+    → IsInitial task s → take i q ≡ take i p → get_or q i 0 ≡ get_or p i 0 → i < length q → Runs task s q u → ⊥
+not_further {task} {p} {i} {s} q u fits stops init front here lt h =
     let e : stops.s ≡ s = one_initial task stops.s s stops.initial init in
     let r = through task q s u i lt h in
     let f = subst (λ (z : List ℕ). Runs task s z r.m) front r.front in
@@ -55,7 +55,7 @@ one_stop : (task : TaskParts) (p : List ℕ) (i j : ℕ) → Fits task → Stops
 one_stop task p i j fits a b lt =
     let le : j ≤ length p = (let k = b.within in omega (arith, k)) in
     let t = take_less p i j lt le in
-    not_further task p i b.s (take j p) b.t fits a b.initial t.0 t.1 t.2 b.runs
+    not_further (take j p) b.t fits a b.initial t.0 t.1 t.2 b.runs
 
 -- a number that is no operator's stands in no run
 no_number : (task : TaskParts) (p : List ℕ) (i : ℕ) (s u : List ℕ) → IsTooLarge (length task.operators) p i → Runs task s p u → ⊥
@@ -88,13 +88,13 @@ one_verdict task p (StopsAt a) (StopsAt b) fits h k = elim (cases_order (a - 1) 
     | inr lt ↦ absurd (one_stop task p (b - 1) (a - 1) fits k.1 h.1 lt)
   ]
 ]
-one_verdict task p (StopsAt a) MissesGoal fits h k = absurd (not_further task p (a - 1) k.s p k.t fits h.1 k.initial refl refl h.1.within k.runs)
-one_verdict task p (StopsAt a) (Reaches c) fits h k = absurd (not_further task p (a - 1) k.0.0 p k.0.1 fits h.1 k.0.2 refl refl h.1.within k.0.3)
+one_verdict task p (StopsAt a) MissesGoal fits h k = absurd (not_further p k.t fits h.1 k.initial refl refl h.1.within k.runs)
+one_verdict task p (StopsAt a) (Reaches c) fits h k = absurd (not_further p k.0.1 fits h.1 k.0.2 refl refl h.1.within k.0.3)
 one_verdict task p MissesGoal (NoSuchOperator b) fits h k = absurd (no_number task p (b - 1) h.s h.t k.1 h.runs)
-one_verdict task p MissesGoal (StopsAt b) fits h k = absurd (not_further task p (b - 1) h.s p h.t fits k.1 h.initial refl refl k.1.within h.runs)
+one_verdict task p MissesGoal (StopsAt b) fits h k = absurd (not_further p h.t fits k.1 h.initial refl refl k.1.within h.runs)
 one_verdict task p MissesGoal MissesGoal fits h k = refl
 one_verdict task p MissesGoal (Reaches c) fits h k = absurd (goal_both task p fits h k.0)
 one_verdict task p (Reaches c) (NoSuchOperator b) fits h k = absurd (no_number task p (b - 1) h.0.0 h.0.1 k.1 h.0.3)
-one_verdict task p (Reaches c) (StopsAt b) fits h k = absurd (not_further task p (b - 1) h.0.0 p h.0.1 fits k.1 h.0.2 refl refl k.1.within h.0.3)
+one_verdict task p (Reaches c) (StopsAt b) fits h k = absurd (not_further p h.0.1 fits k.1 h.0.2 refl refl k.1.within h.0.3)
 one_verdict task p (Reaches c) MissesGoal fits h k = absurd (goal_both task p fits k h.0)
 one_verdict task p (Reaches c) (Reaches d) fits h k = ap (λ (z : ℕ). Reaches z) (h.1 ∙ sym k.1)

@@ -174,11 +174,11 @@ lacks_within task layer values rule from place var fit l =
     let r : InRange task.variables fact = fit.conds.1 place (record { var = 0; val = 0 }) l.first.within in
     subst (λ (z : ℕ). z < length task.variables) (l.on (record { var = 0; val = 0 })) (within_some (λ v. fact.val < range v) task.variables fact.var r)
 
-pub lacks_waits : (task : TaskParts) (layer : ℕ) (values stack : List ℕ) (waiting : List (List ℕ)) (x : ℕ)
-    (rule : Rule) (from place var : ℕ) → slice_get task.rules x ≡ Some rule
+pub lacks_waits : {task : TaskParts} {layer : ℕ} {values : List ℕ} (stack : List ℕ) (waiting : List (List ℕ)) (x : ℕ)
+    {rule : Rule} {from place var : ℕ} → slice_get task.rules x ≡ Some rule
     → Lacks task layer values rule from place var → var < length waiting
     → AllBut x task layer values stack waiting → AllPlaced task layer values stack (set waiting var (waiting_at waiting var ++ x ∷ []))
-lacks_waits task layer values stack waiting x rule from place var at l lt all =
+lacks_waits {task} {layer} {values} stack waiting x {rule} {from} {place} {var} at l lt all =
     let d : Fact = record { var = 0; val = 0 } in
     let fact = get_or rule.conds place d in
     let e : fact.var ≡ var = l.on d in

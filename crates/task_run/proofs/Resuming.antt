@@ -63,11 +63,11 @@ passed_raise task layer values places rule fits raises p = record {
         fits_at x other at = subst (FitsRule task) (get_or_from_slice_get task.rules x other other at)
             (fits.each_rule x other (slice_get_within task.rules x other at))
 
-pub passed_wait : (task : TaskParts) (layer : ℕ) (values places : List ℕ) (x : ℕ) (rule : Rule) (place var : ℕ)
+pub passed_wait : {task : TaskParts} {layer : ℕ} {values places : List ℕ} (x : ℕ) {rule : Rule} {place var : ℕ}
     → slice_get task.rules x ≡ Some rule → x < length task.rules
     → Lacks task layer values rule (get_or places x 0) place var → Passed task layer values places
     → Passed task layer values (set places x place)
-passed_wait task layer values places x rule place var at lt l p = record {
+passed_wait {task} {layer} {values} {places} x {rule} {place} {var} at lt l p = record {
   each = length-set places x place ∙ p.each;
   own = λ y other at2 own. elim (cases_eq y x) [
     | inl e ↦ (

@@ -40,12 +40,12 @@ length_all zero a = refl
 length_all (suc n) a = (let ih = length_all n a in omega (arith, ih))
 
 -- before the first layer
-pub none_closed : (task : TaskParts) (s : List ℕ) (rules : List Counting) (values stack : List ℕ)
-    (waiting : List (List ℕ)) (places : List ℕ) → Fits task → length values ≡ length task.variables
+pub none_closed : {task : TaskParts} {s : List ℕ} {rules : List Counting} {values stack : List ℕ}
+    {waiting : List (List ℕ)} {places : List ℕ} → Fits task → length values ≡ length task.variables
     → ((var : ℕ) → var < length task.variables → get_or values var 0 ≡ start_value task.variables task.initial s var)
     → stack ≡ [] → waiting ≡ replicate (length task.variables) [] → places ≡ replicate (length task.rules) 0
     → IsClosedTo task s rules 0 values stack waiting places
-none_closed task s rules values stack waiting places fits each start_values no_stack no_waiting no_places = record {
+none_closed {task} {s} {rules} {values} {stack} {waiting} {places} fits each start_values no_stack no_waiting no_places = record {
   layer = 0;
   within = omega arith;
   below = started task s values fits each start_values;
@@ -92,13 +92,18 @@ pub record IsReady (task : TaskParts) (s : List ℕ) (layer : ℕ) (values stack
   pub kept : Kept task stack waiting
   pub placed : AllPlaced task layer values stack waiting
 
-pub begin_layer : (task : TaskParts) (s : List ℕ) (rules : List Counting) (at end layer : ℕ) (c : Counting)
-    (values stack new : List ℕ) (waiting : List (List ℕ)) (places : List ℕ) → Fits task → AreRulesOf task rules
-    → IsClosedTo task s rules at values stack waiting places
-    → at < length rules → (get_or rules at c).layer ≡ layer → IsLayer rules layer at end
+-- The rules of the layer stand from this place to the end.
+pub record IsNext (rules : List Counting) (at end layer : ℕ) (c : Counting) : Type 0 where
+  pub within : at < length rules
+  pub here : (get_or rules at c).layer ≡ layer
+  pub is_layer : IsLayer rules layer at end
+
+pub begin_layer : {task : TaskParts} {s : List ℕ} {rules : List Counting} {at end layer : ℕ} {c : Counting}
+    {values stack : List ℕ} (new : List ℕ) {waiting : List (List ℕ)} {places : List ℕ} → Fits task
+    → AreRulesOf task rules → IsClosedTo task s rules at values stack waiting places → IsNext rules at end layer c
     → ((k : ℕ) (d : Counting) → at ≤ k → k < end → Stands new (get_or rules k d).rule)
     → ((x : ℕ) → Stands new x → Stands stack x ⊎ Any (λ (counting : Counting). counting.rule ≡ x) rules) → IsReady task s layer values new waiting places
-begin_layer task s rules at end layer c values stack new waiting places fits are i lt is l stand only = record {
+begin_layer {task} {s} {rules} {at} {end} {layer} {c} {values} {stack} new {waiting} {places} fits are i next stand only = record {
   below = subst (λ (z : ℕ). Below task s z values) (let e : (layer - i.layer) + i.layer ≡ layer = omega
       (arith, low) in e) (skip task s values (layer - i.layer) i.layer fits none i.below);
   fresh = record { each = i.fresh.each; later = λ x rule high at own far. i.fresh.later x rule high at own (λ k. far (omega (arith, k, low))) };
@@ -107,11 +112,11 @@ begin_layer task s rules at end layer c values stack new waiting places fits are
 }
   where
     low : i.layer ≤ layer
-    low = (let k = i.left at c (omega arith) lt in omega (arith, k, is))
+    low = (let k = i.left at c (omega arith) next.within in omega (arith, k, next.here))
 
     above : (k : ℕ) (d : Counting) → at ≤ k → k < length rules → layer ≤ (get_or rules k d).layer
     above k d le far = (let h = are.by_layer at k c le far in
-        let e = ap (λ (z : Counting). z.layer) (get_or_default rules k c d far) in omega (arith, h, e, is))
+        let e = ap (λ (z : Counting). z.layer) (get_or_default rules k c d far) in omega (arith, h, e, next.here))
 
     none : (rule : Rule) (high : ℕ) → Contains task.rules rule → IsOwn task high rule → i.layer ≤ high → high < (layer - i.layer) + i.layer → ⊥
     none rule high in_all own far near =
@@ -142,9 +147,9 @@ begin_layer task s rules at end layer c values stack new waiting places fits are
             | inl inside ↦ subst (Stands new) (f.at_rule c) (stand f.k c after inside)
             | inr beyond ↦ (
                 let within : end < length rules = (let w = f.within in omega (arith, w, beyond)) in
-                let a = above end c l.rising within in
+                let a = above end c next.is_layer.rising within in
                 let b = are.by_layer end f.k c beyond f.within in
-                absurd (l.last within c (omega (arith, a, b, e))))
+                absurd (next.is_layer.last within c (omega (arith, a, b, e))))
           ]
         ]
 
@@ -157,16 +162,18 @@ begin_layer task s rules at end layer c values stack new waiting places fits are
       ]
     ]
 
-pub end_layer : (task : TaskParts) (s : List ℕ) (rules : List Counting) (at end layer : ℕ) (c : Counting)
-    (values stack next next_stack : List ℕ) (waiting next_waiting : List (List ℕ)) (places next_places : List ℕ)
+pub end_layer : {task : TaskParts} {s : List ℕ} {rules : List Counting} {at end layer : ℕ} {c : Counting}
+    {values stack next next_stack : List ℕ} {waiting next_waiting : List (List ℕ)} {places next_places : List ℕ}
     → Fits task → AreRulesOf task rules
-    → IsClosedTo task s rules at values stack waiting places → Below task s layer values → at < length rules
-    → (get_or rules at c).layer ≡ layer → IsLayer rules layer at end
+    → IsClosedTo task s rules at values stack waiting places → Below task s layer values → IsNext rules at end layer c
     → Grows task layer values next → IsStuck task layer next → Kept task next_stack next_waiting
     → IsFresh task (layer + 1) next_places → IsClosedTo task s rules end next next_stack next_waiting
     next_places
-end_layer task s rules at end layer c values stack next next_stack waiting next_waiting places next_places fits are i
-    below lt is l grows stuck kept fresh = record {
+end_layer {task} {s} {rules} {at} {end} {layer} {c} {values} {stack} {next} {next_stack} {waiting} {next_waiting}
+    {places} {next_places} fits are i below n grows stuck kept fresh =
+    let is = n.here in
+    let l = n.is_layer in
+    record {
       layer = layer + 1;
       within = l.within;
       below = subst (λ (z : ℕ). Below task s z next) (let e : suc layer ≡ layer + 1 = omega arith in e)
@@ -174,7 +181,7 @@ end_layer task s rules at end layer c values stack next next_stack waiting next_
       fresh = fresh;
       kept = kept;
       past = λ k d near. elim (cases_lt k at) [
-        | inl before ↦ (let h = i.past k d before in let h2 = i.left at c (omega arith) lt in omega (arith, h, h2, is))
+        | inl before ↦ (let h = i.past k d before in let h2 = i.left at c (omega arith) n.within in omega (arith, h, h2, is))
         | inr after ↦ (let h = l.same k d after near in omega (arith, h))
       ];
       left = λ k d far within. (
@@ -188,10 +195,10 @@ end_layer task s rules at end layer c values stack next next_stack waiting next_
     }
 
 -- after the last layer
-pub all_closed : (task : TaskParts) (s : List ℕ) (rules : List Counting) (at : ℕ) (values stack : List ℕ)
-    (waiting : List (List ℕ)) (places : List ℕ) → Fits task → AreRulesOf task rules
+pub all_closed : {task : TaskParts} {s : List ℕ} {rules : List Counting} {at : ℕ} {values stack : List ℕ}
+    {waiting : List (List ℕ)} {places : List ℕ} → Fits task → AreRulesOf task rules
     → IsClosedTo task s rules at values stack waiting places → length rules ≤ at → Valued task s values
-all_closed task s rules at values stack waiting places fits are i all =
+all_closed {task} {s} {rules} {at} {values} {stack} {waiting} {places} fits are i all =
     valued task s (65536 + i.layer) values fits most (skip task s values 65536 i.layer fits none i.below)
   where
     none : (rule : Rule) (high : ℕ) → Contains task.rules rule → IsOwn task high rule → i.layer ≤ high → high < 65536 + i.layer → ⊥

@@ -19,12 +19,12 @@ both : {X : Type 0} (P Q : X → Type 0) (o : Option X) → IsSomeAnd o P → If
 both P Q None h k = h
 both P Q (Some x) h k = k h
 
-pub step_after : (task : TaskParts) (s : List ℕ) (a : ℕ) (operator : Operator) (values next : List ℕ) → IsState task s
+pub step_after : {task : TaskParts} {s : List ℕ} (a : ℕ) {operator : Operator} {values : List ℕ} (next : List ℕ) → IsState task s
     → slice_get task.operators a ≡ Some operator → All (FitsEffect task.variables) operator.effects
     → Valued task s values
     → ((var : ℕ) → ValueAfter (FiresBy values) operator.effects var (get_or values var 0) (get_or next var 0))
     → length next ≡ length values → After task s a (base_values task.variables next)
-step_after task s a operator values next state is fit valued after same =
+step_after {task} {s} a {operator} {values} next state is fit valued after same =
     let far : length next ≡ length task.variables = same ∙ valued.each in
     let Goal : Option Operator → Type 0 = λ o. IsSomeAnd o (λ x. (var : ℕ) → IsBase task var → ValueAfter
     (Fires task s) x.effects var (get_or s (place task var) 0)

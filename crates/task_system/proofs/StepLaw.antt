@@ -93,7 +93,7 @@ after_values : (task : TaskParts) (s : List ℕ) (a : ℕ) (operator : Operator)
     → After task s a (base_values task.variables (fold (value_set values) values operator.effects))
 after_values task s a operator values state is fit valued =
     let on = all_on task values operator.effects valued.each (recursion_from_All (FitsEffect task.variables) operator.effects fit.each) in
-    step_after task s a operator values (fold (value_set values) values operator.effects) state is fit.each valued
+    step_after a (fold (value_set values) values operator.effects) state is fit.each valued
     (λ var. values_after values [] operator.effects values var on (inr (tt, refl)))
     (length_after values operator.effects values)
 

@@ -10,5 +10,5 @@ same-preserved c =
     record {
       rising = omega (arith, inv.rising);
       within = omega (arith, c.same-test.true);
-      same = same_more c.args.rules.now c.args.layer c.args.from c.same.end none c.same-test.true c.if-rules-end.true inv.same;
+      same = same_more c.args.rules.now c.same.end none c.same-test.true c.args.from c.if-rules-end.true inv.same;
     }

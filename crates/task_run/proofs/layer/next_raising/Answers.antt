@@ -99,10 +99,8 @@ looking-preserved-in-Continue-1 c =
     let found = subst (λ (n : ℕ). Lacks task c.args.layer c.args.values.now rule n c.in-WaitsFor.place var) from c.in-WaitsFor.ensures in
     record {
       kept = rw (stack, waiting) (kept_wait task rest old var x lt p.1 p.0);
-      placed = rw (stack, waiting) (lacks_waits task c.args.layer c.args.values.now rest old x rule c.index.result.now
-          c.in-WaitsFor.place var r.at c.in-WaitsFor.ensures lt but);
-      passed = rw places (passed_wait task c.args.layer c.args.values.now c.looking.work.places.items x rule
-          c.in-WaitsFor.place var r.at p.1 found c.looking.invariant.passed);
+      placed = rw (stack, waiting) (lacks_waits rest old x r.at c.in-WaitsFor.ensures lt but);
+      passed = rw places (passed_wait x r.at p.1 found c.looking.invariant.passed);
     }
 
 pub looking-preserved : goal.looking-preserved

@@ -26,7 +26,7 @@ returns c =
     let valued = subst (λ (z : List ℕ). Valued task s z) (sym c.as_slice-3.ensures) c.requires.valued in
     let after = subst (λ (es : List Effect). (var : ℕ) → ValueAfter (FiresBy values) es var (get_or values var 0)
     (get_or next var 0)) c.as_slice-2.ensures c.in_ok-next.ensures.values in
-    let done = step_after task s a operator values next c.requires.state at.0 at.1.each valued after c.in_ok-next.ensures.each in
+    let done = step_after a next c.requires.state at.0 at.1.each valued after c.in_ok-next.ensures.each in
     let variables : c.as_slice-4.result.now ≡ task.variables = c.as_slice-4.ensures ∙ ap (λ (x : TaskParts). x.variables) c.parts-parts.ensures.value in
     let all = if_ok c.base_values.result (λ t. t ≡ base_values c.as_slice-4.result.now c.deref.result.now) (λ t. After task s a t)
     (λ t e. subst (λ (z : List ℕ). After task s a z)

@@ -14,9 +14,9 @@ same-preserved c =
     record {
       rising = omega (arith, inv.rising);
       within = omega (arith, c.same-test.true);
-      same = same_more rules c.args.layer c.args.from end zero_counting c.same-test.true c.if-rules-end.true inv.same;
-      stacked = rw items (stacked_more rules old c.args.from end zero_counting c.same-test.true inv.stacked);
-      only = rw items (only_more rules c.args.self.now.stack.items old end zero_counting c.same-test.true inv.only);
+      same = same_more rules end zero_counting c.same-test.true c.args.from c.if-rules-end.true inv.same;
+      stacked = rw items (stacked_more rules end zero_counting c.same-test.true old c.args.from inv.stacked);
+      only = rw items (only_more rules end zero_counting c.same-test.true c.args.self.now.stack.items old inv.only);
       waiting = inv.waiting;
       places = inv.places;
     }

@@ -22,22 +22,19 @@ RulesAgree task s t = (var : ℕ) → IsBase task var → Unread task var ⊎ Ag
 pub turned : (task : TaskParts) (s t : List ℕ) → RulesAgree task s t → RulesAgree task t s
 turned task s t agree var on = elim (agree var on) [ inl u ↦ inl u | inr e ↦ inr (sym e) ]
 
-met_to : (task : TaskParts) (s t : List ℕ) (Low Lower : ℕ → Type 0) (layer : ℕ) (earlier : List Rule) (fact : Fact)
-    → ((var : ℕ) → Low var → Lower var) → ((var : ℕ) → Lower var → Low var)
-    → (IsBase task fact.var → Agree task s t fact.var) → Met task s Low layer earlier fact → Met task t Lower layer earlier fact
-met_to task s t Low Lower layer earlier fact to back agree (base b e) = base b (sym (agree b) ∙ e)
-met_to task s t Low Lower layer earlier fact to back agree (same l e h) = same l e h
-met_to task s t Low Lower layer earlier fact to back agree (raised below l lt e h) = raised below l lt e (to fact.var h)
-met_to task s t Low Lower layer earlier fact to back agree (default below l lt e h) = default below l lt e (λ k. h (back fact.var k))
+module _ (task : TaskParts) (s t : List ℕ) (Low Lower : ℕ → Type 0) (layer : ℕ) (earlier : List Rule)
+    (to : (var : ℕ) → Low var → Lower var) (back : (var : ℕ) → Lower var → Low var) where
+  met_to : (fact : Fact) → (IsBase task fact.var → Agree task s t fact.var) → Met task s Low layer earlier fact
+      → Met task t Lower layer earlier fact
+  met_to fact agree (base b e) = base b (sym (agree b) ∙ e)
+  met_to fact agree (same l e h) = same l e h
+  met_to fact agree (raised below l lt e h) = raised below l lt e (to fact.var h)
+  met_to fact agree (default below l lt e h) = default below l lt e (λ k. h (back fact.var k))
 
-mets_to : (task : TaskParts) (s t : List ℕ) (Low Lower : ℕ → Type 0) (layer : ℕ) (earlier : List Rule)
-    → ((var : ℕ) → Low var → Lower var) → ((var : ℕ) → Lower var → Low var)
-    → (facts : List Fact) → AllByRecursion (λ fact. IsBase task fact.var → Agree task s t fact.var) facts
-    → AllByRecursion (Met task s Low layer earlier) facts
-    → AllByRecursion (Met task t Lower layer earlier) facts
-mets_to task s t Low Lower layer earlier to back [] agree h = tt
-mets_to task s t Low Lower layer earlier to back (fact ∷ facts) agree h =
-    (met_to task s t Low Lower layer earlier fact to back agree.0 h.0, mets_to task s t Low Lower layer earlier to back facts agree.1 h.1)
+  mets_to : (facts : List Fact) → AllByRecursion (λ fact. IsBase task fact.var → Agree task s t fact.var) facts
+      → AllByRecursion (Met task s Low layer earlier) facts → AllByRecursion (Met task t Lower layer earlier) facts
+  mets_to [] agree h = tt
+  mets_to (fact ∷ facts) agree h = (met_to fact agree.0 h.0, mets_to facts agree.1 h.1)
 
 -- the conditions of a rule
 conds_agree : (task : TaskParts) (s t : List ℕ) (rule : Rule) → RulesAgree task s t → Contains task.rules rule

@@ -79,6 +79,16 @@ record Both (task : TaskParts) (a b : ℕ) (t u : List ℕ) : Type 0 where
   after_one : Step task t b v
   after_other : Step task u a v
 
+-- From one state the two operators lead to t and to u, and the other one leads on, from t to v and from u to w.
+record Square (task : TaskParts) (one other : Operator) (s t u v w : List ℕ) : Type 0 where
+  state : IsState task s
+  first : Allowed task s one
+  second : Allowed task s other
+  to_t : Leaves task s one t
+  to_u : Leaves task s other u
+  to_v : Leaves task t other v
+  to_w : Leaves task u one w
+
 module _ (task : TaskParts) (a b : ℕ) (one other : Operator) (fits : Fits task)
     (is_one : slice_get task.operators a ≡ Some one) (is_other : slice_get task.operators b ≡ Some other)
     (meets : MeetOnAll task one other one.effects) (met : MeetOnAll task one other other.effects) where
@@ -104,14 +114,23 @@ module _ (task : TaskParts) (a b : ℕ) (one other : Operator) (fits : Fits task
       let w = leads_on task u a one fits state_u is_one (applies_by task u a one is_one then_one) in
       let leaves_v = leaves_by task t b other v.0 is_other v.1.1 in
       let leaves_w = leaves_by task u a one w.0 is_one w.1.1 in
+      let square : Square task one other s t u v.0 w.0 = record {
+        state = state;
+        first = first;
+        second = second;
+        to_t = leaves_one;
+        to_u = leaves_other;
+        to_v = leaves_v;
+        to_w = leaves_w;
+      } in
       let same : w.0 ≡ v.0 = same_states task w.0 v.0 (step_state task u a w.0 fits state_u w.1).each
       ((step_state task t b v.0 fits state_t v.1).each ∙ sym (step_state task u a w.0 fits state_u w.1).each)
       (λ var on. elim (touch_one var) [
-        | inl none ↦ unwritten_one s t u v.0 w.0 state first second leaves_one leaves_other leaves_v leaves_w var on none
+        | inl none ↦ unwritten_one square var on none
         | inr (inl un) ↦ quiet task s u other one state fit_one second first leaves_other touch_other t w.0 leaves_one
             leaves_w var on (recursion_from_All (λ effect. effect.var ≡ var → ⊥) other.effects un.1)
             ∙ sym (unwritten_value t v.0 var on un leaves_v)
-        | inr (inr loc) ↦ at_locals s t u v.0 w.0 state first second leaves_one leaves_other leaves_v leaves_w var on loc
+        | inr (inr loc) ↦ at_locals square var on loc
       ]) in
       record { v = v.0; after_one = v.1; after_other = subst (λ (z : List ℕ). Step task u a z) same w.1 }
     where
@@ -121,27 +140,24 @@ module _ (task : TaskParts) (a b : ℕ) (one other : Operator) (fits : Fits task
           (get_or v (place task var) 0) (recursion_from_All (λ effect. effect.var ≡ var → ⊥) other.effects un.1)
           (leaves var on)
 
-      unwritten_one : (s t u v w : List ℕ) → IsState task s → Allowed task s one → Allowed task s other
-          → Leaves task s one t → Leaves task s other u → Leaves task t other v → Leaves task u one w → (var : ℕ)
+      unwritten_one : {s t u v w : List ℕ} → Square task one other s t u v w → (var : ℕ)
           → IsBase task var → Unwritten var one.effects → get_or w (place task var) 0 ≡ get_or v (place task var) 0
-      unwritten_one s t u v w state first second leaves_one leaves_other leaves_v leaves_w var on none =
-          unwritten (Fires task u) one.effects var (get_or u (place task var) 0) (get_or w (place task var) 0) none (leaves_w var on)
-          ∙ sym (quiet task s t one other state (fits_operator task b other fits is_other) first second leaves_one
-          touch_one u v leaves_other leaves_v var on none)
+      unwritten_one {s} {t} {u} {v} {w} q var on none =
+          unwritten (Fires task u) one.effects var (get_or u (place task var) 0) (get_or w (place task var) 0) none (q.to_w var on)
+          ∙ sym (quiet task s t one other q.state (fits_operator task b other fits is_other) q.first q.second q.to_t
+          touch_one u v q.to_u q.to_v var on none)
 
-      at_locals : (s t u v w : List ℕ) → IsState task s → Allowed task s one → Allowed task s other
-          → Leaves task s one t → Leaves task s other u → Leaves task t other v → Leaves task u one w
-          → (var : ℕ) → IsBase task var
+      at_locals : {s t u v w : List ℕ} → Square task one other s t u v w → (var : ℕ) → IsBase task var
           → (AreLocal var one.effects × AreLocal var other.effects
           × IsSomeAnd (slice_get task.variables var) (λ x. MeetEach task one other var (range x)))
           → get_or w (place task var) 0 ≡ get_or v (place task var) 0
-      at_locals s t u v w state first second leaves_one leaves_other leaves_v leaves_w var on loc =
+      at_locals {s} {t} {u} {v} {w} q var on loc =
           let val = get_or s (place task var) 0 in
-          let m = meet_at task s t one other state (fits_operator task b other fits is_other) first second leaves_one touch_one var on loc.2 in
-          let to_t = local_value task s one.effects var (get_or t (place task var) 0) on loc.0 (leaves_one var on) in
-          let to_u = local_value task s other.effects var (get_or u (place task var) 0) on loc.1 (leaves_other var on) in
-          let to_v = local_value task t other.effects var (get_or v (place task var) 0) on loc.1 (leaves_v var on) in
-          let to_w = local_value task u one.effects var (get_or w (place task var) 0) on loc.0 (leaves_w var on) in
+          let m = meet_at task s t one other q.state (fits_operator task b other fits is_other) q.first q.second q.to_t touch_one var on loc.2 in
+          let to_t = local_value task s one.effects var (get_or t (place task var) 0) on loc.0 (q.to_t var on) in
+          let to_u = local_value task s other.effects var (get_or u (place task var) 0) on loc.1 (q.to_u var on) in
+          let to_v = local_value task t other.effects var (get_or v (place task var) 0) on loc.1 (q.to_v var on) in
+          let to_w = local_value task u one.effects var (get_or w (place task var) 0) on loc.0 (q.to_w var on) in
           to_w ∙ ap (λ (z : ℕ). value_after one.effects var z) to_u ∙ sym m.same ∙ sym (ap (λ (z : ℕ). value_after other.effects var z) to_t) ∙ sym to_v
 
   pub commute_law : Commute (system_of task) a b
@@ -158,18 +174,23 @@ module _ (task : TaskParts) (a b : ℕ) (one other : Operator) (fits : Fits task
   }
 
 -- by what the test looked at
-pub test_law : (task parts : TaskParts) (operators : List Operator) (a b : ℕ) (one other : Operator)
-    (first second : List Effect) → Fits task → parts ≡ task → operators ≡ parts.operators
-    → a < length task.operators → b < length task.operators
-    → one ≡ get_or operators a one → other ≡ get_or operators b other → first ≡ one.effects → second ≡ other.effects
+-- The operator is the one of this number among them, and these are its effects.
+pub record IsTaken (task : TaskParts) (operators : List Operator) (a : ℕ) (operator : Operator) (effects : List Effect) : Type 0 where
+  pub within : a < length task.operators
+  pub is : operator ≡ get_or operators a operator
+  pub has : effects ≡ operator.effects
+
+pub test_law : {task parts : TaskParts} {operators : List Operator} {a b : ℕ} {one other : Operator}
+    {first second : List Effect} → Fits task → parts ≡ task → operators ≡ parts.operators
+    → IsTaken task operators a one first → IsTaken task operators b other second
     → MeetOnAll parts one other first → MeetOnAll parts one other second → Commute (system_of task) a b
-test_law task parts operators a b one other first second fits same list lt_a lt_b is_one is_other firsts seconds meets met =
+test_law {task} {parts} {operators} {a} {b} {one} {other} {first} {second} fits same list taken took meets met =
     let all : operators ≡ task.operators = list ∙ ap (λ (z : TaskParts). z.operators) same in
-    let at_a = operator_at task operators a one fits all lt_a is_one in
-    let at_b = operator_at task operators b other fits all lt_b is_other in
+    let at_a = operator_at task operators a one fits all taken.within taken.is in
+    let at_b = operator_at task operators b other fits all took.within took.is in
     commute_law task a b one other fits at_a.0 at_b.0
-    (subst (λ (z : TaskParts). MeetOnAll z one other one.effects) same (subst (MeetOnAll parts one other) firsts meets))
-    (subst (λ (z : TaskParts). MeetOnAll z one other other.effects) same (subst (MeetOnAll parts one other) seconds met))
+    (subst (λ (z : TaskParts). MeetOnAll z one other one.effects) same (subst (MeetOnAll parts one other) taken.has meets))
+    (subst (λ (z : TaskParts). MeetOnAll z one other other.effects) same (subst (MeetOnAll parts one other) took.has met))
 
 -- what holds by the range of a variable
 pub by_range : (P : ℕ → Type 0) (o : Option Variable) (n : ℕ) → Some n ≡ option_map range o → P n → IsSomeAnd o (λ v. P (range v))

@@ -68,18 +68,27 @@ one_fits metric v goal operators m fits bits some goal_fits few each = record {
   each_rule = All-nil (FitsRule (plain metric (v ∷ []) (0 ∷ []) goal operators));
 }
 
+-- The two variables fit, and so does what each has at first.
+record FitBoth (v w : Variable) (x y : ℕ) : Type 0 where
+  first : FitsVariable v
+  second : FitsVariable w
+  bits : sum_by bits_of (v ∷ w ∷ []) ≤ 65536
+  first_value : x < range v
+  second_value : y < range w
+
 -- with two variables
-two_fits : (v w : Variable) (x y : ℕ) (goal : List Fact) (operators : List Operator) → FitsVariable v → FitsVariable w → sum_by bits_of (v ∷ w ∷ []) ≤ 65536 → x < range v → y < range w →
-    AreFacts (v ∷ w ∷ []) goal → length operators ≤ 1000000 → AllByRecursion (FitsOperator (v ∷ w ∷ [])) operators → Fits (plain 0 (v ∷ w ∷ []) (x ∷ y ∷ []) goal operators)
-two_fits v w x y goal operators v_fits w_fits bits first second goal_fits few each = record {
+two_fits : {v w : Variable} {x y : ℕ} (goal : List Fact) (operators : List Operator) → FitBoth v w x y
+    → AreFacts (v ∷ w ∷ []) goal → length operators ≤ 1000000 → AllByRecursion (FitsOperator (v ∷ w ∷ [])) operators
+    → Fits (plain 0 (v ∷ w ∷ []) (x ∷ y ∷ []) goal operators)
+two_fits {v} {w} {x} {y} goal operators fit goal_fits few each = record {
   metric = lit< tt;
   variables = lit≤ tt;
-  each_variable = All-from_recursion FitsVariable (v ∷ w ∷ []) (v_fits, (w_fits, tt));
-  bits = bits;
+  each_variable = All-from_recursion FitsVariable (v ∷ w ∷ []) (fit.first, (fit.second, tt));
+  bits = fit.bits;
   mutexes = lit≤ tt;
   each_mutex = All-nil (AreFacts (v ∷ w ∷ []));
   initial = refl;
-  each_value = two_values v w x y first second;
+  each_value = two_values v w x y fit.first_value fit.second_value;
   goal = goal_fits;
   operators = few;
   each_operator = All-from_recursion (FitsOperator (v ∷ w ∷ [])) operators each;
@@ -133,7 +142,14 @@ unfolding goes_on width doublings
 two_switches_fits =
     let a = lamp (codes "a") in
     let b = lamp (codes "b") in
-    two_fits a b 0 0 (fact 0 1 ∷ fact 1 1 ∷ []) (change (codes "a-on") 0 0 1 1 ∷ change (codes "b-on") 1 0 1 1 ∷ []) (lamp_fits (codes "a") refl) (lamp_fits (codes "b") refl) (lit≤ tt) (lit< tt) (lit< tt)
+    let fit : FitBoth a b 0 0 = record {
+      first = lamp_fits (codes "a") refl;
+      second = lamp_fits (codes "b") refl;
+      bits = lit≤ tt;
+      first_value = lit< tt;
+      second_value = lit< tt;
+    } in
+    two_fits (fact 0 1 ∷ fact 1 1 ∷ []) (change (codes "a-on") 0 0 1 1 ∷ change (codes "b-on") 1 0 1 1 ∷ []) fit
     (facts (a ∷ b ∷ []) (fact 0 1 ∷ fact 1 1 ∷ []) (lit≤ tt) (lit< tt, (lit< tt, tt))) (lit≤ tt) (
       first_changes a (b ∷ []) (codes "a-on") 0 1 1 refl refl (lit< tt) (lit< tt),
       (second_changes a b (codes "b-on") 0 1 1 refl refl (lit< tt) (lit< tt), tt),
@@ -154,7 +170,14 @@ unfolding goes_on width doublings
 no_plan_fits =
     let a = lamp (codes "aim") in
     let b = lamp (codes "lamp") in
-    two_fits a b 0 0 (fact 0 1 ∷ []) (change (codes "up") 1 0 1 1 ∷ change (codes "down") 1 1 0 1 ∷ []) (lamp_fits (codes "aim") refl) (lamp_fits (codes "lamp") refl) (lit≤ tt) (lit< tt) (lit< tt)
+    let fit : FitBoth a b 0 0 = record {
+      first = lamp_fits (codes "aim") refl;
+      second = lamp_fits (codes "lamp") refl;
+      bits = lit≤ tt;
+      first_value = lit< tt;
+      second_value = lit< tt;
+    } in
+    two_fits (fact 0 1 ∷ []) (change (codes "up") 1 0 1 1 ∷ change (codes "down") 1 1 0 1 ∷ []) fit
     (facts (a ∷ b ∷ []) (fact 0 1 ∷ []) (lit≤ tt) (lit< tt, tt)) (lit≤ tt) (
       second_changes a b (codes "up") 0 1 1 refl refl (lit< tt) (lit< tt),
       (second_changes a b (codes "down") 1 0 1 refl refl (lit< tt) (lit< tt), tt),
@@ -227,8 +250,17 @@ swap_fits = record {
 
 pub conditional_effects_fits : Fits conditional_effects
 unfolding goes_on width doublings
-conditional_effects_fits = two_fits (base (codes "a") (codes "a0" ∷ codes "a1" ∷ [])) (base (codes "b") (codes "b0" ∷ codes "b1" ∷ [])) 1 0 (fact 0 0 ∷ fact 1 1 ∷ []) (swap ∷ [])
-    (pair_fits (codes "a") (codes "a0") (codes "a1") refl refl refl) (pair_fits (codes "b") (codes "b0") (codes "b1") refl refl refl) (lit≤ tt) (lit< tt) (lit< tt)
+conditional_effects_fits =
+    let a = base (codes "a") (codes "a0" ∷ codes "a1" ∷ []) in
+    let b = base (codes "b") (codes "b0" ∷ codes "b1" ∷ []) in
+    let fit : FitBoth a b 1 0 = record {
+      first = pair_fits (codes "a") (codes "a0") (codes "a1") refl refl refl;
+      second = pair_fits (codes "b") (codes "b0") (codes "b1") refl refl refl;
+      bits = lit≤ tt;
+      first_value = lit< tt;
+      second_value = lit< tt;
+    } in
+    two_fits (fact 0 0 ∷ fact 1 1 ∷ []) (swap ∷ []) fit
     (facts a_and_b (fact 0 0 ∷ fact 1 1 ∷ []) (lit≤ tt) (lit< tt, (lit< tt, tt))) (lit≤ tt) (swap_fits, tt)
 
 -- values of the one variable that has two

@@ -17,7 +17,8 @@ record IsLast (F : Effect → Type 0) (var : ℕ) (last : Effect) (later : List 
   fires : F last
   none : NoneOn F var later
 
-is_last : {F : Effect → Type 0} {var : ℕ} {effects : List Effect} {last : Effect} → (a : LastOn F var effects last) → IsLast F var last a.later
+is_last : {F : Effect → Type 0} {var : ℕ} {effects : List Effect} {last : Effect} → (a : LastOn F var effects last)
+    → IsLast F var last a.later
 is_last a = record { on = a.on; fires = a.fires; none = a.none }
 
 last_one : {F : Effect → Type 0} {var : ℕ} (b1 : List Effect) {r1 : List Effect} (b2 : List Effect) {r2 : List Effect}
@@ -33,7 +34,8 @@ last_one {F} {var} (x ∷ b1) {r1} (y ∷ b2) {r2} {l1} {l2} e h k =
 pub value_one : (F : Effect → Type 0) (es : List Effect) (var old x y : ℕ) → ValueAfter F es var old x → ValueAfter F es var old y → x ≡ y
 value_one F es var old x y (inl p) (inl q) =
     let a = p.1 in let b = q.1 in
-    p.2 ∙ ap (λ (z : Effect). z.post) (last_one a.before b.before (sym a.here ∙ b.here) (is_last a) (is_last b)) ∙ sym q.2
+    p.2 ∙ ap (λ (z : Effect). z.post) (last_one a.before b.before (sym a.here ∙ b.here) (is_last a) (is_last b))
+        ∙ sym q.2
 value_one F es var old x y (inl p) (inr q) = (let a = p.1 in absurd (none_at F var a.before a.later p.0 (subst (NoneOn F var) a.here q.0) a.on a.fires))
 value_one F es var old x y (inr p) (inl q) = (let a = q.1 in absurd (none_at F var a.before a.later q.0 (subst (NoneOn F var) a.here p.0) a.on a.fires))
 value_one F es var old x y (inr p) (inr q) = p.1 ∙ sym q.1

@@ -82,17 +82,22 @@ module _ (rules : List Counting) (end : ℕ) (c : Counting) (within : end < leng
 
   pub stacked_more : (stack : List ℕ) (from : ℕ)
       → ((k : ℕ) (d : Counting) → from ≤ k → k < end → Stands stack (get_or rules k d).rule)
-      → (k : ℕ) (d : Counting) → from ≤ k → k < end + 1 → Stands (stack ++ (get_or rules end c).rule ∷ []) (get_or rules k d).rule
+      → (k : ℕ) (d : Counting) → from ≤ k → k < end + 1
+      → Stands (stack ++ (get_or rules end c).rule ∷ []) (get_or rules k d).rule
   stacked_more stack from h k d low lt = elim (cases_eq k end) [
     | inl same ↦ (
-        let it : get_or rules k d ≡ get_or rules end c = ap (λ (z : ℕ). get_or rules z d) same ∙ get_or_default rules end d c within in
-        stands_right stack ((get_or rules end c).rule ∷ []) (get_or rules k d).rule (inl (ap (λ (z : Counting). z.rule) (sym it))))
-    | inr ne ↦ (let ne2 : k ≡ end → ⊥ = ne in stands_left stack ((get_or rules end c).rule ∷ []) (get_or rules k d).rule (h k d low (omega (arith, ne2, lt))))
+        let it : get_or rules k d ≡ get_or rules end c = ap (λ (z : ℕ). get_or rules z d) same
+            ∙ get_or_default rules end d c within in
+        stands_right stack ((get_or rules end c).rule ∷ []) (get_or rules k d).rule
+            (inl (ap (λ (z : Counting). z.rule) (sym it))))
+    | inr ne ↦ (let ne2 : k ≡ end → ⊥ = ne in
+        stands_left stack ((get_or rules end c).rule ∷ []) (get_or rules k d).rule (h k d low (omega (arith, ne2, lt))))
   ]
 
   pub only_more : (old stack : List ℕ)
       → ((x : ℕ) → Stands stack x → Stands old x ⊎ Any (λ (counting : Counting). counting.rule ≡ x) rules)
-      → (x : ℕ) → Stands (stack ++ (get_or rules end c).rule ∷ []) x → Stands old x ⊎ Any (λ (counting : Counting). counting.rule ≡ x) rules
+      → (x : ℕ) → Stands (stack ++ (get_or rules end c).rule ∷ []) x
+      → Stands old x ⊎ Any (λ (counting : Counting). counting.rule ≡ x) rules
   only_more old stack h x s = elim (stands_parts stack ((get_or rules end c).rule ∷ []) x s) [
     | inl p ↦ h x p
     | inr p ↦ elim p [

@@ -88,13 +88,17 @@ one_verdict task p (StopsAt a) (StopsAt b) fits h k = elim (cases_order (a - 1) 
     | inr lt ↦ absurd (one_stop task p (b - 1) (a - 1) fits k.1 h.1 lt)
   ]
 ]
-one_verdict task p (StopsAt a) MissesGoal fits h k = absurd (not_further p k.t fits h.1 k.initial refl refl h.1.within k.runs)
-one_verdict task p (StopsAt a) (Reaches c) fits h k = absurd (not_further p k.0.1 fits h.1 k.0.2 refl refl h.1.within k.0.3)
+one_verdict task p (StopsAt a) MissesGoal fits h k =
+    absurd (not_further p k.t fits h.1 k.initial refl refl h.1.within k.runs)
+one_verdict task p (StopsAt a) (Reaches c) fits h k =
+    absurd (not_further p k.0.1 fits h.1 k.0.2 refl refl h.1.within k.0.3)
 one_verdict task p MissesGoal (NoSuchOperator b) fits h k = absurd (no_number task p (b - 1) h.s h.t k.1 h.runs)
-one_verdict task p MissesGoal (StopsAt b) fits h k = absurd (not_further p h.t fits k.1 h.initial refl refl k.1.within h.runs)
+one_verdict task p MissesGoal (StopsAt b) fits h k =
+    absurd (not_further p h.t fits k.1 h.initial refl refl k.1.within h.runs)
 one_verdict task p MissesGoal MissesGoal fits h k = refl
 one_verdict task p MissesGoal (Reaches c) fits h k = absurd (goal_both task p fits h k.0)
 one_verdict task p (Reaches c) (NoSuchOperator b) fits h k = absurd (no_number task p (b - 1) h.0.0 h.0.1 k.1 h.0.3)
-one_verdict task p (Reaches c) (StopsAt b) fits h k = absurd (not_further p h.0.1 fits k.1 h.0.2 refl refl k.1.within h.0.3)
+one_verdict task p (Reaches c) (StopsAt b) fits h k =
+    absurd (not_further p h.0.1 fits k.1 h.0.2 refl refl k.1.within h.0.3)
 one_verdict task p (Reaches c) MissesGoal fits h k = absurd (goal_both task p fits k h.0)
 one_verdict task p (Reaches c) (Reaches d) fits h k = ap (λ (z : ℕ). Reaches z) (h.1 ∙ sym k.1)

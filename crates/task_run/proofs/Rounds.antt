@@ -45,7 +45,7 @@ pub none_closed : {task : TaskParts} {s : List ℕ} {rules : List Counting} {val
     → ((var : ℕ) → var < length task.variables → get_or values var 0 ≡ start_value task.variables task.initial s var)
     → stack ≡ [] → waiting ≡ replicate (length task.variables) [] → places ≡ replicate (length task.rules) 0
     → IsClosedTo task s rules 0 values stack waiting places
-none_closed {task} {s} {rules} {values} {stack} {waiting} {places} fits each start_values no_stack no_waiting no_places = record {
+none_closed {task} {s} {rules} {values} fits each start_values no_stack no_waiting no_places = record {
   layer = 0;
   within = omega arith;
   below = started task s values fits each start_values;
@@ -103,7 +103,7 @@ pub begin_layer : {task : TaskParts} {s : List ℕ} {rules : List Counting} {at 
     → AreRulesOf task rules → IsClosedTo task s rules at values stack waiting places → IsNext rules at end layer c
     → ((k : ℕ) (d : Counting) → at ≤ k → k < end → Stands new (get_or rules k d).rule)
     → ((x : ℕ) → Stands new x → Stands stack x ⊎ Any (λ (counting : Counting). counting.rule ≡ x) rules) → IsReady task s layer values new waiting places
-begin_layer {task} {s} {rules} {at} {end} {layer} {c} {values} {stack} new {waiting} {places} fits are i next stand only = record {
+begin_layer {task} {s} {rules} {at} {end} {layer} {c} {values} new {waiting} fits are i next stand only = record {
   below = subst (λ (z : ℕ). Below task s z values) (let e : (layer - i.layer) + i.layer ≡ layer = omega
       (arith, low) in e) (skip task s values (layer - i.layer) i.layer fits none i.below);
   fresh = record { each = i.fresh.each; later = λ x rule high at own far. i.fresh.later x rule high at own (λ k. far (omega (arith, k, low))) };
@@ -163,14 +163,13 @@ begin_layer {task} {s} {rules} {at} {end} {layer} {c} {values} {stack} new {wait
     ]
 
 pub end_layer : {task : TaskParts} {s : List ℕ} {rules : List Counting} {at end layer : ℕ} {c : Counting}
-    {values stack next next_stack : List ℕ} {waiting next_waiting : List (List ℕ)} {places next_places : List ℕ}
+    {values next stack next_stack : List ℕ} {waiting next_waiting : List (List ℕ)} {places next_places : List ℕ}
     → Fits task → AreRulesOf task rules
     → IsClosedTo task s rules at values stack waiting places → Below task s layer values → IsNext rules at end layer c
     → Grows task layer values next → IsStuck task layer next → Kept task next_stack next_waiting
     → IsFresh task (layer + 1) next_places → IsClosedTo task s rules end next next_stack next_waiting
     next_places
-end_layer {task} {s} {rules} {at} {end} {layer} {c} {values} {stack} {next} {next_stack} {waiting} {next_waiting}
-    {places} {next_places} fits are i below n grows stuck kept fresh =
+end_layer {task} {s} {rules} {at} {end} {layer} {c} {values} {next} fits are i below n grows stuck kept fresh =
     let is = n.here in
     let l = n.is_layer in
     record {
@@ -181,7 +180,8 @@ end_layer {task} {s} {rules} {at} {end} {layer} {c} {values} {stack} {next} {nex
       fresh = fresh;
       kept = kept;
       past = λ k d near. elim (cases_lt k at) [
-        | inl before ↦ (let h = i.past k d before in let h2 = i.left at c (omega arith) n.within in omega (arith, h, h2, is))
+        | inl before ↦ (let h = i.past k d before in let h2 = i.left at c (omega arith) n.within in
+            omega (arith, h, h2, is))
         | inr after ↦ (let h = l.same k d after near in omega (arith, h))
       ];
       left = λ k d far within. (
@@ -198,7 +198,7 @@ end_layer {task} {s} {rules} {at} {end} {layer} {c} {values} {stack} {next} {nex
 pub all_closed : {task : TaskParts} {s : List ℕ} {rules : List Counting} {at : ℕ} {values stack : List ℕ}
     {waiting : List (List ℕ)} {places : List ℕ} → Fits task → AreRulesOf task rules
     → IsClosedTo task s rules at values stack waiting places → length rules ≤ at → Valued task s values
-all_closed {task} {s} {rules} {at} {values} {stack} {waiting} {places} fits are i all =
+all_closed {task} {s} {rules} {at} {values} fits are i all =
     valued task s (65536 + i.layer) values fits most (skip task s values 65536 i.layer fits none i.below)
   where
     none : (rule : Rule) (high : ℕ) → Contains task.rules rule → IsOwn task high rule → i.layer ≤ high → high < 65536 + i.layer → ⊥

@@ -19,7 +19,8 @@ both : {X : Type 0} (P Q : X → Type 0) (o : Option X) → IsSomeAnd o P → If
 both P Q None h k = h
 both P Q (Some x) h k = k h
 
-pub step_after : {task : TaskParts} {s : List ℕ} (a : ℕ) {operator : Operator} {values : List ℕ} (next : List ℕ) → IsState task s
+pub step_after : {task : TaskParts} {s : List ℕ} (a : ℕ) {operator : Operator} {values : List ℕ} (next : List ℕ)
+    → IsState task s
     → slice_get task.operators a ≡ Some operator → All (FitsEffect task.variables) operator.effects
     → Valued task s values
     → ((var : ℕ) → ValueAfter (FiresBy values) operator.effects var (get_or values var 0) (get_or next var 0))

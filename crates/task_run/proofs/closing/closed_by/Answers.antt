@@ -33,7 +33,8 @@ returns-then-is_empty c =
     let places : List ℕ = replicate (length parts.rules) 0 in
     let none : IsClosedTo parts c.args.state.now rules 0 values [] waiting places = none_closed fits
     (c.in_ok-values.ensures.each ∙ ap (λ (z : List Variable). length z) c.as_slice-variables.ensures)
-    (starts parts values c.as_slice-variables.ensures c.as_slice.ensures c.as_slice-2.ensures c.in_ok-values.ensures.values)
+    (starts parts values c.as_slice-variables.ensures c.as_slice.ensures c.as_slice-2.ensures
+        c.in_ok-values.ensures.values)
     refl refl refl in
     let all = all_closed fits are none
     (omega (arith, eqb-true (length rules) 0 (sym c.if-is_empty.ensures))) in
@@ -67,7 +68,8 @@ close_layer-requires-clause-kept c =
     let are = same_rules c.args.task.now parts c.args.rules.now rules c.parts-parts.ensures.value c.as_slice-counting.ensures c.requires.rules in
     let told = c.in_ok-at.ensures in
     let inv = c.layers.invariant in
-    let next : IsNext rules at end layer zero_counting = record { within = c.layers-test.true; here = refl; is_layer = told.layer } in
+    let next : IsNext rules at end layer zero_counting =
+    record { within = c.layers-test.true; here = refl; is_layer = told.layer } in
     let ready = begin_layer new.stack.items fits are inv next told.stacked told.only in
     subst (λ (z : List (List ℕ)). Kept parts new.stack.items z) (sym told.waiting) ready.kept
 
@@ -85,7 +87,8 @@ close_layer-requires-clause-placed c =
     let are = same_rules c.args.task.now parts c.args.rules.now rules c.parts-parts.ensures.value c.as_slice-counting.ensures c.requires.rules in
     let told = c.in_ok-at.ensures in
     let inv = c.layers.invariant in
-    let next : IsNext rules at end layer zero_counting = record { within = c.layers-test.true; here = refl; is_layer = told.layer } in
+    let next : IsNext rules at end layer zero_counting =
+    record { within = c.layers-test.true; here = refl; is_layer = told.layer } in
     let ready = begin_layer new.stack.items fits are inv next told.stacked told.only in
     subst (λ (z : List (List ℕ)). AllPlaced parts layer c.layers.values.items new.stack.items z) (sym told.waiting) ready.placed
 
@@ -103,7 +106,8 @@ layers-preserved c =
     let are = same_rules c.args.task.now parts c.args.rules.now rules c.parts-parts.ensures.value c.as_slice-counting.ensures c.requires.rules in
     let told = c.in_ok-at.ensures in
     let inv = c.layers.invariant in
-    let next : IsNext rules at end layer zero_counting = record { within = c.layers-test.true; here = refl; is_layer = told.layer } in
+    let next : IsNext rules at end layer zero_counting =
+    record { within = c.layers-test.true; here = refl; is_layer = told.layer } in
     let ready = begin_layer new.stack.items fits are inv next told.stacked told.only in
     let done = c.in_ok-close_layer.ensures in
     end_layer fits are inv ready.below next done.grows done.stuck done.kept done.fresh

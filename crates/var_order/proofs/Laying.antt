@@ -238,10 +238,10 @@ of_state task o s order state = record {
 
 -- the same of the list that the loop goes over
 
-pub lays_next : (variables there : List Variable) (i : ℕ) (o more : Layout) (v : Variable) → there ≡ variables
+pub lays_next : {variables there : List Variable} {i : ℕ} {o more : Layout} {v : Variable} → there ≡ variables
     → IsLayout o → Lays variables i o → i < length there → v ≡ get_or there i v → Extends o v more
     → Lays variables (i + 1) more
-lays_next variables there i o more v same l lays lt is extends =
+lays_next {variables} {there} {i} {o} {more} {v} same l lays lt is extends =
     lays_more variables i o more v l lays (subst (λ (x : List Variable). i < length x) same lt) (is ∙ ap (λ (x : List Variable). get_or x i v) same) extends
 
 pub order_at : (task : TaskParts) (there : List Variable) (i : ℕ) (o : Layout) → there ≡ task.variables → IsLayout o

@@ -132,13 +132,22 @@ pub ok_by : {T E : Type 0} (r : Result T E) (P Q : T → Type 0) → IfOk r P �
 ok_by (Ok x) P Q h f = f x h
 ok_by (Err e) P Q h f = tt
 
-pub reduced_after : {E : Type 0} (xs ys : List Node) (n : Node) (r : Result ℕ E) → IsReduced xs → n.lo < length xs → n.hi < length xs → (n.lo ≡ n.hi → ⊥)
-    → n.level < level_of xs n.lo → n.level < level_of xs n.hi → IfOk r (Adds xs n ys) → OnErr r (ys ≡ xs) → IsReduced ys
-reduced_after xs ys n (Ok id) r lo hi differ lo_below hi_below a e = elim (a.how) [
+-- The node's children are two of the list, and stand below it.
+pub record IsAbove (xs : List Node) (n : Node) : Type 0 where
+  pub lo : n.lo < length xs
+  pub hi : n.hi < length xs
+  pub differ : n.lo ≡ n.hi → ⊥
+  pub lo_below : n.level < level_of xs n.lo
+  pub hi_below : n.level < level_of xs n.hi
+
+pub reduced_after : {E : Type 0} (xs ys : List Node) (n : Node) (r : Result ℕ E) → IsReduced xs → IsAbove xs n
+    → IfOk r (Adds xs n ys) → OnErr r (ys ≡ xs) → IsReduced ys
+reduced_after xs ys n (Ok id) r above a e = elim (a.how) [
   | inl same ↦ subst IsReduced (sym same) r
-  | inr p ↦ subst IsReduced (sym p.0) (reduced_push xs n r lo hi differ lo_below hi_below p.2)
+  | inr p ↦ subst IsReduced (sym p.0)
+      (reduced_push xs n r above.lo above.hi above.differ above.lo_below above.hi_below p.2)
 ]
-reduced_after xs ys n (Err x) r lo hi differ lo_below hi_below a e = subst IsReduced (sym e) r
+reduced_after xs ys n (Err x) r above a e = subst IsReduced (sym e) r
 
 pub grows_adds : (xs ys : List Node) (n : Node) (id : ℕ) → Adds xs n ys id → Grows xs ys
 grows_adds xs ys n id a = elim (a.how) [

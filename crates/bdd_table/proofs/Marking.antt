@@ -29,12 +29,13 @@ root_marked xs roots marks i h known before only = (
       | inr (inr a) ↦ get_or-set_other marks (slice_index roots i) k true false (λ e. absurd (omega arith)) ∙ m
     ]
 
-pub marked_step : (xs : List Node) (roots : List ℕ) (before after : List Bool) (id : ℕ) → MarkedFrom xs roots before (id + 1) → length after ≡ length before
+pub marked_step : {xs : List Node} {roots : List ℕ} {before after : List Bool} (id : ℕ)
+    → MarkedFrom xs roots before (id + 1) → length after ≡ length before
     → ((k : ℕ) → is_marked before k ≡ true → is_marked after k ≡ true) → ((k : ℕ) → id ≤ k → is_marked after k ≡ is_marked before k)
     → (is_marked before id ≡ true → is_marked after (at xs id).lo ≡ true) → (is_marked before id ≡ true → is_marked after (at xs id).hi ≡ true)
     → ((k : ℕ) → is_marked after k ≡ true → (is_marked before k ≡ true) ⊎ ((is_marked before id ≡ true) × ((k ≡ (at xs id).lo) ⊎ (k ≡ (at xs id).hi))))
     → MarkedFrom xs roots after id
-marked_step xs roots before after id was len kept later mark_lo mark_hi only = record {
+marked_step {xs} {roots} {before} {after} id was len kept later mark_lo mark_hi only = record {
   as_long = len ∙ was.as_long;
   roots_marked = λ i h. kept _ (was.roots_marked i h);
   lo_marked = λ j from two known m. let b = sym (later j from) ∙ m in elim (order id j) [

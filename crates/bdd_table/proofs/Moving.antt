@@ -8,16 +8,24 @@ use Rattle.bdd_table.proofs.Meaning.{split, means_chosen, means_grown, means_fal
 use Rattle.bdd_table.proofs.Canonical.{canonical, constant_level, order}
 use Rattle.bdd_table.proofs.Adding.{grows_adds, node_meaning, length_pushed}
 
+-- The node's children have their places, which are lo and hi.
+pub record HasPlaces (old before : List Node) (places : List ℕ) (id lo hi level : ℕ) : Type 0 where
+  pub level_is : level ≡ level_of old id
+  pub lo_is : lo ≡ slice_index places (at old id).lo
+  pub hi_is : hi ≡ slice_index places (at old id).hi
+  pub lo_moved : IsMoved old before (at old id).lo (slice_index places (at old id).lo)
+  pub hi_moved : IsMoved old before (at old id).hi (slice_index places (at old id).hi)
+
 -- where children have their places, a node that is added for an Id has the place of the Id
-pub placed_node : {E : Type 0} (old before new : List Node) (places : List ℕ) (id lo hi level : ℕ) (r : Result ℕ E)
+pub placed_node : {E : Type 0} {old before new : List Node} (places : List ℕ) (id : ℕ) {lo hi level : ℕ}
+    (r : Result ℕ E)
     → IsReduced old → IsReduced before → IsReduced new → 2 ≤ id → id < length old
-    → level ≡ level_of old id → lo ≡ slice_index places (at old id).lo → hi ≡ slice_index places (at old id).hi
-    → IsMoved old before (at old id).lo (slice_index places (at old id).lo) → IsMoved old before (at old id).hi (slice_index places (at old id).hi)
+    → HasPlaces old before places id lo hi level
     → IfOk r (λ place. lo ≢ hi → Adds before (node_of level lo hi) new place) → IfOk r (IsPlaced old before new places id)
-placed_node old before new places id lo hi level (Err e) ro rb rn two known el elo ehi ml mh added = tt
-placed_node old before new places id lo hi level (Ok place) ro rb rn two known el elo ehi ml mh added = record {
-  moved = record { known = a.known; level = ap (λ (m : Node). m.level) a.is ∙ el; meaning = meaning };
-  is = a.is ∙ (λ k. node_of (el k) (elo k) (ehi k));
+placed_node places id (Err e) ro rb rn two known has added = tt
+placed_node {E} {old} {before} {new} places id {lo} {hi} {level} (Ok place) ro rb rn two known has added = record {
+  moved = record { known = a.known; level = ap (λ (m : Node). m.level) a.is ∙ has.level_is; meaning = meaning };
+  is = a.is ∙ (λ k. node_of (has.level_is k) (has.lo_is k) (has.hi_is k));
   only = λ p from to. elim a.how [
     | inl same ↦ absurd (omega (arith, from, to, ap (λ (l : List Node). length l) same))
     | inr n ↦ omega (arith, from, to, ap (λ (l : List Node). length l) n.0, length_pushed before (node_of level lo hi), n.1)
@@ -27,7 +35,8 @@ placed_node old before new places id lo hi level (Ok place) ro rb rn two known e
     differ : lo ≢ hi
     differ e = let i = ro.inner id two known in
         i.differ (canonical old ro (at old id).lo (at old id).hi (omega (arith, i.lo_before)) (omega (arith, i.hi_before))
-        (λ b. sym (ml.meaning b) ∙ ap (λ k. means before k b) (sym elo ∙ e ∙ ehi) ∙ mh.meaning b))
+        (λ b. sym (has.lo_moved.meaning b) ∙ ap (λ k. means before k b) (sym has.lo_is ∙ e ∙ has.hi_is)
+            ∙ has.hi_moved.meaning b))
 
     a : Adds before (node_of level lo hi) new place
     a = added differ
@@ -36,10 +45,14 @@ placed_node old before new places id lo hi level (Ok place) ro rb rn two known e
     grows = grows_adds before new (node_of level lo hi) place a
 
     lo_meaning : (b : Bits) → means new lo b ≡ means old (at old id).lo b
-    lo_meaning b = ap (λ k. means new k b) elo ∙ means_grown before rb new grows b (slice_index places (at old id).lo) ml.known ∙ ml.meaning b
+    lo_meaning b = ap (λ k. means new k b) has.lo_is
+        ∙ means_grown before rb new grows b (slice_index places (at old id).lo) has.lo_moved.known
+        ∙ has.lo_moved.meaning b
 
     hi_meaning : (b : Bits) → means new hi b ≡ means old (at old id).hi b
-    hi_meaning b = ap (λ k. means new k b) ehi ∙ means_grown before rb new grows b (slice_index places (at old id).hi) mh.known ∙ mh.meaning b
+    hi_meaning b = ap (λ k. means new k b) has.hi_is
+        ∙ means_grown before rb new grows b (slice_index places (at old id).hi) has.hi_moved.known
+        ∙ has.hi_moved.meaning b
 
     out : (b : Bits) (v : Bool) → cond v (means old (at old id).hi b) (means old (at old id).lo b) ≡ means old (cond v (at old id).hi (at old id).lo) b
     out b true = refl
@@ -47,7 +60,7 @@ placed_node old before new places id lo hi level (Ok place) ro rb rn two known e
 
     meaning : (b : Bits) → means new place b ≡ means old id b
     meaning b = node_meaning new rn level lo hi place a.known a.is b
-        ∙ (λ k. cond (b (el k)) (hi_meaning b k) (lo_meaning b k))
+        ∙ (λ k. cond (b (has.level_is k)) (hi_meaning b k) (lo_meaning b k))
         ∙ out b (b (level_of old id)) ∙ sym (means_chosen old ro b id known)
 
 pub moved_grown : (old before new : List Node) → IsReduced before → Grows before new → (id place : ℕ) → IsMoved old before id place → IsMoved old new id place

@@ -23,6 +23,5 @@ nodes-preserved c =
     let was : MarkedFrom c.args.table.now c.args.roots.now c.nodes.marks.items (id + 1) =
     subst (MarkedFrom c.args.table.now c.args.roots.now c.nodes.marks.items) next c.nodes.invariant in
     subst (MarkedFrom c.args.table.now c.args.roots.now c.mark_children.new.marks.items) same
-    (marked_step c.args.table.now c.args.roots.now c.nodes.marks.items c.mark_children.new.marks.items id was
-    c.mark_children.ensures.as_long c.mark_children.ensures.kept c.mark_children.ensures.later
+    (marked_step id was c.mark_children.ensures.as_long c.mark_children.ensures.kept c.mark_children.ensures.later
     c.mark_children.ensures.lo c.mark_children.ensures.hi c.mark_children.ensures.only)

@@ -20,10 +20,10 @@ module _ (o : Layout) (nodes : List Node) (set : ℕ) (starts slots : List ℕ) 
   below_or_at : (k n : ℕ) → k < n + 1 → (k < n) ⊎ (k ≡ n)
   below_or_at k n h = grind arith
 
-  pub descends_more : (ids next : List ℕ) (old new : List Bool) (n slot start : ℕ) (block : Block)
+  pub descends_more : {ids next : List ℕ} {old new : List Bool} {n : ℕ} (slot : ℕ) {start : ℕ} {block : Block}
       → slot < length o.blocks → slot ≡ get_or slots n 0 → start ≡ get_or starts slot 0 → block ≡ block_at o slot
       → Descends ids old n → Passes nodes block start ids next old new → Descends next new (n + 1)
-  descends_more ids next old new n slot start block lt at from is d p = record {
+  descends_more {ids} {next} {old} {new} {n} slot {start} {block} lt at from is d p = record {
     known = p.known;
     holds = λ b range m. (passed b range m).1;
     marked = λ b k range m less. elim (below_or_at k n less) [

@@ -166,11 +166,11 @@ last_cons e es facts more on over a vars add = record {
       | inr lacks ↦ lacks
     ]
 
-pub last_more : (effects : List Effect) (at next : ℕ) (e : Effect) (facts more : List Fact) (on over : BTreeSet ℕ)
+pub last_more : (effects : List Effect) (at : ℕ) {next : ℕ} {e : Effect} {facts more : List Fact} {on over : BTreeSet ℕ}
     → next ≡ at + 1 → at < length effects → e ≡ get_or effects at e → AreLast (drop next effects) facts on
     → ((var : ℕ) → IsTrue (contains nat_cmp over var) ↔ (IsTrue (contains nat_cmp on var) ⊎ (var ≡ e.var)))
     → ((f : Fact) → Contains more f ↔ (Contains facts f ⊎ (Ends e f × IsFalse (contains nat_cmp on f.var)))) → AreLast (drop at effects) more over
-last_more effects at next e facts more on over step lt is a vars add =
+last_more effects at {next} {e} {facts} {more} {on} {over} step lt is a vars add =
     let same : drop at effects ≡ e ∷ drop next effects = drop-cons effects at e lt
     ∙ ap (λ (x : Effect). x ∷ drop (suc at) effects) (sym is)
     ∙ ap (λ (k : ℕ). e ∷ drop k effects) (let s : suc at ≡ next = omega (arith, step) in s) in

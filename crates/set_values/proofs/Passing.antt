@@ -36,10 +36,10 @@ module _ (nodes : List Node) (block : Block) (start : ℕ) where
 
   module _ (r : IsReduced nodes) (id : ℕ) where
     -- what the Id leaves below one more value
-    pub adds_more : (old now new : List ℕ) (marks mid more : List Bool) (n end : ℕ) → AddsBelow id old now marks mid n
+    pub adds_more : {old now new : List ℕ} {marks mid more : List Bool} {n end : ℕ} → AddsBelow id old now marks mid n
         → end < length nodes → ((b : Bits) → value_of block b ≡ n → means nodes end b ≡ means nodes id b)
         → AddsEnd (start + n) end now new mid more → AddsBelow id old new marks more (n + 1)
-    adds_more old now new marks mid more n end a lt same e = record {
+    adds_more {old} {now} {new} {marks} {mid} {more} {n} {end} a lt same e = record {
       kept = λ place h. e.kept place (a.kept place h);
       keeps = λ q h. e.keeps q (a.keeps q h);
       known = λ q h. elim (e.only q h) [ inl o ↦ a.known q o | inr is ↦ omega (arith, is, lt) ];
@@ -108,11 +108,11 @@ once_same ids sorted once p is q = (
 )
 
 -- what is left below the one value that all codes of an Id have
-pub adds_forced : (nodes : List Node) (block : Block) (start id value end : ℕ) (old new : List ℕ)
-    (marks more : List Bool) → IsReduced nodes → end < length nodes → AreKnown nodes old
+pub adds_forced : {nodes : List Node} (block : Block) (start id value end : ℕ) {old new : List ℕ}
+    {marks more : List Bool} → IsReduced nodes → end < length nodes → AreKnown nodes old
     → ((b : Bits) → means nodes id b ≡ true → (value_of block b ≡ value) × (means nodes end b ≡ true))
     → AddsEnd (start + value) end old new marks more → Adds nodes block start id old new marks more
-adds_forced nodes block start id value end old new marks more r lt known told e = record {
+adds_forced {nodes} block start id value end {old} {new} {marks} {more} r lt known told e = record {
   kept = e.kept;
   keeps = e.keeps;
   known = λ q h. elim (e.only q h) [ inl o ↦ known q o | inr is ↦ omega (arith, is, lt) ];

@@ -24,7 +24,6 @@ slots-preserved c =
     let slot = get_or slots n 0 in
     let old = c.slots.marks.items in
     let before = subst (λ (ids : List ℕ). Descends o nodes c.args.set starts slots ids old n) (sym c.deref.ensures.value) c.slots.invariant in
-    rw c.swap.ensures.x_after (descends_more o nodes c.args.set starts slots c.deref.result.now c.pass.new.ends.items
-    old c.pass.new.marks.items n slot (get_or starts slot 0) (get_or c.blocks-blocks.result.now slot no_block)
+    rw c.swap.ensures.x_after (descends_more o nodes c.args.set starts slots slot
     (c.requires.slots n 0 c.slots-test.true) refl refl (ap (λ (bs : List Block). get_or bs slot no_block)
     c.blocks-blocks.ensures.are) before c.in_ok-pass.ensures)

@@ -9,6 +9,5 @@ pub effects-preserved : goal.effects-preserved
 effects-preserved c =
     let t = c.effects-test.true in
     let a = c.effects.auto.at in
-    last_more c.args.effects.now (c.effects.at - 1) c.effects.at c.index-effects-at.result c.effects.facts
-    c.add_last.new.facts c.effects.on c.add_last.new.later (omega (arith, t)) (omega (arith, t, a))
+    last_more c.args.effects.now (c.effects.at - 1) {next = c.effects.at} (omega (arith, t)) (omega (arith, t, a))
     c.index-effects-at.is c.effects.invariant c.in_ok-add_last.ensures.later c.in_ok-add_last.ensures.facts

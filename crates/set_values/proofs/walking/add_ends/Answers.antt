@@ -3,7 +3,5 @@ use Rattle.set_values.proofs.walking.add_ends.Goals as goal
 
 pub values-preserved : goal.values-preserved
 values-preserved c =
-    adds_more c.args.table.now c.args.block c.args.start c.held.ensures.reduced c.args.id c.args.ends.now.items
-    c.values.ends.items c.add_end.new.ends.items c.args.marks.now.items c.values.marks.items
-    c.add_end.new.marks.items
-    c.values.value c.follow-end.result c.values.invariant c.follow-end.ensures.known c.follow-end.ensures.same c.in_ok-add_end.ensures
+    adds_more c.args.table.now c.args.block c.args.start c.held.ensures.reduced c.args.id c.values.invariant
+    c.follow-end.ensures.known c.follow-end.ensures.same c.in_ok-add_end.ensures

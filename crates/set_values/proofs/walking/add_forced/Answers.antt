@@ -5,7 +5,6 @@ use Rattle.set_values.proofs.walking.add_forced.Goals as goal
 pub returns-then-one-block : goal.returns-then-one-block
 returns-then-one-block c =
     on_ok_weaker c.add_end.result
-    (adds_forced c.args.table.now c.args.block c.args.start c.args.id c.args.one.value c.args.one.end c.args.ends.now.items
-    c.add_end.new.ends.items c.args.marks.now.items c.add_end.new.marks.items c.held.ensures.reduced
+    (adds_forced c.args.block c.args.start c.args.id c.args.one.value c.args.one.end c.held.ensures.reduced
     c.requires.end c.requires.ends c.requires.forced)
     c.add_end.ensures

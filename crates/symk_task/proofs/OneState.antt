@@ -35,7 +35,7 @@ pub value_one : (F : Effect → Type 0) (es : List Effect) (var old x y : ℕ) �
 value_one F es var old x y (inl p) (inl q) =
     let a = p.1 in let b = q.1 in
     p.2 ∙ ap (λ (z : Effect). z.post) (last_one a.before b.before (sym a.here ∙ b.here) (is_last a) (is_last b))
-        ∙ sym q.2
+    ∙ sym q.2
 value_one F es var old x y (inl p) (inr q) = (let a = p.1 in absurd (none_at F var a.before a.later p.0 (subst (NoneOn F var) a.here q.0) a.on a.fires))
 value_one F es var old x y (inr p) (inl q) = (let a = q.1 in absurd (none_at F var a.before a.later q.0 (subst (NoneOn F var) a.here p.0) a.on a.fires))
 value_one F es var old x y (inr p) (inr q) = p.1 ∙ sym q.1

@@ -87,9 +87,9 @@ module _ (rules : List Counting) (end : ℕ) (c : Counting) (within : end < leng
   stacked_more stack from h k d low lt = elim (cases_eq k end) [
     | inl same ↦ (
         let it : get_or rules k d ≡ get_or rules end c = ap (λ (z : ℕ). get_or rules z d) same
-            ∙ get_or_default rules end d c within in
+        ∙ get_or_default rules end d c within in
         stands_right stack ((get_or rules end c).rule ∷ []) (get_or rules k d).rule
-            (inl (ap (λ (z : Counting). z.rule) (sym it))))
+        (inl (ap (λ (z : Counting). z.rule) (sym it))))
     | inr ne ↦ (let ne2 : k ≡ end → ⊥ = ne in
         stands_left stack ((get_or rules end c).rule ∷ []) (get_or rules k d).rule (h k d low (omega (arith, ne2, lt))))
   ]

@@ -34,7 +34,7 @@ returns-then-is_empty c =
     let none : IsClosedTo parts c.args.state.now rules 0 values [] waiting places = none_closed fits
     (c.in_ok-values.ensures.each ∙ ap (λ (z : List Variable). length z) c.as_slice-variables.ensures)
     (starts parts values c.as_slice-variables.ensures c.as_slice.ensures c.as_slice-2.ensures
-        c.in_ok-values.ensures.values)
+    c.in_ok-values.ensures.values)
     refl refl refl in
     let all = all_closed fits are none
     (omega (arith, eqb-true (length rules) 0 (sym c.if-is_empty.ensures))) in

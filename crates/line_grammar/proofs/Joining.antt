@@ -61,7 +61,8 @@ module _ {R S : Type 0} (shape_of : R → S) (IsSpelled : R → List ℕ → Typ
       grammar.exact_bind shape_of IsSpelled p (λ a. grammar.then_at shape_of IsSpelled (row_at shape test)
       (λ _ ls. Ok (a, ls))) rows F (λ _ _. row ∷ []) (λ a b. a ≡ b) (λ a. rows a ++ row ∷ []) F
       ep
-      (λ a f. grammar.exact_row_then shape_of IsSpelled is (λ _ ls. Ok (a, ls)) (λ _. tt) (λ _. []) (λ _ b. a ≡ b) (λ b. a ≡ b)
+      (λ a f. grammar.exact_row_then shape_of IsSpelled is (λ _ ls. Ok (a, ls)) (λ _. tt) (λ _. [])
+      (λ _ b. a ≡ b) (λ b. a ≡ b)
       (λ _ _. grammar.exact_done shape_of IsSpelled a (λ _. []) (λ b. a ≡ b) refl (λ b e. (e, refl)))
       (record { join = λ _ b _ e. (refl, e); split = λ b e. (tt, e) }))
       (record {

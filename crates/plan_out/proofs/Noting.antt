@@ -74,37 +74,52 @@ says_longer mode blocks b p None other h = All-push (λ x. ¬ Same mode x.ops p)
 says_longer mode blocks b p (Some number) other h = (h.0, first_longer mode blocks b p (number - 1) h.1)
 
 -- what is said of a key after one block more
-first_more : (mode : Mode) (blocks : List ReadBlock) (b : ReadBlock) (key : List ℕ) (number : ℕ) (old : Option ℕ)
-    → IsKey mode b.ops key → number ≡ length blocks + 1
-    → ((p : List ℕ) → IsKey mode p key → All (λ x. ¬ Same mode x.ops p) blocks)
-    → (p k : List ℕ) → IsKey mode p k → Says mode blocks p old → (same : Bool) → pointwise ◌==◌ key k ≡ same
-    → Says mode (blocks ++ b ∷ []) p (cond same (Some number) old)
-first_more mode blocks b key number old is e none p k has h true t =
-    let same : key ≡ k = (same_key key k).0 t in
-    let here : IsKey mode p key = subst (λ (x : List ℕ). IsKey mode p x) (sym same) has in
-    (omega (arith, e), first_here mode blocks b p (number - 1) (omega (arith, e)) (same_from_key mode b.ops p key is here) (none p here))
-first_more mode blocks b key number old is e none p k has h false t =
-    says_longer mode blocks b p old (λ s. false≢true (sym t ∙ (same_key key k).1 (key_from_same mode b.ops p key k is has s))) h
+module _ (mode : Mode) (blocks : List ReadBlock) (b : ReadBlock) (key : List ℕ) (number : ℕ) (is : IsKey mode b.ops key)
+    (e : number ≡ length blocks + 1)
+    (none : (p : List ℕ) → IsKey mode p key → All (λ x. ¬ Same mode x.ops p) blocks) where
+  first_more : (old : Option ℕ) (p k : List ℕ) → IsKey mode p k → Says mode blocks p old → (same : Bool)
+      → pointwise ◌==◌ key k ≡ same → Says mode (blocks ++ b ∷ []) p (cond same (Some number) old)
+  first_more old p k has h true t =
+      let same : key ≡ k = (same_key key k).0 t in
+      let here : IsKey mode p key = subst (λ (x : List ℕ). IsKey mode p x) (sym same) has in (
+        omega (arith, e),
+        first_here mode blocks b p (number - 1) (omega (arith, e))
+            (same_from_key mode b.ops p key is here) (none p here),
+      )
+  first_more old p k has h false t =
+      says_longer mode blocks b p old
+      (λ s. false≢true (sym t ∙ (same_key key k).1 (key_from_same mode b.ops p key k is has s))) h
+
+-- The next block is noted by its key, which was not noted before.
+pub record NotesNext (mode : Mode) (blocks : List ReadBlock) (b : ReadBlock) (key : List ℕ) (number : ℕ)
+    (old noted new : Seen) : Type 0 where
+  pub is : IsKey mode b.ops key
+  pub absent : first_of old key ≡ None
+  pub adds : IsNoted old noted key number
+  pub place : number ≡ length blocks + 1
+  pub first : new.first ≡ noted.first
+  pub cost : new.cost ≡ b.cost
 
 -- the next block is noted
-pub seen_more : (mode : Mode) (blocks : List ReadBlock) (b : ReadBlock) (key : List ℕ) (number : ℕ)
-    (old noted new : Seen) → IsSeen mode blocks old → IsKey mode b.ops key → first_of old key ≡ None
-    → IsNoted old noted key number → number ≡ length blocks + 1 → new.first ≡ noted.first → new.cost ≡ b.cost → IsSeen mode (blocks ++ b ∷ []) new
-seen_more mode blocks b key number old noted new seen is absent adds e same cost = record {
+pub seen_more : {mode : Mode} {blocks : List ReadBlock} {b : ReadBlock} {key : List ℕ} {number : ℕ}
+    {old noted new : Seen}
+    → IsSeen mode blocks old → NotesNext mode blocks b key number old noted new → IsSeen mode (blocks ++ b ∷ []) new
+seen_more {mode} {blocks} {b} {key} {number} {old} {noted} {new} seen n = record {
   first = (λ p k has.
       let o = first_of old k in
-      let now : first_of new k ≡ cond (pointwise ◌==◌ key k) (Some number) o = first_at k ∙ adds.0 k in
+      let now : first_of new k ≡ cond (pointwise ◌==◌ key k) (Some number) o = first_at k ∙ n.adds.0 k in
       subst (λ (x : Option ℕ). Says mode (blocks ++ b ∷ []) p x) (sym now)
-      (first_more mode blocks b key number o is e none p k has (seen.first p k has) (pointwise ◌==◌ key k) refl));
-  cost = cost ∙ sym (ap (λ (x : Option ReadBlock). option_map_or (λ y. y.cost) x 0)
+      (first_more mode blocks b key number n.is n.place none o p k has (seen.first p k has)
+      (pointwise ◌==◌ key k) refl));
+  cost = n.cost ∙ sym (ap (λ (x : Option ReadBlock). option_map_or (λ y. y.cost) x 0)
       (get_push blocks b (length (blocks ++ b ∷ []) - 1) (let l = length_push blocks b in omega (arith, l))));
 }
   where
     none : (p : List ℕ) → IsKey mode p key → All (λ x. ¬ Same mode x.ops p) blocks
-    none p has = subst (λ (x : Option ℕ). Says mode blocks p x) absent (seen.first p key has)
+    none p has = subst (λ (x : Option ℕ). Says mode blocks p x) n.absent (seen.first p key has)
 
     first_at : (k : List ℕ) → first_of new k ≡ first_of noted k
-    first_at k = ap (λ m. get (pointwise ◌==◌) m k) same
+    first_at k = ap (λ m. get (pointwise ◌==◌) m k) n.first
 
 cost_below : (o : Option ReadBlock) (cost mine : ℕ) → cost ≡ option_map_or (λ b. b.cost) o 0 → mine < cost → IsSomeAnd o (λ last. mine < last.cost)
 cost_below None cost mine e lt = absurd (omega (arith, e, lt))

@@ -92,18 +92,20 @@ pub note_kept : (back : Option ℕ) (old new : BTreeSet (List ℕ)) (left : List
 note_kept None old new left from to some h = absurd (false≢true some)
 note_kept (Some n) old new left from to some h = return_longer (left ++ from ∷ []) (to ∷ []) n h
 
-pub note_found : (back : Option ℕ) (old new : BTreeSet (List ℕ)) (left : List (List ℕ)) (from to : List ℕ) (step : ℕ) → is_some back ≡ false → Adds old new from
-    → contains (slice_cmp nat_cmp) new to ≡ true → step ≡ length left + 1 → Noted back old left from → IsFirstReturn (left ++ from ∷ [] ++ to ∷ []) step
-note_found None old new left from to step none adds has is h =
-    let all = left ++ from ∷ [] in
-    let there : Contains all to = (members_more old new left from h.0 adds to).0 has in
-    let e : length all ≡ step = length_push left from ∙ sym is in
-    subst (λ (n : ℕ). IsFirstReturn (all ++ to ∷ []) n) e (return_last all to h.1 there)
-note_found (Some n) old new left from to step none adds has is h = absurd (false≢true (sym none))
+-- where none led back before
+module _ (old new : BTreeSet (List ℕ)) (left : List (List ℕ)) (from to : List ℕ) (adds : Adds old new from) where
+  pub note_found : (back : Option ℕ) {step : ℕ} → is_some back ≡ false → contains (slice_cmp nat_cmp) new to ≡ true
+      → step ≡ length left + 1 → Noted back old left from → IsFirstReturn (left ++ from ∷ [] ++ to ∷ []) step
+  note_found None none has is h =
+      let all = left ++ from ∷ [] in
+      let there : Contains all to = (members_more old new left from h.0 adds to).0 has in
+      subst (λ (n : ℕ). IsFirstReturn (all ++ to ∷ []) n) (length_push left from ∙ sym is)
+      (return_last all to h.1 there)
+  note_found (Some n) none has is h = absurd (false≢true (sym none))
 
-pub note_new : (back : Option ℕ) (old new : BTreeSet (List ℕ)) (left : List (List ℕ)) (from to : List ℕ) → is_some back ≡ false → Adds old new from
-    → contains (slice_cmp nat_cmp) new to ≡ false → Noted back old left from → Noted back new (left ++ from ∷ []) to
-note_new None old new left from to none adds has h =
-    let members : AreMembers new (left ++ from ∷ []) = members_more old new left from h.0 adds in
-    (members, fresh_more (left ++ from ∷ []) to h.1 (λ there. false≢true (sym has ∙ (members to).1 there)))
-note_new (Some n) old new left from to none adds has h = absurd (false≢true (sym none))
+  pub note_new : (back : Option ℕ) → is_some back ≡ false → contains (slice_cmp nat_cmp) new to ≡ false
+      → Noted back old left from → Noted back new (left ++ from ∷ []) to
+  note_new None none has h =
+      let members : AreMembers new (left ++ from ∷ []) = members_more old new left from h.0 adds in
+      (members, fresh_more (left ++ from ∷ []) to h.1 (λ there. false≢true (sym has ∙ (members to).1 there)))
+  note_new (Some n) none has h = absurd (false≢true (sym none))

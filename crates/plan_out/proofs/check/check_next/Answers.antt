@@ -11,7 +11,7 @@ use Rattle.plan_out.specs.Fails.{IsCostLine, IsFirstSame}
 use Rattle.plan_out.specs.Checks.{IsKey, first_of, IsNoted, IsSeen, Passes, WalksBack}
 use Rattle.plan_out.proofs.OneRun.{miss_no_stop, first_loop}
 use Rattle.plan_out.proofs.Reasons.{clear_operators, clear_names, clear_steps, clear_plan, clear_cost, clear_repeats, clear_rising}
-use Rattle.plan_out.proofs.Noting.{seen_more, cheaper, not_cheaper}
+use Rattle.plan_out.proofs.Noting.{NotesNext, seen_more, cheaper, not_cheaper}
 use Rattle.plan_out.proofs.check.check_next.Goals as goal
 
 -- what is noted of a plan's key, where no earlier block has it
@@ -122,8 +122,13 @@ returns-in-None-back-clause-next c = (λ before seen count.
       once = once;
       rising = rising;
       back = back;
-    } in (
-      passes,
-      seen_more mode before b key c.args.plan c.args.seen.now c.note.new.self c.is_cheaper.new.self seen
-          c.in_ok-key_of.ensures absent noted count c.is_cheaper.ensures.first c.is_cheaper.ensures.cost,
-    ))
+    } in
+    let notes : NotesNext mode before b key c.args.plan c.args.seen.now c.note.new.self c.is_cheaper.new.self = record {
+      is = c.in_ok-key_of.ensures;
+      absent = absent;
+      adds = noted;
+      place = count;
+      first = c.is_cheaper.ensures.first;
+      cost = c.is_cheaper.ensures.cost;
+    } in
+    (passes, seen_more seen notes))

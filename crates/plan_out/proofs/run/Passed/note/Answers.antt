@@ -8,11 +8,11 @@ returns-then-is_some c = (λ left is h.
 
 pub returns-then-contains : goal.returns-then-contains
 returns-then-contains c = (λ left is h.
-    note_found c.args.self.now.back c.args.self.now.left c.insert.new.self left c.args.from c.args.to.now c.args.step
-    (sym c.is_some.ensures ∙ c.if-is_some.false)
-    c.in_ok-insert.ensures.updates.0 (sym c.contains.ensures ∙ c.if-contains.true) is h)
+    note_found c.args.self.now.left c.insert.new.self left c.args.from c.args.to.now c.in_ok-insert.ensures.updates.0
+    c.args.self.now.back (sym c.is_some.ensures ∙ c.if-is_some.false)
+    (sym c.contains.ensures ∙ c.if-contains.true) is h)
 
 pub returns-else-contains : goal.returns-else-contains
 returns-else-contains c = (λ left is h.
-    note_new c.args.self.now.back c.args.self.now.left c.insert.new.self left c.args.from c.args.to.now (sym c.is_some.ensures ∙ c.if-is_some.false)
-    c.in_ok-insert.ensures.updates.0 (sym c.contains.ensures ∙ c.if-contains.false) h)
+    note_new c.args.self.now.left c.insert.new.self left c.args.from c.args.to.now c.in_ok-insert.ensures.updates.0
+    c.args.self.now.back (sym c.is_some.ensures ∙ c.if-is_some.false) (sym c.contains.ensures ∙ c.if-contains.false) h)

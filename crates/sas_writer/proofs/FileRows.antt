@@ -18,19 +18,27 @@ use Rattle.sas_writer.proofs.SectionRows.{header_written, variable_written, mute
 regroup : (a b c d e f g : Lines) → (((((a ++ b) ++ c) ++ d) ++ e) ++ f) ++ g ≡ a ++ (b ++ (c ++ (d ++ (e ++ (f ++ g)))))
 regroup a b c d e f g = simp append_assoc
 
+-- The rows of a section, the lines that are written for them, and that they are.
+record Section : Type 0 where
+  rows : List Row
+  made : Lines
+  written : AreWritten rows made
+
 -- rows are written section after section
-sections_written : (r1 r2 r3 r4 r5 r6 r7 : List Row) (l1 l2 l3 l4 l5 l6 l7 : Lines) → AreWritten r1 l1
-    → AreWritten r2 l2 → AreWritten r3 l3 → AreWritten r4 l4 → AreWritten r5 l5
-    → AreWritten r6 l6 → AreWritten r7 l7
-    → AreWritten (r1 ++ (r2 ++ (r3 ++ (r4 ++ (r5 ++ (r6 ++ r7)))))) ((((((l1 ++ l2) ++ l3) ++ l4) ++ l5) ++ l6) ++ l7)
-sections_written r1 r2 r3 r4 r5 r6 r7 l1 l2 l3 l4 l5 l6 l7 h1 h2 h3 h4 h5 h6 h7 =
-    subst (AreWritten (r1 ++ (r2 ++ (r3 ++ (r4 ++ (r5 ++ (r6 ++ r7))))))) (sym (regroup l1 l2 l3 l4 l5 l6 l7))
-    (then_written r1 (r2 ++ (r3 ++ (r4 ++ (r5 ++ (r6 ++ r7))))) l1 (l2 ++ (l3 ++ (l4 ++ (l5 ++ (l6 ++ l7))))) h1
-    (then_written r2 (r3 ++ (r4 ++ (r5 ++ (r6 ++ r7)))) l2 (l3 ++ (l4 ++ (l5 ++ (l6 ++ l7)))) h2
-    (then_written r3 (r4 ++ (r5 ++ (r6 ++ r7))) l3 (l4 ++ (l5 ++ (l6 ++ l7))) h3
-    (then_written r4 (r5 ++ (r6 ++ r7)) l4 (l5 ++ (l6 ++ l7)) h4
-    (then_written r5 (r6 ++ r7) l5 (l6 ++ l7) h5
-    (then_written r6 r7 l6 l7 h6 h7))))))
+sections_written : (a b c d e f g : Section)
+    → AreWritten (a.rows ++ (b.rows ++ (c.rows ++ (d.rows ++ (e.rows ++ (f.rows ++ g.rows))))))
+    ((((((a.made ++ b.made) ++ c.made) ++ d.made) ++ e.made) ++ f.made) ++ g.made)
+sections_written a b c d e f g =
+    subst (AreWritten (whole a (whole b (whole c (whole d (whole e (whole f g)))))).rows)
+    (sym (regroup a.made b.made c.made d.made e.made f.made g.made))
+    (whole a (whole b (whole c (whole d (whole e (whole f g)))))).written
+  where
+    whole : Section → Section → Section
+    whole x y = record {
+      rows = x.rows ++ y.rows;
+      made = x.made ++ y.made;
+      written = then_written x.rows y.rows x.made y.made x.written y.written;
+    }
 
 task_written : (task : TaskParts) → Fits task → HasSmallCosts task.operators → AreWritten (file_rows task) (task_lines task)
 unfolding task_lines variables_lines mutexes_lines operators_lines rules_lines
@@ -50,12 +58,22 @@ task_written task h costs =
     (mutex_written task.variables known) task.mutexes (omega arith) h.each_mutex in
     let variables = counted_written FitsVariable variable_rows variable_lines variable_written task.variables (omega arith) h.each_variable in
     let header = header_written task.metric h.metric in
-    sections_written (header_rows task.metric) (counted_rows variable_rows task.variables)
-    (counted_rows group_rows task.mutexes) (state_rows task.initial) (goal_rows task.goal)
-    (counted_rows operator_rows task.operators) (counted_rows rule_rows task.rules)
-    (head_lines task.metric) (variables_lines task.variables) (mutexes_lines task.mutexes) (state_lines task.initial)
-    (goal_lines task.goal) (operators_lines task.operators) (rules_lines task.rules)
-    header variables mutexes state goal operators rules
+    sections_written
+    (record { rows = header_rows task.metric; made = head_lines task.metric; written = header })
+    (record {
+      rows = counted_rows variable_rows task.variables;
+      made = variables_lines task.variables;
+      written = variables;
+    })
+    (record { rows = counted_rows group_rows task.mutexes; made = mutexes_lines task.mutexes; written = mutexes })
+    (record { rows = state_rows task.initial; made = state_lines task.initial; written = state })
+    (record { rows = goal_rows task.goal; made = goal_lines task.goal; written = goal })
+    (record {
+      rows = counted_rows operator_rows task.operators;
+      made = operators_lines task.operators;
+      written = operators;
+    })
+    (record { rows = counted_rows rule_rows task.rules; made = rules_lines task.rules; written = rules })
 
 pub text_is_file : (task : TaskParts) → Fits task → HasSmallCosts task.operators → IsFileOf (lines (task_text task)) task
 text_is_file task h costs = record {

@@ -36,7 +36,7 @@ placed_node {E} {old} {before} {new} places id {lo} {hi} {level} (Ok place) ro r
     differ e = let i = ro.inner id two known in
         i.differ (canonical old ro (at old id).lo (at old id).hi (omega (arith, i.lo_before)) (omega (arith, i.hi_before))
         (λ b. sym (has.lo_moved.meaning b) ∙ ap (λ k. means before k b) (sym has.lo_is ∙ e ∙ has.hi_is)
-            ∙ has.hi_moved.meaning b))
+        ∙ has.hi_moved.meaning b))
 
     a : Adds before (node_of level lo hi) new place
     a = added differ

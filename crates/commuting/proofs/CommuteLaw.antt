@@ -143,7 +143,8 @@ module _ (task : TaskParts) (a b : ℕ) (one other : Operator) (fits : Fits task
       unwritten_one : {s t u v w : List ℕ} → Square task one other s t u v w → (var : ℕ)
           → IsBase task var → Unwritten var one.effects → get_or w (place task var) 0 ≡ get_or v (place task var) 0
       unwritten_one {s} {t} {u} {v} {w} q var on none =
-          unwritten (Fires task u) one.effects var (get_or u (place task var) 0) (get_or w (place task var) 0) none (q.to_w var on)
+          unwritten (Fires task u) one.effects var (get_or u (place task var) 0) (get_or w (place task var) 0) none
+          (q.to_w var on)
           ∙ sym (quiet task s t one other q.state (fits_operator task b other fits is_other) q.first q.second q.to_t
           touch_one u v q.to_u q.to_v var on none)
 
@@ -153,7 +154,8 @@ module _ (task : TaskParts) (a b : ℕ) (one other : Operator) (fits : Fits task
           → get_or w (place task var) 0 ≡ get_or v (place task var) 0
       at_locals {s} {t} {u} {v} {w} q var on loc =
           let val = get_or s (place task var) 0 in
-          let m = meet_at task s t one other q.state (fits_operator task b other fits is_other) q.first q.second q.to_t touch_one var on loc.2 in
+          let m = meet_at task s t one other q.state (fits_operator task b other fits is_other) q.first q.second q.to_t
+          touch_one var on loc.2 in
           let to_t = local_value task s one.effects var (get_or t (place task var) 0) on loc.0 (q.to_t var on) in
           let to_u = local_value task s other.effects var (get_or u (place task var) 0) on loc.1 (q.to_u var on) in
           let to_v = local_value task t other.effects var (get_or v (place task var) 0) on loc.1 (q.to_v var on) in
@@ -175,7 +177,8 @@ module _ (task : TaskParts) (a b : ℕ) (one other : Operator) (fits : Fits task
 
 -- by what the test looked at
 -- The operator is the one of this number among them, and these are its effects.
-pub record IsTaken (task : TaskParts) (operators : List Operator) (a : ℕ) (operator : Operator) (effects : List Effect) : Type 0 where
+pub record IsTaken (task : TaskParts) (operators : List Operator) (a : ℕ) (operator : Operator)
+    (effects : List Effect) : Type 0 where
   pub within : a < length task.operators
   pub is : operator ≡ get_or operators a operator
   pub has : effects ≡ operator.effects
@@ -189,8 +192,10 @@ test_law {task} {parts} {operators} {a} {b} {one} {other} {first} {second} fits 
     let at_a = operator_at task operators a one fits all taken.within taken.is in
     let at_b = operator_at task operators b other fits all took.within took.is in
     commute_law task a b one other fits at_a.0 at_b.0
-    (subst (λ (z : TaskParts). MeetOnAll z one other one.effects) same (subst (MeetOnAll parts one other) taken.has meets))
-    (subst (λ (z : TaskParts). MeetOnAll z one other other.effects) same (subst (MeetOnAll parts one other) took.has met))
+    (subst (λ (z : TaskParts). MeetOnAll z one other one.effects) same
+    (subst (MeetOnAll parts one other) taken.has meets))
+    (subst (λ (z : TaskParts). MeetOnAll z one other other.effects) same
+    (subst (MeetOnAll parts one other) took.has met))
 
 -- what holds by the range of a variable
 pub by_range : (P : ℕ → Type 0) (o : Option Variable) (n : ℕ) → Some n ≡ option_map range o → P n → IsSomeAnd o (λ v. P (range v))

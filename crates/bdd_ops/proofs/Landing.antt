@@ -5,10 +5,10 @@ use Rattle.bdd_table.proofs.Canonical.{put_here}
 use Rattle.bdd_ops.specs.Images.{ExistsAt}
 use Rattle.bdd_ops.proofs.Existing.{or_left, or_right, or_split, off_put}
 
-pub at_same : (d e : ℕ → Bool) (to on : ℕ → ℕ) (F H G K : Bits → Bool) → ((l : ℕ) → d l ≡ e l)
+pub at_same : {d e : ℕ → Bool} {to on : ℕ → ℕ} {F H G K : Bits → Bool} → ((l : ℕ) → d l ≡ e l)
     → ((l : ℕ) → to l ≡ on l) → ((b : Bits) → F b ≡ H b) → ((b : Bits) → G b ≡ K b)
     → ExistsAt d to F G → ExistsAt e on H K
-at_same d e to on F H G K de same fh gk x = record {
+at_same {d} {e} {to} {on} {F} {H} {G} {K} de same fh gk x = record {
   upper = λ b c off h. sym (gk b) ∙ x.upper b c (λ l n. off l (sym (de l) ∙ n) ∙ ap b (sym (same l))) (fh c ∙ h);
   witness = λ b k. let w = x.witness b (gk b ∙ k) in (w.0, (λ l n. w.1 l (de l ∙ n) ∙ ap b (same l)), sym (fh w.0) ∙ w.2);
 }
@@ -54,10 +54,10 @@ at_from d e to on m F G de same later x = record {
     ]) refl
 
 -- where the one half holds for some values whatever the rest, so does the whole
-pub at_settled : (d : ℕ → Bool) (to : ℕ → ℕ) (l : ℕ) (F0 F1 F G0 G : Bits → Bool)
+pub at_settled : {d : ℕ → Bool} {to : ℕ → ℕ} {F0 F G0 G : Bits → Bool} (l : ℕ) (F1 : Bits → Bool)
     → ((b : Bits) → F b ≡ cond (b l) (F1 b) (F0 b)) → ((b : Bits) (v : Bool) → F0 (put b l v) ≡ F0 b)
     → ExistsAt d to F0 G0 → d l ≡ true → ((b : Bits) → G0 b ≡ true) → ((b : Bits) → G b ≡ true) → ExistsAt d to F G
-at_settled d to l F0 F1 F G0 G halves free0 x0 bound zero all = record {
+at_settled {d} {to} {F0} {F} {G0} {G} l F1 halves free0 x0 bound zero all = record {
   upper = λ b c off h. all b;
   witness = λ b g. let w = x0.witness b (zero b) in (
     put w.0 l false,

@@ -41,7 +41,7 @@ module _ (xs : List Node) (r : IsReduced xs) where
     f_known = known;
     g_known = known;
     set_known = known;
-    gives = short_both xs xs 0 0 0 0 0 r known known (λ m z o. both_false m z) (inl (omega arith)) some_false;
+    gives = short_both r known known (λ m z o. both_false m z) (inl (omega arith)) some_false;
   }
 
   right_no_images : IsRightBound Image xs no_bound

@@ -44,15 +44,24 @@ conj_none test xs n m r same = record {
   meaning = λ b. subst (λ (x : ℕ). (means xs 1 b ≡ true) ↔ PassFrom (test b) x n) (sym same) (pass_none (test b) n (means xs 1 b) (means_true xs r b));
 }
 
-pub conj_more : (test : Bits → ℕ → Bool) (start xs ys zs : List Node) (all one next from i n : ℕ) → IsConj test start xs all from n → from ≡ i + 1 → i < n
-    → Keeps xs ys → one < length ys → ((b : Bits) → means ys one b ≡ test b i) → Keeps ys zs → IsReduced zs
-    → next < length zs → ((b : Bits) → means zs next b ≡ (means ys one b && means ys all b))
+-- one more test became an Id, which was joined to the others
+pub record IsJoined (test : Bits → ℕ → Bool) (xs ys zs : List Node) (all one next i : ℕ) : Type 0 where
+  pub tested_kept : Keeps xs ys
+  pub tested_known : one < length ys
+  pub tested : (b : Bits) → means ys one b ≡ test b i
+  pub joined_kept : Keeps ys zs
+  pub reduced : IsReduced zs
+  pub known : next < length zs
+  pub joined : (b : Bits) → means zs next b ≡ (means ys one b && means ys all b)
+
+pub conj_more : {test : Bits → ℕ → Bool} {start xs ys zs : List Node} {all one next from i n : ℕ}
+    → IsConj test start xs all from n → IsJoined test xs ys zs all one next i → from ≡ i + 1 → i < n
     → IsConj test start zs next i n
-conj_more test start xs ys zs all one next from i n was is lt k known_one tested l r known_next both = record {
-  kept = kept_twice start xs ys zs was.kept k l;
-  reduced = r;
-  known = known_next;
+conj_more {test} {start} {xs} {ys} {zs} {all} {one} {next} {from} {i} {n} was more is lt = record {
+  kept = kept_twice start xs ys zs was.kept more.tested_kept more.joined_kept;
+  reduced = more.reduced;
+  known = more.known;
   meaning = λ b. pass_more (test b) i n (means ys one b) (means xs all b) (means zs next b) lt
-      (both b ∙ ap (λ (t : Bool). means ys one b && t) (k.meaning all b was.known)) (tested b)
-      (subst (λ (x : ℕ). (means xs all b ≡ true) ↔ PassFrom (test b) x n) is (was.meaning b));
+      (more.joined b ∙ ap (λ (t : Bool). means ys one b && t) (more.tested_kept.meaning all b was.known))
+      (more.tested b) (subst (λ (x : ℕ). (means xs all b ≡ true) ↔ PassFrom (test b) x n) is (was.meaning b));
 }

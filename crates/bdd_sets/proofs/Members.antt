@@ -40,17 +40,17 @@ step_down : (nodes : List Node) (b : Bits) (id : ℕ) (bit : Bool) → IsReduced
     → b (level_of nodes id) ≡ bit → means nodes id b ≡ means nodes (cond bit (at nodes id).hi (at nodes id).lo) b
 step_down nodes b id bit r lt is = means_chosen nodes r b id lt ∙ ap (λ (t : Bool). means nodes (cond t (at nodes id).hi (at nodes id).lo) b) is
 
-pub went_hi : (nodes there : List Node) (b : Bits) (id level next : ℕ) → there ≡ nodes → IsReduced nodes
+pub went_hi : {nodes there : List Node} (b : Bits) (id level next : ℕ) → there ≡ nodes → IsReduced nodes
     → id < length nodes → level ≡ level_of there id → b level ≡ true → next ≡ (at there id).hi
     → means nodes id b ≡ means nodes next b
-went_hi nodes there b id level next same r lt is bit to =
+went_hi {nodes} {there} b id level next same r lt is bit to =
     step_down nodes b id true r lt (ap b (sym (is ∙ ap (λ (xs : List Node). level_of xs id) same)) ∙ bit)
     ∙ ap (λ (x : ℕ). means nodes x b) (sym (to ∙ ap (λ (xs : List Node). (at xs id).hi) same))
 
-pub went_lo : (nodes there : List Node) (b : Bits) (id level next : ℕ) → there ≡ nodes → IsReduced nodes
+pub went_lo : {nodes there : List Node} (b : Bits) (id level next : ℕ) → there ≡ nodes → IsReduced nodes
     → id < length nodes → level ≡ level_of there id → b level ≡ false → next ≡ (at there id).lo
     → means nodes id b ≡ means nodes next b
-went_lo nodes there b id level next same r lt is bit to =
+went_lo {nodes} {there} b id level next same r lt is bit to =
     step_down nodes b id false r lt (ap b (sym (is ∙ ap (λ (xs : List Node). level_of xs id) same)) ∙ bit)
     ∙ ap (λ (x : ℕ). means nodes x b) (sym (to ∙ ap (λ (xs : List Node). (at xs id).lo) same))
 

@@ -17,14 +17,19 @@ loop-slot-preserved c =
     let i = c.loop-slot.slot - 1 in
     let blocks = c.blocks-blocks.result.now in
     let all_blocks : length blocks ≡ length o.blocks = ap (λ (xs : List Block). length xs) c.blocks-blocks.ensures.are in
-    conj_more (spells o c.args.state.now) c.args.ops.now c.loop-slot.ops c.value_is.new.ops c.conj.new.self
-    c.loop-slot.all c.in_ok-value.value c.in_ok-all.all c.loop-slot.slot i (length o.blocks)
-    c.loop-slot.invariant (let t = c.loop-slot-test.true in omega (arith, t))
+    conj_more c.loop-slot.invariant
+    (record {
+      tested_kept = c.in_ok-value.ensures.kept;
+      tested_known = c.in_ok-value.ensures.known;
+      tested = λ b. c.in_ok-value.ensures.meaning b ∙ spells_there o c.args.state.now blocks
+          c.as_slice-values.result.now b i c.blocks-blocks.ensures.are c.as_slice-values.ensures;
+      joined_kept = c.in_ok-all.ensures.kept;
+      reduced = c.in_ok-all.ensures.reduced;
+      known = c.in_ok-all.ensures.known;
+      joined = c.in_ok-all.ensures.meaning;
+    })
+    (let t = c.loop-slot-test.true in omega (arith, t))
     (let t = c.loop-slot-test.true in let a = c.loop-slot.auto.slot in omega (arith, t, a, all_blocks))
-    c.in_ok-value.ensures.kept c.in_ok-value.ensures.known
-    (λ b. c.in_ok-value.ensures.meaning b ∙ spells_there o c.args.state.now blocks c.as_slice-values.result.now b i
-    c.blocks-blocks.ensures.are c.as_slice-values.ensures)
-    c.in_ok-all.ensures.kept c.in_ok-all.ensures.reduced c.in_ok-all.ensures.known c.in_ok-all.ensures.meaning
 
 pub value_is-requires-clause-width : goal.value_is-requires-clause-width
 value_is-requires-clause-width c = (room_there c.args.order.now c.blocks-blocks.result.now (c.loop-slot.slot - 1)

@@ -17,13 +17,18 @@ loop-slot-preserved c =
     let i = c.loop-slot.slot - 1 in
     let blocks = c.blocks-blocks.result.now in
     let all_blocks : length blocks ≡ length o.blocks = ap (λ (xs : List Block). length xs) c.blocks-blocks.ensures.are in
-    conj_more (is_within o) c.args.ops.now c.loop-slot.ops c.value_at_most.new.ops c.conj.new.self c.loop-slot.all
-    c.in_ok-in_range.in_range c.in_ok-all.all c.loop-slot.slot i (length o.blocks)
-    c.loop-slot.invariant (let t = c.loop-slot-test.true in omega (arith, t))
+    conj_more c.loop-slot.invariant
+    (record {
+      tested_kept = c.in_ok-in_range.ensures.kept;
+      tested_known = c.in_ok-in_range.ensures.known;
+      tested = λ b. c.in_ok-in_range.ensures.meaning b ∙ within_there o blocks b i c.blocks-blocks.ensures.are;
+      joined_kept = c.in_ok-all.ensures.kept;
+      reduced = c.in_ok-all.ensures.reduced;
+      known = c.in_ok-all.ensures.known;
+      joined = c.in_ok-all.ensures.meaning;
+    })
+    (let t = c.loop-slot-test.true in omega (arith, t))
     (let t = c.loop-slot-test.true in let a = c.loop-slot.auto.slot in omega (arith, t, a, all_blocks))
-    c.in_ok-in_range.ensures.kept c.in_ok-in_range.ensures.known
-    (λ b. c.in_ok-in_range.ensures.meaning b ∙ within_there o blocks b i c.blocks-blocks.ensures.are)
-    c.in_ok-all.ensures.kept c.in_ok-all.ensures.reduced c.in_ok-all.ensures.known c.in_ok-all.ensures.meaning
 
 pub value_at_most-requires-clause-width : goal.value_at_most-requires-clause-width
 value_at_most-requires-clause-width c = (room_there c.args.order.now c.blocks-blocks.result.now (c.loop-slot.slot - 1)

@@ -14,13 +14,19 @@ pub loop-place-preserved : goal.loop-place-preserved
 loop-place-preserved c =
     let o = c.args.order.now in
     let i = c.loop-place.place - 1 in
-    conj_more (stays_at c.args.own.now c.args.wide.now) c.args.ops.now c.loop-place.ops c.stay_at.new.ops
-    c.conj.new.self c.loop-place.all c.in_ok-stay.stay c.in_ok-all.all c.loop-place.place i (bits o)
-    c.loop-place.invariant (let t = c.loop-place-test.true in omega (arith, t))
+    conj_more c.loop-place.invariant
+    (record {
+      tested_kept = c.in_ok-stay.ensures.kept;
+      tested_known = c.in_ok-stay.ensures.known;
+      tested = c.in_ok-stay.ensures.meaning;
+      joined_kept = c.in_ok-all.ensures.kept;
+      reduced = c.in_ok-all.ensures.reduced;
+      known = c.in_ok-all.ensures.known;
+      joined = c.in_ok-all.ensures.meaning;
+    })
+    (let t = c.loop-place-test.true in omega (arith, t))
     (let t = c.loop-place-test.true in let a = c.loop-place.auto.place in
     let e = c.bits-bits.ensures.value in omega (arith, t, a, e))
-    c.in_ok-stay.ensures.kept c.in_ok-stay.ensures.known c.in_ok-stay.ensures.meaning
-    c.in_ok-all.ensures.kept c.in_ok-all.ensures.reduced c.in_ok-all.ensures.known c.in_ok-all.ensures.meaning
 
 pub returns-clause-meaning : goal.returns-clause-meaning
 returns-clause-meaning c = λ b. through (c.loop-place.invariant.meaning b)

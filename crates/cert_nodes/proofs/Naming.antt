@@ -126,11 +126,11 @@ pub record Shown (task : TaskParts) (o : Layout) (places : List ℕ) (indexes : 
   pub most : length places ≤ 65536
   pub are : AreIndexes places indexes (bits o)
 
-pub shown : (task : TaskParts) (o : Layout) (items shown_places : List ℕ) (indexes shown_indexes : List (Option ℕ))
-    (count : ℕ) → items ≡ places_of task o → length items ≡ state_width task → length items ≤ 65536
+pub shown : (task : TaskParts) (o : Layout) {items shown_places : List ℕ} {indexes shown_indexes : List (Option ℕ)}
+    {count : ℕ} → items ≡ places_of task o → length items ≡ state_width task → length items ≤ 65536
     → shown_places ≡ items → shown_indexes ≡ indexes → count ≡ bits o
     → AreIndexes shown_places indexes count → Shown task o items shown_indexes
-shown task o items shown_places indexes shown_indexes count same many most e f n are = record {
+shown task o {items} {shown_places} {indexes} {shown_indexes} {count} same many most e f n are = record {
   same = same;
   many = many;
   most = most;

@@ -63,13 +63,13 @@ module _ (old : List Node) (marks : List Bool) (indexes : List (Option ℕ)) (st
   chosen_means true b two known kept = (let i = ro.inner n two known in rebuilt.meaning (at old n).hi b i.hi_before (closed.hi_kept n two known kept))
   chosen_means false b two known kept = (let i = ro.inner n two known in rebuilt.meaning (at old n).lo b i.lo_before (closed.lo_kept n two known kept))
 
-  pub rebuilt_more : (new : List Node) (all shown : List ℕ) (id : ℕ) (wanted : Bool) → wanted ≡ is_marked marks n
+  pub rebuilt_more : {new : List Node} {all shown : List ℕ} {wanted : Bool} (id : ℕ) → wanted ≡ is_marked marks n
       → 2 ≤ n → n < length old → Keeps now new → IsReduced new → id < length new
       → shown ≡ ids → all ≡ ids ++ id ∷ []
       → (wanted ≡ true → (b : Bits) → means new id b ≡ cond (spread indexes b (level_of old n))
       (means now (get_or shown (at old n).hi 0) b) (means now (get_or shown (at old n).lo 0) b))
       → Rebuilt old marks indexes start new all (n + 1)
-  rebuilt_more new all shown id wanted marked two there keeps reduced known same is meaning =
+  rebuilt_more {new} {all} {shown} {wanted} id marked two there keeps reduced known same is meaning =
       let count = rebuilt.count in
       let more = keeps.known in
       let pushed : Rebuilt old marks indexes start new (ids ++ id ∷ []) (n + 1) = record {

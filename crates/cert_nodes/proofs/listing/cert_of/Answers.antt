@@ -11,16 +11,14 @@ use Rattle.cert_nodes.proofs.listing.cert_of.Goals as goal
 pub rebuilt-requires-clause-small : goal.rebuilt-requires-clause-small
 rebuilt-requires-clause-small c =
     let places = c.in_ok-places.ensures in
-    let s = shown c.args.task.now c.args.order.now c.in_ok-places.places.items c.deref.result.now
-    c.in_ok-indexes.indexes.items c.deref-2.result.now c.bits.result places.are places.count places.most
+    let s = shown c.args.task.now c.args.order.now places.are places.count places.most
     c.deref.ensures.value c.deref-2.ensures.value c.bits.ensures.value c.in_ok-indexes.ensures in
     small c.in_ok-places.places.items c.deref-2.result.now _ s.are s.most
 
 pub returns-clause-in_order : goal.returns-clause-in_order
 returns-clause-in_order c =
     let places = c.in_ok-places.ensures in
-    let s = shown c.args.task.now c.args.order.now c.in_ok-places.places.items c.deref.result.now
-    c.in_ok-indexes.indexes.items c.deref-2.result.now c.bits.result places.are places.count places.most
+    let s = shown c.args.task.now c.args.order.now places.are places.count places.most
     c.deref.ensures.value c.deref-2.ensures.value c.bits.ensures.value c.in_ok-indexes.ensures in
     subst (λ (xs : List CertNode). IsInOrder (state_width c.args.task.now)
     (record { nodes = xs; root = get_or c.collect.new.roots 0 0 }))
@@ -33,8 +31,7 @@ returns-clause-in_order c =
 pub returns-clause-tidy : goal.returns-clause-tidy
 returns-clause-tidy c =
     let places = c.in_ok-places.ensures in
-    let s = shown c.args.task.now c.args.order.now c.in_ok-places.places.items c.deref.result.now
-    c.in_ok-indexes.indexes.items c.deref-2.result.now c.bits.result places.are places.count places.most
+    let s = shown c.args.task.now c.args.order.now places.are places.count places.most
     c.deref.ensures.value c.deref-2.ensures.value c.bits.ensures.value c.in_ok-indexes.ensures in
     subst (λ (xs : List CertNode). IsTidy (record { nodes = xs; root = get_or c.collect.new.roots 0 0 }))
     (sym (c.in_ok-nodes.ensures.are ∙ ap listed c.table.ensures.same))
@@ -46,8 +43,7 @@ returns-clause-tidy c =
 pub returns-clause-names : goal.returns-clause-names
 returns-clause-names c = λ s b state code.
     let places = c.in_ok-places.ensures in
-    let k = shown c.args.task.now c.args.order.now c.in_ok-places.places.items c.deref.result.now
-    c.in_ok-indexes.indexes.items c.deref-2.result.now c.bits.result places.are places.count places.most
+    let k = shown c.args.task.now c.args.order.now places.are places.count places.most
     c.deref.ensures.value c.deref-2.ensures.value c.bits.ensures.value c.in_ok-indexes.ensures in
     subst (λ (xs : List CertNode). holds (record { nodes = xs; root = get_or c.collect.new.roots 0 0 })
     (state_bits c.args.task.now s) ≡ means c.args.table.now c.args.set b)

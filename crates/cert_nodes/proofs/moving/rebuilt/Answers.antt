@@ -1,4 +1,4 @@
-use Rattle.std.proofs.Common.{◌+◌, ◌<◌, false, [], ◌∷◌, ◌++◌, ◌∙◌, List, ℕ, length, ap, arith}
+use Rattle.std.proofs.Common.{◌<◌, false, [], ◌∷◌, ◌++◌, ◌∙◌, List, ℕ, length, ap, arith}
 use Rattle.std.proofs.lemmas.List.{get_or_default}
 use Rattle.bdd_table.specs.Diagram.{means}
 use Rattle.bdd_table.proofs.Collecting.{closed_marks}
@@ -22,7 +22,7 @@ ids-preserved c =
     rebuilt_more c.args.old.now marks c.args.indexes.now c.args.ops.now c.ids.ops c.ids.ids.items c.ids.id
     c.held-held.ensures.reduced (closed_marks c.args.old.now (c.args.root ∷ []) marks c.in_ok-wanted.ensures)
     c.ids.invariant
-    c.moved_if_wanted.new.ops c.push-in-ids.new.self.items c.deref.result.now c.in_ok-new.new c.index.result.now
+    c.in_ok-new.new
     (c.index.ensures ∙ get_or_default marks c.ids.id c.index.result.now false (omega (arith, inside, as_long)))
     two inside c.in_ok-new.ensures.kept c.in_ok-new.ensures.reduced c.in_ok-new.ensures.known c.deref.ensures.value
     c.in_ok-push-3.ensures.items c.in_ok-new.ensures.meaning

@@ -1,4 +1,4 @@
-use Rattle.std.proofs.Common.{◌-◌, arith}
+use Rattle.std.proofs.Common.{arith}
 use Rattle.var_order.specs.Layout.{bits}
 use Rattle.bdd_sets.proofs.Conjunctions.{conj_none, conj_more}
 use Rattle.bdd_sets.proofs.Spelled.{through}
@@ -12,8 +12,6 @@ loop-place-init c = conj_none (stays_at c.args.own.now c.args.wide.now) c.args.o
 
 pub loop-place-preserved : goal.loop-place-preserved
 loop-place-preserved c =
-    let o = c.args.order.now in
-    let i = c.loop-place.place - 1 in
     conj_more c.loop-place.invariant
     (record {
       tested_kept = c.in_ok-stay.ensures.kept;

@@ -56,31 +56,44 @@ ends_listed : (y : System) (p : List ℕ) (s t : State) → ListsReached y → L
 ends_listed y [] s t lists listed runs = subst (Listed y.states) runs listed
 ends_listed y (a ∷ p) s t lists listed (m, lead, rest) = ends_listed y p m t lists (lists.steps a s m listed lead) rest
 
-pub exchanged : (y : System) (a b : ℕ) (before later : List ℕ) (s m t : State) → ListsReached y → Listed y.states s
-    → Commute y a b → Runs y s before m → AppliesIn y b m → Runs y m (a ∷ b ∷ later) t
+-- the listed states miss none that a run reaches, and the state is one of them
+pub record Within (y : System) (s : State) : Type 0 where
+  pub lists : ListsReached y
+  pub listed : Listed y.states s
+
+-- an operator leads from a listed state to a listed one
+steps_within : {y : System} {a : ℕ} {s m : State} → Within y s → Leads y a s m → Within y m
+steps_within {y} {a} {s} {m} within lead = record {
+  lists = within.lists;
+  listed = within.lists.steps a s m within.listed lead;
+}
+
+pub exchanged : {y : System} {a b : ℕ} {s : State} (before later : List ℕ) (m t : State) → Within y s → Commute y a b
+    → Runs y s before m → AppliesIn y b m → Runs y m (a ∷ b ∷ later) t
     → Rearranges y s t (before ++ a ∷ b ∷ later) (before ++ b ∷ a ∷ later)
-exchanged y a b before later s m t lists listed commute to applies runs = record {
-  runs = run_append y s before m (b ∷ a ∷ later) t to (exchange y a b later m t (ends_listed y before s m lists listed to) commute applies runs);
+exchanged {y} {a} {b} {s} before later m t within commute to applies runs = record {
+  runs = (let listed = ends_listed y before s m within.lists within.listed to in
+      run_append y s before m (b ∷ a ∷ later) t to (exchange y a b later m t listed commute applies runs));
   same = λ x. count_after x before (a ∷ b ∷ later) (b ∷ a ∷ later) (count_moved x b (a ∷ []) later);
   steps = length-append before (b ∷ a ∷ later) ∙ sym (length-append before (a ∷ b ∷ later));
   cost = cost_after y before (a ∷ b ∷ later) (b ∷ a ∷ later) (cost_moved y b (a ∷ []) later);
 }
 
 -- what commutes with each before it, to the front
-move : (y : System) (x : ℕ) (before later : List ℕ) (s t u : State) → ListsReached y → Listed y.states s
-    → Leads y x s u → AllByRecursion (Commute y x) before → Runs y s (before ++ x ∷ later) t
-    → Runs y s (x ∷ (before ++ later)) t
-move y x [] later s t u lists listed lead commute runs = runs
-move y x (b ∷ before) later s t u lists listed lead commute (m, first, rest) =
-    let both = commute.0.either s u m listed lead first in
-    let moved = move y x before later m t both.0 lists (lists.steps b s m listed first) both.2 commute.1 rest in
+move : {y : System} {x : ℕ} {s u : State} (before later : List ℕ) (t : State) → Within y s → Leads y x s u
+    → AllByRecursion (Commute y x) before → Runs y s (before ++ x ∷ later) t → Runs y s (x ∷ (before ++ later)) t
+move [] later t within lead commute runs = runs
+move {y} {x} {s} {u} (b ∷ before) later t within lead commute (m, first, rest) =
+    let both = commute.0.either s u m within.listed lead first in
+    let moved = move before later t (steps_within within first) both.2 commute.1 rest in
     let same : moved.0 ≡ both.0 = one_next y x m moved.0 both.0 moved.1 both.2 in
     (u, lead, (both.0, both.1, subst (λ (z : State). Runs y z (before ++ later) t) same moved.2))
 
 pub moved : (y : System) (set : ℕ → Bool) (s t : State) (p : List ℕ) → ListsReached y → Listed y.states s
     → (f : FirstOf y set s p) → Runs y s p t → Rearranges y s t p (f.first ∷ (f.before ++ f.later))
 moved y set s t p lists listed f runs = record {
-  runs = move y f.first f.before f.later s t f.applies.0 lists listed f.applies.1 f.commutes (subst (λ (z : List ℕ). Runs y s z t) f.here runs);
+  runs = (let within : Within y s = record { lists = lists; listed = listed } in
+      move f.before f.later t within f.applies.1 f.commutes (subst (λ (z : List ℕ). Runs y s z t) f.here runs));
   same = λ a. ap (λ (z : List ℕ). count_by (λ b. a == b) z) f.here ∙ count_moved a f.first f.before f.later;
   steps = (let l = length-append f.before (f.first ∷ f.later) in let k = length-append f.before f.later in
       let e = ap (λ (z : List ℕ). length z) f.here in omega (arith, l, k, e));
@@ -102,20 +115,20 @@ shorter before x later n e =
     let c : length (x ∷ later) ≡ suc (length later) = refl in omega (arith, e, l, k, c)
 
 -- each step inside, by the number of steps
-inside : (n : ℕ) (y : System) (set : State → ℕ → Bool) (s t : State) (p : List ℕ) → length p ≡ n → ListsReached y
-    → ((r : State) → Listed y.states r → Stubborn y (set r) r) → Listed y.states s
-    → Runs y s p t → IsTrue (y.goal t)
+inside : {y : System} {s : State} (n : ℕ) (set : State → ℕ → Bool) (t : State) (p : List ℕ) → length p ≡ n → Within y s
+    → ((r : State) → Listed y.states r → Stubborn y (set r) r) → Runs y s p t → IsTrue (y.goal t)
     → (q : List ℕ) × StepsInside y set s q × Rearranges y s t p q
-inside n y set s t [] size lists stubborn listed runs goal = ([], tt, record { runs = runs; same = λ a. refl; steps = refl; cost = refl })
-inside zero y set s t (a ∷ p) size lists stubborn listed runs goal = (let e : suc (length p) ≡ 0 = size in absurd (omega arith))
-inside (suc n) y set s t (a ∷ p) size lists stubborn listed runs goal =
-    let f = (stubborn s listed).first a p t runs goal in
+inside n set t [] size within stubborn runs goal =
+    ([], tt, record { runs = runs; same = λ a. refl; steps = refl; cost = refl })
+inside zero set t (a ∷ p) size within stubborn runs goal = (let e : suc (length p) ≡ 0 = size in absurd (omega arith))
+inside {y} {s} (suc n) set t (a ∷ p) size within stubborn runs goal =
+    let f = (stubborn s within.listed).first a p t runs goal in
     let r = f.before ++ f.later in
-    let re = moved y (set s) s t (a ∷ p) lists listed f runs in
+    let re = moved y (set s) s t (a ∷ p) within.lists within.listed f runs in
     let m = re.runs.0 in
     let lead = re.runs.1 in
     let short : length r ≡ n = shorter f.before f.first f.later n (ap length (sym f.here) ∙ size) in
-    let rest = inside n y set m t r short lists stubborn (lists.steps f.first s m listed lead) re.runs.2 goal in
+    let rest = inside {s = m} n set t r short (steps_within within lead) stubborn re.runs.2 goal in
     let next : m ≡ next_state y f.first s = sym (ap (λ (o : Option State). unwrap_or o s) lead.step) in (
       f.first ∷ rest.0,
       (f.inside, subst (λ (z : State). StepsInside y set z rest.0) next rest.1),
@@ -130,24 +143,31 @@ inside (suc n) y set s t (a ∷ p) size lists stubborn listed runs goal =
 pub member : (y : System) (set : State → ℕ → Bool) (s t : State) (p : List ℕ) → ListsReached y
     → ((r : State) → Listed y.states r → Stubborn y (set r) r) → Listed y.states s → Runs y s p t
     → IsTrue (y.goal t) → (q : List ℕ) × StepsInside y set s q × Rearranges y s t p q
-member y set s t p lists stubborn listed runs goal = inside (length p) y set s t p refl lists stubborn listed runs goal
+member y set s t p lists stubborn listed runs goal =
+    inside (length p) set t p refl (record { lists = lists; listed = listed }) stubborn runs goal
+
+-- after each run from o the set chosen for its operators is stubborn where the run ends
+record AreChosen (y : System) (set : List ℕ → ℕ → Bool) (o : State) : Type 0 where
+  after : (e : List ℕ) (r : State) → Runs y o e r → Stubborn y (set e) r
 
 -- each step chosen, after the operators `before`
-chosen : (n : ℕ) (y : System) (set : List ℕ → ℕ → Bool) (o s t : State) (before p : List ℕ) → length p ≡ n
-    → ListsReached y → ((e : List ℕ) (r : State) → Runs y o e r → Stubborn y (set e) r) → Runs y o before s
-    → Listed y.states s → Runs y s p t → IsTrue (y.goal t)
+chosen : {y : System} {set : List ℕ → ℕ → Bool} {o s : State} (n : ℕ) (t : State) (before p : List ℕ) → length p ≡ n
+    → AreChosen y set o → Within y s → Runs y o before s → Runs y s p t → IsTrue (y.goal t)
     → (q : List ℕ) × StepsChosen set before q × Rearranges y s t p q
-chosen n y set o s t before [] size lists stubborn from listed runs goal = ([], tt, record { runs = runs; same = λ a. refl; steps = refl; cost = refl })
-chosen zero y set o s t before (a ∷ p) size lists stubborn from listed runs goal = (let e : suc (length p) ≡ 0 = size in absurd (omega arith))
-chosen (suc n) y set o s t before (a ∷ p) size lists stubborn from listed runs goal =
-    let f = (stubborn before s from).first a p t runs goal in
+chosen n t before [] size sets within from runs goal =
+    ([], tt, record { runs = runs; same = λ a. refl; steps = refl; cost = refl })
+chosen zero t before (a ∷ p) size sets within from runs goal =
+    (let e : suc (length p) ≡ 0 = size in absurd (omega arith))
+chosen {y} {set} {o} {s} (suc n) t before (a ∷ p) size sets within from runs goal =
+    let f = (sets.after before s from).first a p t runs goal in
     let r = f.before ++ f.later in
-    let re = moved y (set before) s t (a ∷ p) lists listed f runs in
+    let re = moved y (set before) s t (a ∷ p) within.lists within.listed f runs in
     let m = re.runs.0 in
     let lead = re.runs.1 in
     let short : length r ≡ n = shorter f.before f.first f.later n (ap length (sym f.here) ∙ size) in
-    let rest = chosen n y set o m t (before ++ f.first ∷ []) r short lists stubborn
-    (run_more y o before s f.first m from lead) (lists.steps f.first s m listed lead) re.runs.2 goal in (
+    let onward = run_more y o before s f.first m from lead in
+    let there = steps_within within lead in
+    let rest = chosen {s = m} n t (before ++ f.first ∷ []) r short sets there onward re.runs.2 goal in (
       f.first ∷ rest.0,
       (f.inside, rest.1),
       record {
@@ -162,4 +182,6 @@ pub chosen_member : (y : System) (set : List ℕ → ℕ → Bool) (s t : State)
     → ((e : List ℕ) (r : State) → Runs y s e r → Stubborn y (set e) r) → Listed y.states s
     → Runs y s p t → IsTrue (y.goal t)
     → (q : List ℕ) × StepsChosen set [] q × Rearranges y s t p q
-chosen_member y set s t p lists stubborn listed runs goal = chosen (length p) y set s s t [] p refl lists stubborn refl listed runs goal
+chosen_member y set s t p lists stubborn listed runs goal =
+    let sets : AreChosen y set s = record { after = stubborn } in
+    chosen (length p) t [] p refl sets (record { lists = lists; listed = listed }) refl runs goal

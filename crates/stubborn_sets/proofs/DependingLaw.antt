@@ -32,43 +32,47 @@ has_rule marks var (rule ∷ rules) on (inl e) =
     subst (λ (b : Bool). HasRule var (cond b (rule ∷ kept marks rules) (kept marks rules))) (sym (subst (λ (v : ℕ). IsTrue (is_in marks v)) (sym e) on)) (inl e)
 has_rule marks var (rule ∷ rules) on (inr h) = either_rule var (is_in marks rule.var) rule (kept marks rules) (has_rule marks var rules on h)
 
-module _ (task : TaskParts) (marks : List Bool) (shut : IsShut task.rules marks) where
-  met_on : (s t : List ℕ) (Low Lower : ℕ → Type 0) (layer : ℕ) (earlier : List Rule) (fact : Fact) → AgreeOn task marks s t
-      → ((var : ℕ) → IsTrue (is_in marks var) → Low var → Lower var) → ((var : ℕ) → IsTrue (is_in marks var) → Lower var → Low var)
-      → IsTrue (is_in marks fact.var) → Met task s Low layer earlier fact → Met task t Lower layer (kept marks earlier) fact
-  met_on s t Low Lower layer earlier fact agree to back on (base b e) = base b (sym (agree fact.var b on) ∙ e)
-  met_on s t Low Lower layer earlier fact agree to back on (same l e h) = same l e (has_rule marks fact.var earlier on h)
-  met_on s t Low Lower layer earlier fact agree to back on (raised below l lt e h) = raised below l lt e (to fact.var on h)
-  met_on s t Low Lower layer earlier fact agree to back on (default below l lt e h) = default below l lt e (λ k. h (back fact.var on k))
+-- the states agree on the marked base variables, and what is raised in lower layers is the same for marked variables
+record AreAlike (task : TaskParts) (marks : List Bool) (s t : List ℕ) (Low Lower : ℕ → Type 0) : Type 0 where
+  agree : AgreeOn task marks s t
+  to : (var : ℕ) → IsTrue (is_in marks var) → Low var → Lower var
+  back : (var : ℕ) → IsTrue (is_in marks var) → Lower var → Low var
 
-  mets_on : (s t : List ℕ) (Low Lower : ℕ → Type 0) (layer : ℕ) (earlier : List Rule) → AgreeOn task marks s t
-      → ((var : ℕ) → IsTrue (is_in marks var) → Low var → Lower var) → ((var : ℕ) → IsTrue (is_in marks var) → Lower var → Low var)
-      → (facts : List Fact) → AllByRecursion (λ fact. IsTrue (is_in marks fact.var)) facts
+module _ (task : TaskParts) (marks : List Bool) (shut : IsShut task.rules marks) where
+  met_on : {s t : List ℕ} {Low Lower : ℕ → Type 0} (layer : ℕ) (earlier : List Rule) (fact : Fact)
+      → AreAlike task marks s t Low Lower → IsTrue (is_in marks fact.var) → Met task s Low layer earlier fact
+      → Met task t Lower layer (kept marks earlier) fact
+  met_on layer earlier fact alike on (base b e) = base b (sym (alike.agree fact.var b on) ∙ e)
+  met_on layer earlier fact alike on (same l e h) = same l e (has_rule marks fact.var earlier on h)
+  met_on layer earlier fact alike on (raised below l lt e h) = raised below l lt e (alike.to fact.var on h)
+  met_on layer earlier fact alike on (default below l lt e h) = default below l lt e (λ k. h (alike.back fact.var on k))
+
+  mets_on : {s t : List ℕ} {Low Lower : ℕ → Type 0} (layer : ℕ) (earlier : List Rule)
+      → AreAlike task marks s t Low Lower → (facts : List Fact)
+      → AllByRecursion (λ fact. IsTrue (is_in marks fact.var)) facts
       → AllByRecursion (Met task s Low layer earlier) facts
       → AllByRecursion (Met task t Lower layer (kept marks earlier)) facts
-  mets_on s t Low Lower layer earlier agree to back [] on h = tt
-  mets_on s t Low Lower layer earlier agree to back (fact ∷ facts) on h =
-      (met_on s t Low Lower layer earlier fact agree to back on.0 h.0, mets_on s t Low Lower layer earlier agree to back facts on.1 h.1)
+  mets_on layer earlier alike [] on h = tt
+  mets_on layer earlier alike (fact ∷ facts) on h =
+      (met_on layer earlier fact alike on.0 h.0, mets_on layer earlier alike facts on.1 h.1)
 
-  one_rule : (s t : List ℕ) (Low Lower : ℕ → Type 0) (layer : ℕ) → AgreeOn task marks s t
-      → ((var : ℕ) → IsTrue (is_in marks var) → Low var → Lower var) → ((var : ℕ) → IsTrue (is_in marks var) → Lower var → Low var)
+  one_rule : {s t : List ℕ} {Low Lower : ℕ → Type 0} (layer : ℕ) → AreAlike task marks s t Low Lower
       → (rule : Rule) (earlier : List Rule) → Derives task s Low layer (rule ∷ earlier) → Derives task t Lower layer (kept marks earlier)
       → (b : Bool) → is_in marks rule.var ≡ b → Derives task t Lower layer (cond b (rule ∷ kept marks earlier) (kept marks earlier))
-  one_rule s t Low Lower layer agree to back rule earlier d rest true on = (
+  one_rule layer alike rule earlier d rest true on = (
     d.0,
     d.1,
-    mets_on s t Low Lower layer earlier agree to back rule.conds
+    mets_on layer earlier alike rule.conds
         (recursion_from_All (λ (fact : Fact). IsTrue (is_in marks fact.var)) rule.conds (All-contains (StaysIn marks) task.rules rule shut d.0.0 on)) d.2,
     rest,
   )
-  one_rule s t Low Lower layer agree to back rule earlier d rest false off = rest
+  one_rule layer alike rule earlier d rest false off = rest
 
-  derives_on : (s t : List ℕ) (Low Lower : ℕ → Type 0) (layer : ℕ) → AgreeOn task marks s t
-      → ((var : ℕ) → IsTrue (is_in marks var) → Low var → Lower var) → ((var : ℕ) → IsTrue (is_in marks var) → Lower var → Low var)
+  derives_on : {s t : List ℕ} {Low Lower : ℕ → Type 0} (layer : ℕ) → AreAlike task marks s t Low Lower
       → (rules : List Rule) → Derives task s Low layer rules → Derives task t Lower layer (kept marks rules)
-  derives_on s t Low Lower layer agree to back [] d = tt
-  derives_on s t Low Lower layer agree to back (rule ∷ earlier) d =
-      one_rule s t Low Lower layer agree to back rule earlier d (derives_on s t Low Lower layer agree to back earlier d.3) (is_in marks rule.var) refl
+  derives_on layer alike [] d = tt
+  derives_on layer alike (rule ∷ earlier) d =
+      one_rule layer alike rule earlier d (derives_on layer alike earlier d.3) (is_in marks rule.var) refl
 
   raised_on : (n : ℕ) (s t : List ℕ) → AgreeOn task marks s t → (var : ℕ) → IsTrue (is_in marks var) → RaisedBelow n task s var → RaisedBelow n task t var
   unfolding RaisedBelow
@@ -81,8 +85,12 @@ module _ (task : TaskParts) (marks : List Bool) (shut : IsShut task.rules marks)
         subst (λ (b : Bool). Derives task t (RaisedBelow n task t) n
             (cond b (last ∷ kept marks earlier) (kept marks earlier)))
             (subst (λ (v : ℕ). IsTrue (is_in marks v)) (sym is) on)
-            (derives_on s t (RaisedBelow n task s) (RaisedBelow n task t) n agree (raised_on n s t agree)
-            (raised_on n t s (λ v b m. sym (agree v b m))) (last ∷ earlier) d),
+            (let alike : AreAlike task marks s t (RaisedBelow n task s) (RaisedBelow n task t) = record {
+              agree = agree;
+              to = raised_on n s t agree;
+              back = raised_on n t s (λ v b m. sym (agree v b m));
+            } in
+            derives_on n alike (last ∷ earlier) d),
       )
   raised_on (suc n) s t agree var on (inr h) = inr (raised_on n s t agree var on h)
 

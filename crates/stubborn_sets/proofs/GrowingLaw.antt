@@ -131,18 +131,20 @@ growing_served task values one old new p d has = record {
 }
 
 -- by what a missing precondition waits for
-pub served_false : (task : TaskParts) (values : List ℕ) (one : ℕ) (operator : Operator) (fact : Fact) (old new : Growing)
-    → slice_get task.operators one ≡ Some operator → IsMissing values operator fact → IsPopped task values one old
-    → Adds old new → StaysFalse task values new.marks.items fact → IsGrowing task values new
-served_false task values one operator fact old new is lacks p d stays =
+pub served_false : {task : TaskParts} {values : List ℕ} {one : ℕ} {old new : Growing} (operator : Operator)
+    (fact : Fact) → slice_get task.operators one ≡ Some operator → IsMissing values operator fact
+    → IsPopped task values one old → Adds old new → StaysFalse task values new.marks.items fact
+    → IsGrowing task values new
+served_false {task} {values} {one} {old} {new} operator fact is lacks p d stays =
     growing_served task values one old new p d
     (subst (λ (o : Option Operator). IsSomeAnd o (Needs task values one new.marks.items)) (sym is) (inr (fact, lacks, stays)))
 
 -- by those that don't commute with it
-pub served_conflicts : (task : TaskParts) (values : List ℕ) (one : ℕ) (operator : Operator) (ops : List ℕ) (old new : Growing)
-    → slice_get task.operators one ≡ Some operator → AppliesBy values operator → AreConflicts task one ops → IsPopped task values one old
-    → Adds old new → All (λ op. IsTrue (is_in new.marks.items op)) ops → IsGrowing task values new
-served_conflicts task values one operator ops old new is applies conflicts p d all =
+pub served_conflicts : {task : TaskParts} {values : List ℕ} {one : ℕ} {old new : Growing} (operator : Operator)
+    (ops : List ℕ) → slice_get task.operators one ≡ Some operator → AppliesBy values operator
+    → AreConflicts task one ops → IsPopped task values one old → Adds old new
+    → All (λ op. IsTrue (is_in new.marks.items op)) ops → IsGrowing task values new
+served_conflicts {task} {values} {one} {old} {new} operator ops is applies conflicts p d all =
     growing_served task values one old new p d
     (subst (λ (o : Option Operator). IsSomeAnd o (Needs task values one new.marks.items)) (sym is)
     (inl (applies, has_conflicts task one ops new.marks.items conflicts all)))

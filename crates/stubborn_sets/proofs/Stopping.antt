@@ -55,11 +55,11 @@ barring_begins task values first next set n each marks last d = record {
 }
 
 -- the rules for one that waited are stopped
-pub barring_on : (task : TaskParts) (values : List ℕ) (bars next old new : Growing) (rest : Vec ℕ Global) (one : ℕ)
-    → IsBarring task values bars old → bars.waiting.items ≡ rest.items ++ one ∷ []
+pub barring_on : {task : TaskParts} {values : List ℕ} {bars next old : Growing} (new : Growing)
+    (rest : Vec ℕ Global) (one : ℕ) → IsBarring task values bars old → bars.waiting.items ≡ rest.items ++ one ∷ []
     → Adds (record { marks = bars.marks; waiting = rest }) next → Grows old.marks.items new.marks.items
     → AreStopped task values next.marks.items new.marks.items one → IsBarring task values next new
-barring_on task values bars next old new rest one g last d grows here = record {
+barring_on {task} {values} {bars} {next} {old} new rest one g last d grows here = record {
   each = d.each ∙ g.each;
   marked = λ var h. elim (d.marked var h) [
     | inl was ↦ d.grows var (g.marked var (subst (λ (z : List ℕ). Contains z var) (sym last) (Contains-append_left rest.items (one ∷ []) var was)))

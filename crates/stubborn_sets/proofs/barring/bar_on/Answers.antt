@@ -10,7 +10,7 @@ barring-preserved c =
     record {
       grows = further c.args.barred.now.marks.items bars.marks.items next.marks.items c.barring.invariant.grows c.in_ok-bar_rules.ensures.spreads.grows;
       adds = adds_trans c.args.set.now c.barring.set c.bar_rules.new.set c.barring.invariant.adds c.in_ok-bar_rules.ensures.adds;
-      barring = barring_on c.args.parts.now c.args.values.now bars next c.barring.set c.bar_rules.new.set
-          c.pop.new.self c.in-Some.var c.barring.invariant.barring c.in-Some.ensures.items
+      barring = barring_on c.bar_rules.new.set c.pop.new.self c.in-Some.var
+          c.barring.invariant.barring c.in-Some.ensures.items
           c.in_ok-bar_rules.ensures.spreads c.in_ok-bar_rules.ensures.adds.grows (c.in_ok-bar_rules.ensures.bars c.if-not-branch.false);
     }

@@ -82,11 +82,11 @@ other_says task o xs roots fact layer fits l within ne s b state code =
     ((λ h. v ∙ k.0 h), (λ h. k.1 (sym v ∙ h)))
 
 -- the default value
-pub default_says : (task : TaskParts) (o : Layout) (xs ys : List Node) (roots : List ℕ) (fact : Fact) (layer id : ℕ)
+pub default_says : {task : TaskParts} {o : Layout} {xs ys : List Node} {roots : List ℕ} (fact : Fact) (layer id : ℕ)
     → Fits task → HasLayer task fact.var layer → fact.val ≡ get_or task.initial fact.var 0
     → Keeps xs ys → AreSets task o xs roots → ((b : Bits) → means ys id b ≡ not
     (means xs (get_or roots fact.var 0) b)) → Says task o ys roots (λ values. HasValue values fact) id
-default_says task o xs ys roots fact layer id fits l e keeps are m s b state code =
+default_says {task} {o} {xs} {ys} {roots} fact layer id fits l e keeps are m s b state code =
     let k = cond_default (means xs (get_or roots fact.var 0) b) (other_value task fact.var)
     (get_or task.initial fact.var 0) fact.val (other_differs task fact.var layer fits l) e in
     let v = ap (λ (vs : List ℕ). get_or vs fact.var 0) (kept_values task o xs ys roots s b keeps are) ∙ derived_value task xs roots s b fact.var layer l in
@@ -98,18 +98,23 @@ pub none_says : (task : TaskParts) (o : Layout) (xs : List Node) (roots : List �
     (λ values. (k : ℕ) (d : Fact) → k < 0 → HasValue values (get_or facts k d)) id
 none_says task o xs roots facts id m s b state code = ((λ _ k d lt. absurd (omega (arith, lt))), (λ _. m b))
 
-pub conj_says : (task : TaskParts) (o : Layout) (ys zs : List Node) (roots : List ℕ) (P Q R : List ℕ → Type 0)
-    (f g id : ℕ) → Keeps ys zs → AreSets task o ys roots
-    → Says task o ys roots P f → Says task o ys roots Q g → ((b : Bits) → means zs id b
-    ≡ (means ys f b && means ys g b)) → ((values : List ℕ) → (P values × Q values) ↔ R values)
+-- a diagram of the one table is true where both diagrams of the other are
+pub record IsConj (ys zs : List Node) (f g id : ℕ) : Type 0 where
+  pub both : (b : Bits) → means zs id b ≡ (means ys f b && means ys g b)
+
+pub conj_says : {task : TaskParts} {o : Layout} {ys zs : List Node} {roots : List ℕ} {f g id : ℕ}
+    (P Q R : List ℕ → Type 0) → Keeps ys zs → AreSets task o ys roots → Says task o ys roots P f
+    → Says task o ys roots Q g → IsConj ys zs f g id → ((values : List ℕ) → (P values × Q values) ↔ R values)
     → Says task o zs roots R id
-conj_says task o ys zs roots P Q R f g id keeps are p q m r s b state code =
+conj_says {task} {o} {ys} {zs} {roots} {f} {g} {id} P Q R keeps are p q conj r s b state code =
     let v = kept_values task o ys zs roots s b keeps are in
     let x = p s b state code in
     let y = q s b state code in
     let w = values_of task ys roots s b in (
-      (λ h. let t = and_parts (means ys f b) (means ys g b) (sym (m b) ∙ h) in subst R (sym v) ((r w).0 (x.0 t.0, y.0 t.1))),
-      (λ h. let t = (r w).1 (subst R v h) in m b ∙ and_from (means ys f b) (means ys g b) (x.1 t.0) (y.1 t.1)),
+      (λ h.
+          let t = and_parts (means ys f b) (means ys g b) (sym (conj.both b) ∙ h) in
+          subst R (sym v) ((r w).0 (x.0 t.0, y.0 t.1))),
+      (λ h. let t = (r w).1 (subst R v h) in conj.both b ∙ and_from (means ys f b) (means ys g b) (x.1 t.0) (y.1 t.1)),
     )
 
 pub facts_more : (values : List ℕ) (facts : List Fact) (i : ℕ) (e : Fact) → i < length facts → e ≡ get_or facts i e

@@ -24,22 +24,28 @@ own_there task layer n rules counting rule are lt is at =
     let same : counting.layer ≡ layer = ap (λ (x : Counting). x.layer) is ∙ are.same n counting lt in
     subst (λ (z : ℕ). IsOwn task z rule) same (subst (λ (o : Option Rule). IsSomeAnd o (IsOwn task counting.layer)) at own)
 
+-- the list has the number of the rule at the place
+pub record IsRuleAt (task : TaskParts) (rules : List Counting) (n : ℕ) (rule : Rule) : Type 0 where
+  pub counting : Counting
+  pub within : n < length rules
+  pub is : counting ≡ get_or rules n counting
+  pub found : slice_get task.rules counting.rule ≡ Some rule
+
 -- one rule more
-pub turn_more : (task : TaskParts) (layer n : ℕ) (rules : List Counting) (counting : Counting) (rule : Rule)
-    (old now next : List ℕ) → Fits task → length now ≡ length task.variables → AreOfLayer task layer rules
-    → n < length rules → counting ≡ get_or rules n counting → slice_get task.rules counting.rule ≡ Some rule
+pub turn_more : {task : TaskParts} {layer n : ℕ} {rules : List Counting} {rule : Rule} (old now next : List ℕ)
+    → Fits task → length now ≡ length task.variables → AreOfLayer task layer rules → IsRuleAt task rules n rule
     → PassTurn task layer rules n old now → RuleTurn task rule now next → PassTurn task layer rules (n + 1) old next
-turn_more task layer n rules counting rule old now next fits each are lt is at (g, t) (inl (ready, e)) =
-    let own = own_there task layer n rules counting rule are lt is at in
+turn_more {task} {layer} {n} {rules} {rule} old now next fits each are at (g, t) (inl (ready, e)) =
+    let own = own_there task layer n rules at.counting rule are at.within at.is at.found in
     let within = within_some (λ v. v.layer ≡ Some layer) task.variables rule.var own.on in
     let falls : at_default task.initial (set now rule.var rule.new) < at_default task.initial now =
     at_default_falls task.initial now rule.var rule.new (omega (arith, within, each))
     (let i = fits.initial in omega (arith, within, i)) ready.unraised own.counts in
     let raises : Raises task layer now rule = record { opened = record { own = own; unraised = ready.unraised }; conds = ready.conds } in
     let in_rules : Contains task.rules rule = (
-      counting.rule,
-      slice_get_within task.rules counting.rule rule at,
-      get_or_from_slice_get task.rules counting.rule rule rule at,
+      at.counting.rule,
+      slice_get_within task.rules at.counting.rule rule at.found,
+      get_or_from_slice_get task.rules at.counting.rule rule rule at.found,
     ) in
     subst (λ (z : List ℕ). PassTurn task layer rules (n + 1) old z) (sym e) (by old now rule g in_rules raises, inl (less t falls))
   where
@@ -49,14 +55,14 @@ turn_more task layer n rules counting rule old now next fits each are lt is at (
         → at_default task.initial (set now rule.var rule.new) < at_default task.initial old
     less (inl f) falls = omega (arith, f, falls)
     less (inr (same, none)) falls = subst (λ (z : List ℕ). at_default task.initial (set now rule.var rule.new) < at_default task.initial z) same falls
-turn_more task layer n rules counting rule old now next fits each are lt is at (g, t) (inr (not_ready, e)) =
+turn_more {task} {layer} {n} {rules} {rule} old now next fits each are at (g, t) (inr (not_ready, e)) =
     subst (λ (z : List ℕ). PassTurn task layer rules (n + 1) old z) (sym e) (g, on t)
   where
     none_here : now ≡ old → (d : Counting) → IfSome (slice_get task.rules (get_or rules n d).rule) (λ rule. Raises task layer old rule → ⊥)
     none_here same d =
         let here : slice_get task.rules (get_or rules n d).rule ≡ Some rule =
-        ap (λ (x : Counting). slice_get task.rules x.rule) (get_or_default rules n d counting lt ∙ sym is)
-        ∙ at in
+        ap (λ (x : Counting). slice_get task.rules x.rule) (get_or_default rules n d at.counting at.within ∙ sym at.is)
+        ∙ at.found in
         subst (λ (o : Option Rule). IfSome o (λ rule. Raises task layer old rule → ⊥)) (sym here)
         (λ r. not_ready (subst (λ (z : List ℕ). Rattle.axiom_layers.specs.Raising.IsReady task z rule) (sym same)
         (record { unraised = r.opened.unraised; conds = r.conds })))

@@ -32,8 +32,7 @@ returns-then-fact-as_slice-clause-meaning c =
     (base_by c.index-as_slice-var.result.layer c.is_none.result
     (ap (λ (x : Variable). is_some x.layer) c.index-as_slice-var.is ∙ c.is_none.ensures)
     ∙ c.if-is_none.false) in
-    ok_by c.neg.result _ _ c.neg.ensures.meaning (λ id m. default_says c.args.parts.now c.args.order.now
-    c.args.ops.now c.neg.new.self c.args.roots.now c.args.fact l.0 id c.requires.fits l.1
+    ok_by c.neg.result _ _ c.neg.ensures.meaning (λ id m. default_says c.args.fact l.0 id c.requires.fits l.1
     (c.if-fact-as_slice.true ∙ ap (λ (l : List ℕ). get_or l c.args.fact.var 0) c.as_slice-else-is_none.ensures) c.neg.ensures.kept c.requires.roots m)
 
 pub returns-else-fact-as_slice-clause-of_states : goal.returns-else-fact-as_slice-clause-of_states

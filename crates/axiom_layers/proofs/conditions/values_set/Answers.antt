@@ -5,7 +5,7 @@ use Rattle.task_run.specs.Values.{HasValue}
 use Rattle.bdd_table.proofs.Meaning.{means_true}
 use Rattle.bdd_sets.proofs.OfStates.{set_kept}
 use Rattle.axiom_layers.proofs.RootValues.{kept_sets, kept_says, keeps_on, keeps_itself, constant_of_states, both_of_states}
-use Rattle.axiom_layers.proofs.FactSets.{none_says, conj_says, facts_more}
+use Rattle.axiom_layers.proofs.FactSets.{none_says, IsConj, conj_says, facts_more}
 use Rattle.axiom_layers.proofs.conditions.values_set.Goals as goal
 
 pub loop-fact-init : goal.loop-fact-init
@@ -37,6 +37,7 @@ loop-fact-preserved c =
     let none : Fact = record { var = 0; val = 0 } in
     let e : Fact = get_or facts i none in
     let sets = kept_sets task o xs ys roots set.kept inv.sets in
+    let conj : IsConj ys zs c.loop-fact.all c.in_ok-set.set c.in_ok-all.all = record { both = all.meaning } in
     record {
       kept = keeps_on c.args.ops.now ys zs (keeps_on c.args.ops.now xs ys inv.kept set.kept) all.kept;
       reduced = all.reduced;
@@ -44,11 +45,13 @@ loop-fact-preserved c =
       known = all.known;
       of_states = both_of_states (λ (t u : Bool). t && u) o ys zs c.loop-fact.all c.in_ok-set.set c.in_ok-all.all
           (set_kept o xs ys c.loop-fact.all set.kept inv.known inv.of_states) set.of_states all.meaning;
-      says = conj_says task o ys zs roots
+      says = conj_says
           (λ values. (k : ℕ) (d : Fact) → k < i → HasValue values (get_or facts k d)) (λ values. HasValue values e)
           (λ values. (k : ℕ) (d : Fact) → k < i + 1 → HasValue values (get_or facts k d))
-          c.loop-fact.all c.in_ok-set.set c.in_ok-all.all all.kept sets
+          all.kept sets
           (kept_says task o xs ys roots (λ values. (k : ℕ) (d : Fact) → k < i → HasValue values (get_or facts k d))
           c.loop-fact.all set.kept inv.sets inv.known inv.says)
-          set.meaning all.meaning (λ values. facts_more values facts i e c.loop-fact-test.true (get_or_default facts i none e c.loop-fact-test.true));
+          set.meaning conj
+          (λ values. facts_more values facts i e c.loop-fact-test.true
+          (get_or_default facts i none e c.loop-fact-test.true));
     }

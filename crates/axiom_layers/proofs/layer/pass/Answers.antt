@@ -8,7 +8,7 @@ use Rattle.task_run.proofs.Bucketing.{counting_within}
 use Rattle.axiom_layers.specs.Raising.{values_of}
 use Rattle.axiom_layers.proofs.RootValues.{keeps_itself, keeps_on, values_length}
 use Rattle.axiom_layers.proofs.LayerRules.{rule_read}
-use Rattle.axiom_layers.proofs.PassTurns.{turn_more}
+use Rattle.axiom_layers.proofs.PassTurns.{IsRuleAt, turn_more}
 use Rattle.axiom_layers.proofs.layer.pass.Goals as goal
 use Rattle.axiom_layers.proofs.layer.pass.Goals.{then-branch, else-branch}
 
@@ -56,6 +56,12 @@ loop-counting-preserved c =
     let lt = c.loop-counting-test.true in
     let read = rule_read task c.as_slice.result.now counting rule c.requires.fits (c.requires.rules i none lt)
     c.as_slice.ensures c.index-as_slice-counting.is in
+    let at : IsRuleAt task c.args.rules.now i rule = record {
+      counting = counting;
+      within = lt;
+      is = get_or_default c.args.rules.now i none counting lt;
+      found = read.at;
+    } in
     record {
       kept = keeps_on c.args.ops.now c.loop-counting.ops c.add_rule.new.ops inv.kept added.kept;
       reduced = added.reduced;
@@ -64,13 +70,12 @@ loop-counting-preserved c =
         | then-branch w ↦ λ not_so. absurd (false≢true (sym not_so ∙ w.changed-is))
         | else-branch w ↦ λ not_so. added.same w.if-branch.false ∙ inv.same (sym w.changed-is ∙ not_so)
       ]);
-      turn = λ layer are s b state code. turn_more task layer i c.args.rules.now counting rule
+      turn = λ layer are s b state code. turn_more
           (values_of task c.args.ops.now c.args.roots.now.items s b)
           (values_of task c.loop-counting.ops c.loop-counting.roots.items s b)
           (values_of task c.add_rule.new.ops c.add_rule.new.roots.items s b)
-          c.requires.fits (values_length task c.loop-counting.ops c.loop-counting.roots.items s b) are lt
-          (get_or_default c.args.rules.now i none counting lt) read.at (inv.turn layer are s b state code)
-          (added.turn s b state code);
+          c.requires.fits (values_length task c.loop-counting.ops c.loop-counting.roots.items s b) are at
+          (inv.turn layer are s b state code) (added.turn s b state code);
     }
 
 pub returns-clause-turn : goal.returns-clause-turn

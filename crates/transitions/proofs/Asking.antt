@@ -14,6 +14,7 @@ use Rattle.var_order.specs.Codes.{number, value_of}
 use Rattle.var_order.proofs.Spelling.{number_below}
 use Rattle.var_order.proofs.Values.{base_block}
 use Rattle.transitions.specs.NextValues.{agree, EffectTurn, IsNextValue, Arrives}
+use Rattle.transitions.proofs.Gathering.{StandsAt}
 
 -- numbers of one bit more are equal where that bit is the same and the rest are equal
 same_both : (x : Bool) (m u v : ℕ) → ((cond x m 0 + u) == (cond x m 0 + v)) ≡ (u == v)
@@ -48,28 +49,34 @@ pub next_start : (task : TaskParts) (o : Layout) (var : ℕ) (s : List ℕ) (b :
 next_start task o var s b t code e = (get_or s (place task var) 0, inr (tt, refl), e ∙ ap (λ (z : ℕ). value_of o 1 b var == z) code)
 
 -- one more effect
-pub next_more : (task : TaskParts) (o : Layout) (es : List Effect) (i : ℕ) (e : Effect) (var : ℕ) (s : List ℕ)
-    (b : Bits) (t u : Bool) → i < length es → e ≡ get_or es i e
+pub next_more : {es : List Effect} {i : ℕ} {e : Effect} (task : TaskParts) (o : Layout) (var : ℕ) (s : List ℕ)
+    (b : Bits) (t u : Bool) → StandsAt es i e
     → IsNextValue task o (take i es) var s b t → EffectTurn task o e var s b t u → IsNextValue task o (take (i + 1) es) var s b u
-next_more task o es i e var s b t u lt is (new, after, k) (inl (on, fires, m)) = (
+next_more {es} {i} {e} task o var s b t u at (new, after, k) (inl (on, fires, m)) = (
   e.post,
-  one_more (Fires task s) es i e var (get_or s (place task var) 0) e.post lt is
+  one_more (Fires task s) es i e var (get_or s (place task var) 0) e.post at.within at.is
       (changed (Fires task s) (take i es) e var (get_or s (place task var) 0) on fires),
   m,
 )
-next_more task o es i e var s b t u lt is (new, after, k) (inr (idle, m)) = (
+next_more {es} {i} {e} task o var s b t u at (new, after, k) (inr (idle, m)) = (
   new,
-  one_more (Fires task s) es i e var (get_or s (place task var) 0) new lt is
+  one_more (Fires task s) es i e var (get_or s (place task var) 0) new at.within at.is
       (unchanged (Fires task s) (take i es) e var (get_or s (place task var) 0) new idle after),
   m ∙ k,
 )
 
+-- where it fires, the next bits must spell the effect's value; elsewhere what they had to spell before
+pub record IsChoice (o : Layout) (e : Effect) (var : ℕ) (b : Bits) (fires old new : Bool) : Type 0 where
+  pub post : Bool
+  pub is : post ≡ (value_of o 1 b var == e.post)
+  pub chosen : new ≡ cond fires post old
+
 -- what a choice by the effect's conditions gives
-pub effect_chosen : (task : TaskParts) (o : Layout) (e : Effect) (var : ℕ) (s : List ℕ) (b : Bits)
-    (fires post old new : Bool) → e.var ≡ var → ((fires ≡ true) ↔ Fires task s e)
-    → post ≡ (value_of o 1 b var == e.post) → new ≡ cond fires post old → EffectTurn task o e var s b old new
-effect_chosen task o e var s b true post old new on fires is m = inl (on, fires.0 refl, m ∙ is)
-effect_chosen task o e var s b false post old new on fires is m = inr ((λ _ f. true≢false (sym (fires.1 f))), m)
+pub effect_chosen : {o : Layout} {e : Effect} {var : ℕ} {b : Bits} {old new : Bool} (task : TaskParts) (s : List ℕ)
+    (fires : Bool) → e.var ≡ var → ((fires ≡ true) ↔ Fires task s e) → IsChoice o e var b fires old new
+    → EffectTurn task o e var s b old new
+effect_chosen task s true on fires choice = inl (on, fires.0 refl, choice.chosen ∙ choice.is)
+effect_chosen task s false on fires choice = inr ((λ _ f. true≢false (sym (fires.1 f))), choice.chosen)
 
 -- the diagram of a next value is true where the next bits spell it
 pub arrives : (task : TaskParts) (o : Layout) (es : List Effect) (var : ℕ) (s : List ℕ) (b : Bits) (t : Bool)

@@ -5,6 +5,11 @@ use Rattle.std.proofs.lemmas.Bool.{cases_eq, and_parts, and_from}
 use Rattle.std.proofs.lemmas.List.{get_or_default}
 use Rattle.symk_task.specs.declared.parts.Effect.{Effect}
 
+-- the effect stands at the place
+pub record StandsAt (es : List Effect) (i : ℕ) (e : Effect) : Type 0 where
+  pub within : i < length es
+  pub is : e ≡ get_or es i e
+
 -- the first n elements are so
 abbrev pub FirstAre : (Effect → Type 0) → List Effect → ℕ → Type 0
 FirstAre P es n = (k : ℕ) (d : Effect) → k < n → P (get_or es k d)
@@ -27,12 +32,16 @@ pub first_of_all : (P : Effect → Type 0) (es : List Effect) (i : ℕ) → i < 
 first_of_all P es i within h = ((λ k d lt. h k d (omega (arith, lt))), (λ e is. subst P (sym is) (h i e (omega arith))))
 
 -- a conjunction with what holds of the next element
-pub conj_more : (P : Effect → Type 0) (es : List Effect) (i : ℕ) (e : Effect) (old all value new : Bool)
-    → i < length es → e ≡ get_or es i e → (old ≡ true) ↔ FirstAre P es i → (value ≡ true) ↔ P e
+pub conj_more : {es : List Effect} {i : ℕ} {e : Effect} (P : Effect → Type 0) (old all value new : Bool)
+    → StandsAt es i e → (old ≡ true) ↔ FirstAre P es i → (value ≡ true) ↔ P e
     → new ≡ (all && value) → all ≡ old → (new ≡ true) ↔ FirstAre P es (i + 1)
-conj_more P es i e old all value new within is before here both same = (
-  (λ h. (let parts = and_parts all value (sym both ∙ h) in first_more P es i e within is (before.0 (sym same ∙ parts.0)) (here.0 parts.1))),
-  (λ h. (let parts = first_of_all P es i within h in both ∙ and_from all value (same ∙ before.1 parts.0) (here.1 (parts.1 e is)))),
+conj_more {es} {i} {e} P old all value new at before here both same = (
+  (λ h. (
+      let parts = and_parts all value (sym both ∙ h) in
+      first_more P es i e at.within at.is (before.0 (sym same ∙ parts.0)) (here.0 parts.1))),
+  (λ h. (
+      let parts = first_of_all P es i at.within h in
+      both ∙ and_from all value (same ∙ before.1 parts.0) (here.1 (parts.1 e at.is)))),
 )
 
 -- the same beside what held at first

@@ -9,6 +9,7 @@ use Rattle.axiom_layers.proofs.Raised.{roots_kept}
 use Rattle.axiom_layers.proofs.RootValues.{keeps_on}
 use Rattle.transitions.specs.NextValues.{IsNextValue}
 use Rattle.transitions.proofs.Asking.{base_room, next_start, next_more}
+use Rattle.transitions.proofs.Gathering.{StandsAt}
 use Rattle.transitions.proofs.effects.next_value.Goals as goal
 
 pub loop-effect-init : goal.loop-effect-init
@@ -32,14 +33,18 @@ loop-effect-preserved c =
     let order = c.args.order.now in
     let inv = c.loop-effect.invariant in
     let it = c.in_ok-asked-2.ensures in
+    let at : StandsAt c.args.effects.now c.loop-effect.effect-index c.effect-item.result = record {
+      within = c.loop-effect-test.true;
+      is = c.effect-item.is;
+    } in
     record {
       kept = keeps_on c.args.ops.now c.loop-effect.ops c.with_effect.new.ops inv.kept it.kept;
       reduced = it.reduced;
       roots = roots_kept task order c.loop-effect.ops c.with_effect.new.ops c.args.derived.now it.kept inv.roots;
       known = it.known;
-      next = λ s b state code. next_more task order c.args.effects.now c.loop-effect.effect-index c.effect-item.result c.args.var s b
+      next = λ s b state code. next_more task order c.args.var s b
           (means c.loop-effect.ops c.loop-effect.asked b) (means c.with_effect.new.ops c.in_ok-asked-2.asked b)
-          c.loop-effect-test.true c.effect-item.is (inv.next s b state code) (it.turn s b state code);
+          at (inv.next s b state code) (it.turn s b state code);
     }
 
 pub returns-clause-meaning : goal.returns-clause-meaning

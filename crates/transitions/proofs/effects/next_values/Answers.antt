@@ -6,7 +6,7 @@ use Rattle.axiom_layers.proofs.Raised.{roots_kept}
 use Rattle.axiom_layers.proofs.RootValues.{keeps_on, keeps_itself}
 use Rattle.transitions.specs.NextValues.{Arrives}
 use Rattle.transitions.proofs.Asking.{arrives, arrived}
-use Rattle.transitions.proofs.Gathering.{first_none, first_all, conj_more}
+use Rattle.transitions.proofs.Gathering.{StandsAt, first_none, first_all, conj_more}
 use Rattle.transitions.proofs.effects.next_values.Goals as goal
 
 pub loop-effect-init : goal.loop-effect-init
@@ -31,6 +31,10 @@ loop-effect-preserved c =
     let effects = c.args.effects.now in
     let inv = c.loop-effect.invariant in
     let it = c.in_ok-value.ensures in
+    let at : StandsAt effects c.loop-effect.effect-index c.effect-item.result = record {
+      within = c.loop-effect-test.true;
+      is = c.effect-item.is;
+    } in
     let kept = keeps_on c.loop-effect.ops c.next_value.new.ops c.conj.new.self it.kept c.in_ok-all.ensures.kept in
     record {
       kept = keeps_on c.args.ops.now c.loop-effect.ops c.conj.new.self inv.kept kept;
@@ -40,9 +44,9 @@ loop-effect-preserved c =
       next = λ s b state code.
           let value = means c.next_value.new.ops c.in_ok-value.value b in
           let meaning = it.meaning s b state code in
-          conj_more (λ (e : Effect). Arrives task order effects e.var s b) effects c.loop-effect.effect-index c.effect-item.result
+          conj_more (λ (e : Effect). Arrives task order effects e.var s b)
           (means c.loop-effect.ops c.loop-effect.all b) (means c.next_value.new.ops c.loop-effect.all b) value (means c.conj.new.self c.in_ok-all.all b)
-          c.loop-effect-test.true c.effect-item.is (inv.next s b state code) (
+          at (inv.next s b state code) (
             (λ h. arrives task order effects c.effect-item.result.var s b value meaning h),
             (λ h. arrived task order effects c.effect-item.result.var s b value meaning h),
           )

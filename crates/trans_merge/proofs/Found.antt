@@ -31,17 +31,17 @@ single_is (y ∷ []) x e is = ap (λ (z : Relation). z ∷ []) (sym is)
 single_is (y ∷ z ∷ zs) x e is = absurd (omega (arith, e))
 
 -- both lists were joined, or stand one after the other
-pub combines_joined : (o : Layout) (old new : List Node) (ls rs left right results : List Relation)
-    (joined : Relation) (bound : ℕ) (found : Option Relation) → found ≡ Some joined → ls ≡ left → rs ≡ right
+pub combines_joined : {ls rs left right results : List Relation} {joined : Relation} {found : Option Relation}
+    (o : Layout) (old new : List Node) (bound : ℕ) → found ≡ Some joined → ls ≡ left → rs ≡ right
     → IfSome found (JoinsBoth o old ls rs bound new) → results ≡ joined ∷ [] → Combines o old left right bound new results
-combines_joined o old new ls rs left right results joined bound found e same_left same_right h is =
+combines_joined {ls} {rs} {left} {right} {results} {joined} {found} o old new bound e same_left same_right h is =
     let x = subst (λ (v : Option Relation). IfSome v (JoinsBoth o old ls rs bound new)) e h in
     inl (joined, is, (x.0, x.1, sym same_left ∙ x.2, sym same_right ∙ x.3, x.4, x.5))
 
-pub combines_apart : (o : Layout) (old new : List Node) (ls rs left right results : List Relation) (bound : ℕ)
-    (found : Option Relation) → found ≡ None → ls ≡ left → rs ≡ right
+pub combines_apart : {ls rs left right results : List Relation} {found : Option Relation}
+    (o : Layout) (old new : List Node) (bound : ℕ) → found ≡ None → ls ≡ left → rs ≡ right
     → IfNone found (StayApart o old ls rs bound new) → results ≡ left ++ right → Combines o old left right bound new results
-combines_apart o old new ls rs left right results bound found e same_left same_right h is =
+combines_apart {ls} {rs} {left} {right} {results} {found} o old new bound e same_left same_right h is =
     let x = subst (λ (v : Option Relation). IfNone v (StayApart o old ls rs bound new)) e h in
     inr (
       is,

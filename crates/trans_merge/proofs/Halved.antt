@@ -34,10 +34,10 @@ module _ (o : Layout) where
     first_known nodes xs a e all = subst (λ (rs : List Relation). All (IsRelation o nodes) rs) e all 0 a (omega arith)
 
     -- lists that stay apart do so as the table grows
-    apart_kept : (old mid new : List Node) (xs ys : List Relation) → IsReduced mid → IsReduced new → Keeps old new
+    apart_kept : {old mid new : List Node} (xs ys : List Relation) → IsReduced mid → IsReduced new → Keeps old new
         → Keeps mid new → All (IsRelation o old) xs → All (IsRelation o old) ys → StayApart o old xs ys bound mid
         → StayApart o new xs ys bound new
-    apart_kept old mid new xs ys rm rn k l first second h = elim h [
+    apart_kept {old} {mid} {new} xs ys rm rn k l first second h = elim h [
       | inl many ↦ inl many
       | inr (a, b, joined, is_a, is_b, made, large) ↦ (
           let one = first_known old xs a is_a first in
@@ -84,7 +84,7 @@ module _ (o : Layout) where
           let one = front_holds (IsRelation o old) left right all in
           let two = behind_holds (IsRelation o old) left right all in
           apart left right xs ys halves (halved_kept left xs one first) (halved_kept right ys two second)
-          (apart_kept old old new xs ys ro rn k k (halved_all old left xs one first) (halved_all old right ys two second) stay)
+          (apart_kept xs ys ro rn k k (halved_all old left xs one first) (halved_all old right ys two second) stay)
 
       -- two halves as one list
       pub halved_combined : (left right xs ys results : List Relation) → AreHalves left right
@@ -102,7 +102,8 @@ module _ (o : Layout) where
             (joined_kept old new new a b joined k (keeps_itself new) known_a.known known_b.known made) few))
         | inr (e, stay) ↦ subst (λ (rs : List Relation). IsHalved o bound new (left ++ right) rs) (sym e)
             (apart left right xs ys halves (halved_kept left xs one first) (halved_kept right ys two second)
-            (apart_kept old new new xs ys rn rn k (keeps_itself new) (halved_all old left xs one first) (halved_all old right ys two second) stay))
+            (apart_kept xs ys rn rn k (keeps_itself new) (halved_all old left xs one first)
+            (halved_all old right ys two second) stay))
       ]
 
     pub halved_few : (nodes : List Node) (rs : List Relation) → length rs < 2 → IsHalved o bound nodes rs rs

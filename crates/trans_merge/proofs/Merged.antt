@@ -217,11 +217,11 @@ module _ (o : Layout) where
         subst (λ (xs : List Relation). IsMerged o bound start now xs a) all h.is
 
     -- two halves as one list
-    pub merges_combined : (left right : List Relation) (old new : List Node) (xs ys results : List Relation)
+    pub merges_combined : {left right xs ys : List Relation} {old new : List Node} (results : List Relation)
         → IsReduced old → IsReduced new → Keeps old new → Merges o bound start left old xs
         → Merges o bound start right old ys → Combines o old xs ys bound new results
         → Merges o bound start (left ++ right) new results
-    merges_combined left right old new xs ys results ro rn k first second c = elim c [
+    merges_combined {left} {right} {xs} {ys} {old} {new} results ro rn k first second c = elim c [
       | inl (joined, e, (a, b, is_a, is_b, made, few)) ↦ (
           let one = one_of left old a (subst (λ (rs : List Relation). Merges o bound start left old rs) is_a first) in
           let two = one_of right old b (subst (λ (rs : List Relation). Merges o bound start right old rs) is_b second) in

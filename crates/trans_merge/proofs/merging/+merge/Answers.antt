@@ -125,7 +125,7 @@ returns-clause-merges t c =
     let bound = c.args.bound in
     ok_by c.combine.result _ _ c.combine.ensures.combined (λ results both.
     subst (λ (rs : List Relation). Merges o bound start rs new results.items) h.whole
-    (merges_combined o bound start first second old new left right results.items r.reduced c.combine.ensures.reduced c.combine.ensures.kept
+    (merges_combined o bound start results.items r.reduced c.combine.ensures.reduced c.combine.ensures.kept
     (merges_kept o bound start first mid old left l.reduced r.reduced r.kept l.merges)
     (merges_since o bound start mid second old right l.kept two r.merges) both))
 

@@ -4,13 +4,11 @@ use Rattle.trans_merge.proofs.merging.combine.Goals as goal
 
 pub returns-in-Some-clause-combined : goal.returns-in-Some-clause-combined
 returns-in-Some-clause-combined c = ok_by c.one.result _ _ c.one.ensures (λ results is.
-    combines_joined c.args.order.now c.args.ops.now c.join_both.new.ops c.deref.result.now c.deref-2.result.now
-    c.args.left.items c.args.right.items results.items c.in-Some.joined c.args.bound c.in_ok-joined.field-0
+    combines_joined c.args.order.now c.args.ops.now c.join_both.new.ops c.args.bound
     c.in-Some.is c.deref.ensures.value c.deref-2.ensures.value c.in_ok-joined.ensures.joined is)
 
 pub returns-in_ok-append-in-None-clause-combined : goal.returns-in_ok-append-in-None-clause-combined
 returns-in_ok-append-in-None-clause-combined c =
-    combines_apart c.args.order.now c.args.ops.now c.join_both.new.ops c.deref.result.now c.deref-2.result.now
-    c.args.left.items c.args.right.items c.append.new.self.items c.args.bound c.in_ok-joined.field-0
+    combines_apart c.args.order.now c.args.ops.now c.join_both.new.ops c.args.bound
     c.in-None.is c.deref.ensures.value c.deref-2.ensures.value c.in_ok-joined.ensures.apart
     c.in_ok-append-in-None.ensures.items

@@ -129,11 +129,11 @@ pub record AreTaken (r q : OperatorRelations) (places : List ℕ) (from at : ℕ
 pub given_at : (rs qs xs zs : List Relation) (x : ℕ → ℕ) → xs ≡ rs → qs ≡ zs → Given xs zs x → Given rs qs x
 given_at rs qs xs zs x e f h = subst (λ (ws : List Relation). Given rs ws x) (sym f) (subst (λ (ys : List Relation). Given ys zs x) e h)
 
-pub taken_moved : (task : TaskParts) (o : Layout) (old new : List Node) (r q : OperatorRelations) (places : List ℕ)
-    (from at : ℕ) → AreTaken r q places from at → AreRelationsOf task o old r
+pub taken_moved : {task : TaskParts} {o : Layout} {old : List Node} {r q : OperatorRelations} {places : List ℕ}
+    {from at : ℕ} (new : List Node) → AreTaken r q places from at → AreRelationsOf task o old r
     → AreMovedTo old new (roots_of r) places from
     → AreRelationsOf task o new (with_relations r q)
-taken_moved task o old new r q places from at taken is moved = relations_moved task o old new r q
+taken_moved {task} {o} {old} {r} {q} {places} {from} {at} new taken is moved = relations_moved task o old new r q
     (given_moved old new r.single.items q.single.items (λ i. get_or places (from + i) 0) taken.single_count
     taken.single (first old new r.single.items r.joined.items places from moved))
     (given_moved old new r.joined.items q.joined.items (λ i. get_or places (at + i) 0) taken.joined_count taken.joined

@@ -41,5 +41,4 @@ pub returns-clause-taken : goal.returns-clause-taken
 returns-clause-taken c = taken_roots c.args.self.now (after c) c.args.roots.now c.args.from (c.args.from + c.len.result) (taken c) c.requires
 
 pub returns-clause-moved : goal.returns-clause-moved
-returns-clause-moved c = λ task o old new is moved. taken_moved task o old new c.args.self.now (after c)
-    c.args.roots.now c.args.from (c.args.from + c.len.result) (taken c) is moved
+returns-clause-moved c = λ task o old new is moved. taken_moved new (taken c) is moved

@@ -26,6 +26,22 @@ use Rattle.bdd_space.specs.Members.{HasThose}
 use Rattle.bdd_space.specs.Symbolic.{OwnAre}
 use Rattle.bdd_space.proofs.Having.{alike_those, kept_alike, both_true}
 
+-- The sets are made one after the other, each in a table that keeps the last one: the facts of the goal in the first,
+-- all states in the second, the initial one in the third, and the goal states in the last.
+pub record AreMade (task : TaskParts) (o : Layout) (s : List ℕ) (a b c d : List Node) (facts : ℕ) (own : Own)
+    : Type 0 where
+  pub second : Keeps a b
+  pub third : Keeps b c
+  pub last : Keeps c d
+  pub facts_known : facts < length a
+  pub holds : IsTrueWhere task o a (λ s. All (Holds task s) task.goal) facts
+  pub all_known : own.all < length b
+  pub all : (v : Bits) → (means b own.all v ≡ true) ↔ IsOfState o v
+  pub start_known : own.start < length c
+  pub start : (v : Bits) → (means c own.start v ≡ true) ↔ IsCode o 0 s v
+  pub goals_known : own.goals < length d
+  pub goals : (v : Bits) → means d own.goals v ≡ (means c own.all v && means c facts v)
+
 module _ (task : TaskParts) (o : Layout) (fits : Fits task) (order : IsOrderOf task o) where
   valid_names : (F : Bits → Bool) → ((b : Bits) → (F b ≡ true) ↔ IsOfState o b) → Names o (Listed (system_of task).states) F
   valid_names F is b = (
@@ -61,29 +77,31 @@ module _ (task : TaskParts) (o : Layout) (fits : Fits task) (order : IsOrderOf t
         ((says s b code state).1 ((goal_law task s fits).0 goal))),
   )
 
-  -- the facts in the first table, all states in the second, the initial one in the third, and the goal states in the last
-  pub own_begun : (s : List ℕ) (a b c d : List Node) (facts : ℕ) (own : Own) → IsInitial task s → Keeps a b → Keeps b c → Keeps c d
-      → facts < length a → IsTrueWhere task o a (λ s. All (Holds task s) task.goal) facts
-      → own.all < length b → ((v : Bits) → (means b own.all v ≡ true) ↔ IsOfState o v)
-      → own.start < length c → ((v : Bits) → (means c own.start v ≡ true) ↔ IsCode o 0 s v)
-      → own.goals < length d → ((v : Bits) → means d own.goals v ≡ (means c own.all v && means c facts v)) → OwnAre task o d own
-  own_begun s a b c d facts own i ab bc cd in_a says in_b all in_c start in_d goals =
-      let in_b2 = kept_alike a b facts ab in_a in
-      let in_c2 = kept_alike b c facts bc in_b2.known in
-      let every : HasThose o b (Listed (system_of task).states) own.all = record { known = in_b; names = valid_names (means b own.all) all } in
-      let every_c = alike_those o b c (Listed (system_of task).states) own.all own.all (kept_alike b c own.all bc in_b) every in
+  -- the sets that were made are the space's own
+  pub own_begun : {s : List ℕ} {d : List Node} {own : Own} (a b c : List Node) (facts : ℕ) → IsInitial task s
+      → AreMade task o s a b c d facts own → OwnAre task o d own
+  own_begun {s} {d} {own} a b c facts i made =
+      let in_b2 = kept_alike a b facts made.second made.facts_known in
+      let in_c2 = kept_alike b c facts made.third in_b2.known in
+      let every : HasThose o b (Listed (system_of task).states) own.all = record {
+        known = made.all_known;
+        names = valid_names (means b own.all) made.all;
+      } in
+      let every_c = alike_those o b c (Listed (system_of task).states) own.all own.all
+      (kept_alike b c own.all made.third made.all_known) every in
       record {
-        all = alike_those o c d (Listed (system_of task).states) own.all own.all (kept_alike c d own.all cd every_c.known) every_c;
+        all = alike_those o c d (Listed (system_of task).states) own.all own.all
+            (kept_alike c d own.all made.last every_c.known) every_c;
         start = alike_those o c d (λ t. t ≡ (system_of task).initial) own.start own.start
-            (kept_alike c d own.start cd in_c)
-            (record { known = in_c; names = start_names s (means c own.start) i start });
+            (kept_alike c d own.start made.last made.start_known)
+            (record { known = made.start_known; names = start_names s (means c own.start) i made.start });
         goals = record {
-          known = in_d;
+          known = made.goals_known;
           names = goal_names (means c own.all) (means c facts) (means d own.goals) every_c.names
               (λ t v code state. (
               let same : means c facts v ≡ means a facts v = in_c2.meaning v ∙ in_b2.meaning v in
-              let h = says t v (of_state task o t order state) code in
-              ((λ x. h.0 (sym same ∙ x)), (λ x. same ∙ h.1 x)))) goals;
+              let h = made.holds t v (of_state task o t order state) code in
+              ((λ x. h.0 (sym same ∙ x)), (λ x. same ∙ h.1 x)))) made.goals;
         };
       }
 

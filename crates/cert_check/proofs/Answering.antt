@@ -88,11 +88,12 @@ module _ (task : TaskParts) (o : Layout) (fits : Fits task) (order : IsOrderOf t
         relates set1 names less none))
 
   -- The goal.
-  pub goal_says : (ops0 ops1 ops2 : List Node) (members goals met : ℕ) → members < length ops0 → IsSet o (means ops0 members) → Keeps ops0 ops1 → IsReduced ops2
+  pub goal_says : {ops0 ops1 ops2 : List Node} (members goals met : ℕ) → members < length ops0
+      → IsSet o (means ops0 members) → Keeps ops0 ops1 → IsReduced ops2
       → IsTrueWhere task o ops1 (λ s. All (Holds task s) task.goal) goals → met < length ops2
       → ((b : Bits) → means ops2 met b ≡ (means ops1 members b && means ops1 goals b))
       → MatchBool (not (eqb met 0)) (MeetsGoal task (HasMember o (means ops0 members))) (MissesGoal task (HasMember o (means ops0 members)))
-  goal_says ops0 ops1 ops2 members goals met known set k1 reduced says there both =
+  goal_says {ops0} {ops1} {ops2} members goals met known set k1 reduced says there both =
       let F = means ops1 members in
       let set1 : IsSet o F = kept_set o ops0 ops1 members k1 known set in
       let same : (s : List ℕ) → IsState task s → HasMember o (means ops1 members) s
@@ -109,10 +110,10 @@ module _ (task : TaskParts) (o : Layout) (fits : Fits task) (order : IsOrderOf t
     pub is_set : IsSet o (means ops1 members)
     pub same : (s : List ℕ) → IsState task s → HasMember o (means ops0 set) s ↔ HasMember o (means ops1 members) s
 
-  pub members_made : (ops0 ops1 ops2 : List Node) (set valid members : ℕ) → set < length ops0
+  pub members_made : {ops0 ops1 : List Node} (ops2 : List Node) (set valid members : ℕ) → set < length ops0
       → IsSetOfStates o ops0 set → Keeps ops0 ops1 → ((b : Bits) → (means ops1 valid b ≡ true) ↔ IsOfState o b)
       → members < length ops2 → ((b : Bits) → means ops2 members b ≡ (means ops1 valid b && means ops1 set b)) → AreMembers ops0 set ops2 members
-  members_made ops0 ops1 ops2 set valid members known alone k1 all there both =
+  members_made {ops0} {ops1} ops2 set valid members known alone k1 all there both =
       let less : (b : Bits) → means ops2 members b ≡ (means ops1 valid b && means ops0 set b) = λ b. both b
       ∙ ap (λ (t : Bool). means ops1 valid b && t) (k1.meaning set b known) in
       record {

@@ -19,12 +19,12 @@ use Rattle.cert_check.proofs.Judged.{member_alike, closed_alike, leaves_alike}
 use Rattle.cert_check.proofs.Answering.{kept_set, closed_more}
 
 -- where the roots, and the members behind them, were moved together
-pub carried_by : (old new : List Node) (derived : List ℕ) (members : ℕ) (roots places more : List ℕ) (place : ℕ)
-    → roots ≡ derived ++ members ∷ [] → ((i : ℕ) → i < length roots → IsMoved old new (get_or roots i 0)
-    (get_or places i 0))
+pub carried_by : {old new : List Node} {roots more : List ℕ} {place : ℕ} (derived : List ℕ) (members : ℕ)
+    (places : List ℕ) → roots ≡ derived ++ members ∷ []
+    → ((i : ℕ) → i < length roots → IsMoved old new (get_or roots i 0) (get_or places i 0))
     → length more ≡ length derived → ((var : ℕ) → var < length derived → get_or more var 0 ≡ get_or places var 0)
     → place ≡ get_or places (length derived) 0 → AreCarried old derived members new more place
-carried_by old new derived members roots places more place is moved count each last =
+carried_by {old} {new} {roots} {more} {place} derived members places is moved count each last =
     let long : length roots ≡ length derived + 1 = ap (λ (xs : List ℕ). length xs) is ∙ length-append derived (members ∷ []) in
     record {
       count = count;

@@ -75,67 +75,67 @@ choose : (t u x y : Bool) (lo hi : ℕ) (xs : List Bool) → t ≡ u → x ≡ g
 choose true u x y lo hi xs e h l = h ∙ ap (λ (v : Bool). get_or xs (cond v hi lo) false) e
 choose false u x y lo hi xs e h l = l ∙ ap (λ (v : Bool). get_or xs (cond v hi lo) false) e
 
+-- the next table keeps what the last one has, and has a diagram that means what the node says of those before it
+pub record IsMade (places : List ℕ) (now new : List Node) (ids : List ℕ) (x : CertNode) (id : ℕ) : Type 0 where
+  pub keeps : Keeps now new
+  pub reduced : IsReduced new
+  pub known : id < length new
+  pub meaning : (b : Bits) → means new id b ≡ cond (b (level_at 0 (get_or places x.bit 0)))
+      (means now (get_or ids x.hi 0) b) (means now (get_or ids x.lo 0) b)
+
 module _ (places : List ℕ) (start now : List Node) (ids : List ℕ) (done : List CertNode) (built : Built places start now ids done) where
   -- what the diagram of a number means
   pub number_means : (k : ℕ) (b : Bits) → k < length ids → means now (get_or ids k 0) b ≡ get_or (says (bits_at places b) done) k false
   number_means k b lt = sym (get_or-map (λ id. means now id b) ids k 0 false lt) ∙ ap (λ (xs : List Bool). get_or xs k false) (built.says b)
 
-  pub built_more : (new : List Node) (all : List ℕ) (id : ℕ) (x : CertNode) → IsNext (length places) done x
-      → Keeps now new → IsReduced new → id < length new → all ≡ ids ++ id ∷ []
-      → ((b : Bits) → means new id b ≡ cond (b (level_at 0 (get_or places x.bit 0))) (means now (get_or ids x.hi 0) b) (means now (get_or ids x.lo 0) b))
-      → Built places start new all (done ++ x ∷ [])
+  pub built_more : {new : List Node} {all : List ℕ} {id : ℕ} {x : CertNode} → IsNext (length places) done x
+      → IsMade places now new ids x id → all ≡ ids ++ id ∷ [] → Built places start new all (done ++ x ∷ [])
   unfolding says
-  built_more new all id x next keeps reduced known is meaning =
+  built_more {new} {all} {id} {x} next made is =
       let count = built.count in
-      let more = keeps.known in
+      let more = made.keeps.known in
       let still : All (λ (i : ℕ). i < length new) ids = λ k d lt. (let h = built.known k d lt in omega (arith, h, more)) in
       let pushed : Built places start new (ids ++ id ∷ []) (done ++ x ∷ []) = record {
         count = omega (arith, count, length_push ids id, length_push done x);
-        known = All-push (λ (i : ℕ). i < length new) ids id still known;
+        known = All-push (λ (i : ℕ). i < length new) ids id still made.known;
         says = λ b. (
             let bits = bits_at places b in
             let old : map (λ i. means new i b) ids ≡ says bits done =
             map_all (λ i. means new i b) (λ i. means now i b) (λ i. i < length now) ids built.known
-            (λ i lt. keeps.meaning i b lt) ∙ built.says b in
+            (λ i lt. made.keeps.meaning i b lt) ∙ built.says b in
             let bit : b (level_at 0 (get_or places x.bit 0)) ≡ get_or bits x.bit false =
             sym (get_or-map (λ p. b (level_at 0 p)) places x.bit 0 false next.bit) in
             let hi_in : x.hi < length ids = (let h = next.hi in omega (arith, h, count)) in
             let lo_in : x.lo < length ids = (let h = next.lo in omega (arith, h, count)) in
-            let one : means new id b ≡ node_says bits (says bits done) x = meaning b
+            let one : means new id b ≡ node_says bits (says bits done) x = made.meaning b
             ∙ choose (b (level_at 0 (get_or places x.bit 0))) (get_or bits x.bit false)
             (means now (get_or ids x.hi 0) b) (means now (get_or ids x.lo 0) b) x.lo x.hi (says bits done) bit
             (number_means x.hi b hi_in) (number_means x.lo b lo_in) in
             map-append (λ i. means new i b) ids (id ∷ []) ∙ ap (λ (ys : List Bool). ys ++ means new id b ∷ []) old
             ∙ ap (λ (y : Bool). says bits done ++ y ∷ []) one
             ∙ sym (fold-append (with_node bits) (false ∷ true ∷ []) done (x ∷ [])));
-        keeps = keeps_on start now new built.keeps keeps;
-        reduced = reduced;
+        keeps = keeps_on start now new built.keeps made.keeps;
+        reduced = made.reduced;
       } in
       subst (λ (xs : List ℕ). Built places start new xs (done ++ x ∷ [])) (sym is) pushed
 
-pub built_next : (places : List ℕ) (start now : List Node) (ids shown : List ℕ) (there : List CertNode) (i : ℕ)
-    → Built places start now ids (take i there) → (new : List Node) (all : List ℕ) (id : ℕ) (d : CertNode)
-    → i < length there → IsNext (length places) (take i there) (get_or there i d) → Keeps now new → IsReduced new
-    → id < length new → shown ≡ ids → all ≡ ids ++ id ∷ []
-    → ((b : Bits) → means new id b ≡ cond (b (level_at 0 (get_or places (get_or there i d).bit 0)))
-    (means now (get_or shown (get_or there i d).hi 0) b) (means now (get_or shown (get_or there i d).lo 0) b))
-    → Built places start new all (take (i + 1) there)
-built_next places start now ids shown there i built new all id d lt next keeps reduced known same e meaning =
-    let x = get_or there i d in
+pub built_next : {places : List ℕ} {start now new : List Node} {ids shown all : List ℕ} {id : ℕ}
+    (there : List CertNode) (i : ℕ) (d : CertNode) → Built places start now ids (take i there) → i < length there
+    → IsNext (length places) (take i there) (get_or there i d) → IsMade places now new shown (get_or there i d) id
+    → shown ≡ ids → all ≡ ids ++ id ∷ [] → Built places start new all (take (i + 1) there)
+built_next {places} {start} {now} {new} {ids} {shown} {all} {id} there i d built lt next made same e =
     subst (Built places start new all) (sym (take_more there i d lt))
-    (built_more places start now ids (take i there) built new all id x next keeps reduced known e
-    (λ b. subst (λ (xs : List ℕ). means new id b ≡ cond (b (level_at 0 (get_or places x.bit 0)))
-    (means now (get_or xs x.hi 0) b) (means now (get_or xs x.lo 0) b)) same (meaning b)))
+    (built_more places start now ids (take i there) built next
+    (subst (λ (xs : List ℕ). IsMade places now new xs (get_or there i d) id) same made) e)
 
 pub record IsNamed (places : List ℕ) (cert : Certificate) (now : List Node) (id : ℕ) : Type 0 where
   pub known : id < length now
   pub meaning : (b : Bits) → means now id b ≡ holds cert (bits_at places b)
 
-pub root_named : (places : List ℕ) (start now : List Node) (ids : List ℕ) (there : List CertNode) (i : ℕ)
-    (cert : Certificate) → IsInOrder (length places) cert → there ≡ cert.nodes → i ≤ length there → length there ≤ i
-    → Built places start now ids (take i there)
-    → IsNamed places cert now (get_or ids cert.root 0)
-root_named places start now ids there i cert order same low high built =
+pub root_named : {places : List ℕ} {start now : List Node} {ids : List ℕ} {cert : Certificate}
+    (there : List CertNode) (i : ℕ) → IsInOrder (length places) cert → there ≡ cert.nodes → i ≤ length there
+    → length there ≤ i → Built places start now ids (take i there) → IsNamed places cert now (get_or ids cert.root 0)
+root_named {places} {start} {now} {ids} {cert} there i order same low high built =
     let all : take i there ≡ cert.nodes = take_all i there high ∙ same in
     let done : Built places start now ids cert.nodes = subst (Built places start now ids) all built in
     let count = done.count in

@@ -12,10 +12,10 @@ use Rattle.cert_out.specs.CertText.{cert_text}
 use Rattle.cert_out.specs.Written.{IsProof}
 use Rattle.cert_out.proofs.TextLines.{text_states}
 
-pub proof_of : (task : TaskParts) (o : Layout) (width : ℕ) (cert : Certificate) (text : List ℕ) → IsOrderOf task o
+pub proof_of : {task : TaskParts} {o : Layout} {width : ℕ} {cert : Certificate} {text : List ℕ} → IsOrderOf task o
     → width ≡ bits o → width ≤ 65536 → IsInOrder (state_width task) cert → length cert.nodes + 2 < 2 ^ 63
     → IsTidy cert → IsInductive task (Named task cert) → text ≡ cert_text width cert → IsProof task text
-proof_of task o width cert text order wide most in_order few tidy inductive written =
+proof_of {task} {o} {width} {cert} {text} order wide most in_order few tidy inductive written =
     let same : width ≡ state_width task = wide ∙ order.bits in
     let is : text ≡ cert_text (state_width task) cert = written ∙ ap (λ (w : ℕ). cert_text w cert) same in
     record {

@@ -16,10 +16,17 @@ returns-clause-are c =
     let order = c.args.order.now in
     let says = subst (λ (facts : List Fact). IsTrueWhere task order c.facts_set.new.ops (λ s. All (Holds task s) facts) c.in_ok-facts.facts)
     (c.as_slice.ensures ∙ ap (λ (t : TaskParts). t.goal) c.parts.ensures.value) c.in_ok-facts.ensures.meaning in
-    own_begun task order c.parts.ensures.fits c.requires.order c.args.initial.now c.facts_set.new.ops
-    c.valid_set.new.ops c.state_set.new.ops c.conj.new.self c.in_ok-facts.facts _ c.requires.initial
-    c.in_ok-all.ensures.kept c.in_ok-start.ensures.kept c.in_ok-goals.ensures.kept
-    c.in_ok-facts.ensures.known says
-    c.in_ok-all.ensures.known c.in_ok-all.ensures.meaning
-    c.in_ok-start.ensures.known c.in_ok-start.ensures.meaning
-    c.in_ok-goals.ensures.known c.in_ok-goals.ensures.meaning
+    own_begun task order c.parts.ensures.fits c.requires.order c.facts_set.new.ops c.valid_set.new.ops
+    c.state_set.new.ops c.in_ok-facts.facts c.requires.initial (record {
+      second = c.in_ok-all.ensures.kept;
+      third = c.in_ok-start.ensures.kept;
+      last = c.in_ok-goals.ensures.kept;
+      facts_known = c.in_ok-facts.ensures.known;
+      holds = says;
+      all_known = c.in_ok-all.ensures.known;
+      all = c.in_ok-all.ensures.meaning;
+      start_known = c.in_ok-start.ensures.known;
+      start = c.in_ok-start.ensures.meaning;
+      goals_known = c.in_ok-goals.ensures.known;
+      goals = c.in_ok-goals.ensures.meaning;
+    })

@@ -13,6 +13,5 @@ returns-clause-says c =
     let order = c.args.order.now in
     let says = subst (λ (facts : List Fact). IsTrueWhere task order c.facts_set.new.ops (λ s. All (Holds task s) facts) c.in_ok-goals.goals)
     (c.as_slice.ensures ∙ ap (λ (t : TaskParts). t.goal) c.parts.ensures.value) c.in_ok-goals.ensures.meaning in
-    goal_says task order c.parts.ensures.fits c.requires.order c.args.ops.now c.facts_set.new.ops c.conj.new.self
-    c.args.members c.in_ok-goals.goals c.in_ok-met.met
+    goal_says task order c.parts.ensures.fits c.requires.order c.args.members c.in_ok-goals.goals c.in_ok-met.met
     c.requires.members c.requires.set c.in_ok-goals.ensures.kept c.in_ok-met.ensures.reduced says c.in_ok-met.ensures.known c.in_ok-met.ensures.meaning

@@ -8,9 +8,7 @@ moved-requires c = all_known c.args.ops.now c.args.derived.now c.args.members c.
 
 pub returns-clause-carried : goal.returns-clause-carried
 returns-clause-carried c =
-    carried_by c.args.ops.now c.moved.new.ops c.args.derived.now c.args.members c.in_ok-roots.roots.items
-    c.in_ok-places.places.items c.put_roots.new.derived
-    (get_or c.as_slice-at.result.now (length c.roots-count.result.now) 0)
+    carried_by c.args.derived.now c.args.members c.in_ok-places.places.items
     c.in_ok-roots.ensures c.in_ok-places.ensures.moved c.put_roots.ensures.count
     (λ var lt. c.put_roots.ensures.each var lt ∙ ap (λ (xs : List ℕ). get_or xs var 0)
     c.as_slice-at.ensures.value)

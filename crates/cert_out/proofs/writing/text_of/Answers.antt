@@ -8,6 +8,6 @@ pub returns : goal.returns
 returns c =
     let e = c.args.space.now in
     ok_by c.cert_text.result _ _ c.cert_text.ensures (λ text written.
-    proof_of e.task e.order c.bits.result c.in_ok-cert.cert text.items c.order.ensures.order
+    proof_of c.order.ensures.order
     (c.bits.ensures.value ∙ ap (λ (o : Layout). bits o) c.order.ensures.is) c.bits.ensures.most
     c.in_ok-cert.ensures.in_order c.in_ok-cert.ensures.few c.in_ok-cert.ensures.tidy c.in_ok-cert.ensures.inductive written)

@@ -164,11 +164,11 @@ told_owes below tells keys held p told = told_unlisted Unordered keys (OrHeld be
 abbrev pub still : (List ℕ → Bool) → List (List ℕ) → ℕ
 still tells keys = count_by tells (orders_all keys)
 
-pub still_falls : (system : System) (below mode : Mode) (most : Option ℕ) (keys : List (List ℕ))
-    (before after : List ℕ → Type 0) (p : List ℕ) (tells later : List ℕ → Bool)
+pub still_falls : {system : System} {below : Mode} (mode : Mode) {most : Option ℕ} (keys : List (List ℕ))
+    {before after : List ℕ → Type 0} {p : List ℕ} (tells later : List ℕ → Bool)
     → ((q : List ℕ) → Decides (tells q) (before q)) → ((q : List ℕ) → Decides (later q) (after q))
     → Gave system below most before after p → IsListed mode keys p → still later keys < still tells keys
-still_falls system below mode most keys before after p tells later told told_later gave listed =
+still_falls {below = below} mode keys {p = p} tells later told told_later gave listed =
     count_falls tells later (orders_all keys) p
     (λ q e. (told q).1 ((gave.rest q).0 ((told_later q).0 e)).0)
     (listed_order mode keys p listed)

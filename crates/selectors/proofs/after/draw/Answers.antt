@@ -8,8 +8,7 @@ plans-smaller g c =
     let e = g.I.LazyPlans in
     let gave = rw (i.system, i.mode, i.most) at (rw c.in-Ok-Some.field-0-is at c.in-Ok-Some.ensures.law) in
     let listed = c.is_listed.ensures.listed.0 (search rules) in
-    still_falls _ c.args.mode c.args.mode _ c.args.keys.now (e.pends c.plans.inner) (e.pends c.next_plan.new.self)
-    c.in-Ok-Some.plan (e.tells c.plans.inner) (e.tells c.next_plan.new.self)
+    still_falls c.args.mode c.args.keys.now (e.tells c.plans.inner) (e.tells c.next_plan.new.self)
     (g.met.I.LazyPlans.told c.plans.inner i.lawful) (g.met.I.LazyPlans.told c.next_plan.new.self
     c.in-Ok-Some.ensures.lawful) gave listed
 

@@ -1,5 +1,5 @@
 use Rattle.std.proofs.Common.{◌∙◌, refl}
-use Rattle.symk_task.specs.declared.parts.Mode.TheVariants.{TopK, Unordered}
+use Rattle.symk_task.specs.declared.parts.Mode.TheVariants.{Unordered}
 use Rattle.selector_laws.proofs.Keyed.{key_same, keys_more}
 use Rattle.selector_laws.proofs.Draws.{begun, law_fresh, law_held, law_skips, law_stop, still_falls}
 use Rattle.selectors.proofs.unordered.draw.Goals as goal
@@ -50,8 +50,7 @@ plans-smaller g c =
     let e = g.I.LazyPlans in
     let gave = rw (i.system, i.mode, i.most) at (rw c.in-Ok-Some.field-0-is at c.in-Ok-Some.ensures.law) in
     let noted = rw c.in-Ok-false.field-0-test at c.in-Ok-false.ensures.ok in
-    let falls = still_falls _ TopK Unordered _ c.plans.seen (e.pends c.plans.inner) (e.pends c.next_plan.new.self)
-    c.in-Ok-Some.plan (e.tells c.plans.inner) (e.tells c.next_plan.new.self)
+    let falls = still_falls Unordered c.plans.seen (e.tells c.plans.inner) (e.tells c.next_plan.new.self)
     (g.met.I.LazyPlans.told c.plans.inner i.lawful) (g.met.I.LazyPlans.told c.next_plan.new.self
     c.in-Ok-Some.ensures.lawful) gave noted.0 in
     rw noted.1 falls

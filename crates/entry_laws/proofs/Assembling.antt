@@ -88,24 +88,28 @@ module _ (y : System) (front back : ℕ → State → Bool) (e : Plain) (others 
   }
 
 -- an entry that isn't finished has a falling child
-pub head_some : (y : System) (front back : ℕ → State → Bool) (f b listed : ℕ) (tab : Tables y front back f b)
-    (has : State → Bool) (cost ring : ℕ) (ops : List ℕ) (after : ℕ) (level falling : List Plain)
-    → Stands y f b listed (Head has cost ring ops after) → Gathered y front back (Head has cost ring ops after)
-    level falling → ((cost ≡ 0) × (has y.initial ≡ true) → ⊥) → 0 < length falling
-head_some y front back f b listed tab has cost ring ops after level falling st s off =
+pub head_some : {y : System} {front back : ℕ → State → Bool} {f b : ℕ} (listed : ℕ) → Tables y front back f b
+    → {has : State → Bool} {cost ring : ℕ} {ops : List ℕ} {after : ℕ} {level falling : List Plain}
+    → Gathered y front back (Head has cost ring ops after) level falling
+    → Stands y f b listed (Head has cost ring ops after) → ((cost ≡ 0) × (has y.initial ≡ true) → ⊥)
+    → 0 < length falling
+head_some {y = y} {front = front} {back = back} {f = f} {b = b} listed tab {has = has} {cost = cost} {ring = ring}
+    {ops = ops} {after = after} s st off =
     elim (head_falls y front back f b tab has cost ring listed ops after st) [
       | inl h ↦ absurd (off h)
       | inr h ↦ s.falls h.0 h.3 (h.1, h.2, h.4, h.5, h.6)
     ]
 
-pub tail_some : (y : System) (front back : ℕ → State → Bool) (f b listed : ℕ) (tab : Tables y front back f b)
-    (cost ring : ℕ) (ops : List ℕ) (level falling : List Plain) → Stands y f b listed (Tail cost ring ops)
-    → Gathered y front back (Tail cost ring ops) level falling
+pub tail_some : {y : System} {front back : ℕ → State → Bool} {f b : ℕ} (listed : ℕ) → Tables y front back f b
+    → {cost ring : ℕ} {ops : List ℕ} {level falling : List Plain}
+    → Gathered y front back (Tail cost ring ops) level falling → Stands y f b listed (Tail cost ring ops)
     → ((cost ≡ 0) × IsPlan y ops → ⊥) → 0 < length falling
-tail_some y front back f b listed tab cost ring ops level falling st s off = elim (tail_falls y front back f b tab cost ring listed ops st) [
-  | inl h ↦ absurd (off h)
-  | inr h ↦ s.falls h.0 h.3 (h.1, h.2, h.4, h.5, h.6, h.7)
-]
+tail_some {y = y} {front = front} {back = back} {f = f} {b = b} listed tab {cost = cost} {ring = ring} {ops = ops} s st
+    off =
+    elim (tail_falls y front back f b tab cost ring listed ops st) [
+      | inl h ↦ absurd (off h)
+      | inr h ↦ s.falls h.0 h.3 (h.1, h.2, h.4, h.5, h.6, h.7)
+    ]
 
 begun_counts : (a : Bool) → a ≡ (a && true)
 begun_counts true = refl

@@ -23,34 +23,37 @@ module _ (y : System) (front back : ℕ → State → Bool) (f b : ℕ) (tab : T
   both_of : (a c : Bool) → a ≡ true → c ≡ true → (a && c) ≡ true
   both_of a c e h = rw (e, h) refl
 
-  at_cut : (d op r c : ℕ) (s t : State) (p : List ℕ) → d < f → r < b → ReachedAt y c s → Runs y s p t
-      → IsTrue (y.goal t) → begins y (op ∷ []) r p ≡ true → c ≡ d → meeting y front back d op r s ≡ true
-  at_cut d op r c s t [] low near g run goal h e = absurd (falsum h)
-  at_cut d op r c s t (a ∷ p) low near g (m, leads, run) goal h e =
-      let parts = both _ _ h in
-      let is : a ≡ op = eqb-true a op parts.0 in
-      let left : cost_of y p ≡ r = eqb-true _ _ parts.1 in
-      let lead : Leads y op s m = subst (λ (k : ℕ). Leads y k s m) is leads in
-      let bwd : ToGoalAt y r m = (p, t, run, goal, left) in
-      let fwd : ReachedAt y d s = subst (λ (k : ℕ). ReachedAt y k s) e g in
-      let u : Useful y s = record { before = (d, fwd); after = (y.cost op + r, bwd_more y r op s m lead bwd) } in
-      let w : Useful y m = record { before = (d + y.cost op, fwd_more y d op s m fwd lead); after = (r, bwd) } in
-      rw lead.step (both_of _ _ (tab.front_all d s low u fwd) (tab.back_all r m near w bwd))
+  -- a cut whose layers both stand below the bounds
+  module _ (d op r : ℕ) (low : d < f) (near : r < b) where
+    at_cut : (c : ℕ) (s t : State) (p : List ℕ) → ReachedAt y c s → Runs y s p t
+        → IsTrue (y.goal t) → begins y (op ∷ []) r p ≡ true → c ≡ d → meeting y front back d op r s ≡ true
+    at_cut c s t [] g run goal h e = absurd (falsum h)
+    at_cut c s t (a ∷ p) g (m, leads, run) goal h e =
+        let parts = both _ _ h in
+        let is : a ≡ op = eqb-true a op parts.0 in
+        let left : cost_of y p ≡ r = eqb-true _ _ parts.1 in
+        let lead : Leads y op s m = subst (λ (k : ℕ). Leads y k s m) is leads in
+        let bwd : ToGoalAt y r m = (p, t, run, goal, left) in
+        let fwd : ReachedAt y d s = subst (λ (k : ℕ). ReachedAt y k s) e g in
+        let u : Useful y s = record { before = (d, fwd); after = (y.cost op + r, bwd_more y r op s m lead bwd) } in
+        let w : Useful y m = record { before = (d + y.cost op, fwd_more y d op s m fwd lead); after = (r, bwd) } in
+        rw lead.step (both_of _ _ (tab.front_all d s low u fwd) (tab.back_all r m near w bwd))
 
-  meets : (d op r c : ℕ) (s t : State) (p : List ℕ) → d < f → r < b → ReachedAt y c s → Runs y s p t
-      → IsTrue (y.goal t) → Meeting y (meeting y front back d op r) d (begins y (op ∷ []) r) c s p
-  meets d op r c s t [] low near g run goal = (λ h e. at_cut d op r c s t [] low near g run goal h e)
-  meets d op r c s t (a ∷ p) low near g (m, leads, run) goal = (
-    (λ h e. at_cut d op r c s t (a ∷ p) low near g (m, leads, run) goal h e),
-    (m, leads.step, meets d op r (c + y.cost a) m t p low near (fwd_more y c a s m g leads) run goal),
-  )
+    meets : (c : ℕ) (s t : State) (p : List ℕ) → ReachedAt y c s → Runs y s p t
+        → IsTrue (y.goal t) → Meeting y (meeting y front back d op r) d (begins y (op ∷ []) r) c s p
+    meets c s t [] g run goal = (λ h e. at_cut c s t [] g run goal h e)
+    meets c s t (a ∷ p) g (m, leads, run) goal = (
+      (λ h e. at_cut c s t (a ∷ p) g (m, leads, run) goal h e),
+      (m, leads.step, meets (c + y.cost a) m t p (fwd_more y c a s m g leads) run goal),
+    )
 
   -- a plan extends the entry that a cut begins with exactly where the cut is its own
   pub cross_hits : (d op r ring : ℕ) (p : List ℕ) → d < f → r < b → b ≤ y.cost op + r → IsPlan y p
       → entry_hits y (Head (meeting y front back d op r) d ring (op ∷ []) r) p ≡ ind
       (same_cut (cut_of y b p) (Cross d op r))
   cross_hits d op r ring p low near far (t, run, goal) =
-      hits_spots y (meeting y front back d op r) d (begins y (op ∷ []) r) 0 y.initial p (meets d op r 0 y.initial t p low near ([], refl, refl) run goal)
+      hits_spots y (meeting y front back d op r) d (begins y (op ∷ []) r) 0 y.initial p
+      (meets d op r low near 0 y.initial t p ([], refl, refl) run goal)
       ∙ drawn_spots y b d op r p near far
 
   -- each plan's cut is found where the layers meet
@@ -58,7 +61,7 @@ module _ (y : System) (front back : ℕ → State → Bool) (f b : ℕ) (tab : T
   cross_there p d op r (t, run, goal) (q, rest, is, x, z, near, far) low =
       let m = parted y q (op ∷ rest) y.initial t (subst (λ (l : List ℕ). Runs y y.initial l t) is run) in
       let test : begins y (op ∷ []) r (op ∷ rest) ≡ true = rw (eq-eqb op op refl) (eq-eqb _ _ z) in
-      (m.0, at_cut d op r d m.0 t (op ∷ rest) low near (q, m.1, x) m.2 goal test refl)
+      (m.0, at_cut d op r low near d m.0 t (op ∷ rest) (q, m.1, x) m.2 goal test refl)
 
   -- what the first entry of a cut stands on
   pub cross_stands : (d op r ring listed : ℕ) → op < y.operators → d < f → r < b → d + y.cost op + r ≡ listed

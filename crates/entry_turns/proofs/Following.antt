@@ -58,8 +58,7 @@ module _ {Set : Type 0} (u v : View Set) (front back : Layers Set) (f b listed :
       let open_ : e.cost ≡ 0 → IsPlan y e.operators.items → ⊥ = λ z p.
       let at : p.0 ≡ e.state = run_one y y.initial e.operators.items p.0 e.state p.1 ok in
       clash false (says.1 (z, subst (λ (s : State). IsTrue (y.goal s)) at p.2)) refl in
-      let some = tail_some y fr bk f b listed ready.sides.tables e.cost e.ring e.operators.items (plains v level)
-      (plains v falling) ready.stands g (λ h. open_ h.0 h.1) in
+      let some = tail_some listed ready.sides.tables g ready.stands (λ h. open_ h.0 h.1) in
       goes_plain y fr bk (plain u (After e)) others (plains v level) (plains v falling) g open_ (λ p. refl) some
 
   -- a prefix that doesn't begin yet
@@ -67,8 +66,7 @@ module _ {Set : Type 0} (u v : View Set) (front back : Layers Set) (f b listed :
       → Gathered y fr bk (plain u (Before e)) (plains v level) (plains v falling)
       → Goes y fr bk (others ++ plain u (Before e) ∷ []) (others ++ (plains v level ++ plains v falling))
   prefix_turn e none ready g =
-      let some = head_some y fr bk f b listed ready.sides.tables (u.has e.set) e.cost e.ring e.operators.items e.after
-      (plains v level) (plains v falling) ready.stands g none in
+      let some = head_some listed ready.sides.tables g ready.stands none in
       goes_plain y fr bk (plain u (Before e)) others (plains v level) (plains v falling) g tt
       (λ p. not_begun y (u.has e.set) e.cost e.ring e.operators.items e.after p
       (off e.cost (u.has e.set y.initial) none)) some

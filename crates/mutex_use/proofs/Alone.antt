@@ -144,11 +144,11 @@ module _ {Set : Type 0} (task : TaskParts) (v w x y : View Set) (kept keepers : 
 
 -- the set takes the place of the one before
 
-pub joined_narrows : {Set : Type 0} (v w x y : View Set) (task : TaskParts) (kept both r : Set) (g : ℕ) → Kept v w
-    → MayKeepMore v w task kept g (Some both) → Valid v kept → Forgot w x kept → r ≡ both → Stays x y
+pub joined_narrows : {Set : Type 0} {v w x y : View Set} (task : TaskParts) (kept : Set) {both r : Set} (g : ℕ)
+    → Kept v w → MayKeepMore v w task kept g (Some both) → Valid v kept → Forgot w x kept → r ≡ both → Stays x y
     → NarrowsHolding v y task kept g r
-joined_narrows v w x y task kept both r g k m valid f e z =
-    let n = narrows_tidied v w x y kept both r k m.1 valid f e z in
+joined_narrows task kept g k m valid f e z =
+    let n = narrows_tidied k m.1 valid f e z in
     record { trades = n.trades; means = inr (m.0, n.means) }
 
 pub stays_narrows : {Set : Type 0} (v w : View Set) (task : TaskParts) (kept r : Set) (g : ℕ) → Valid v kept
@@ -159,6 +159,6 @@ stays_narrows {Set} v w task kept r g valid z e = subst (λ (a : Set). NarrowsHo
 })
 
 -- the set of all states is given back
-pub holding_back : {Set : Type 0} (v w x y : View Set) (task : TaskParts) (all r : Set) {P : State → Type 0}
+pub holding_back : {Set : Type 0} {v w x y : View Set} (task : TaskParts) {all : Set} (r : Set) {P : State → Type 0}
     → Kept v w → Gives v w P all → Kept w x → KeepsHolding w x task r → Forgot x y all → KeepsHolding v y task r
-holding_back v w x y task all r k g j h f = (h.0, h.1, gives_back k g j h.2 f (λ s. ((λ z. z), (λ z. z))))
+holding_back task r k g j h f = (h.0, h.1, gives_back k g j h.2 f (λ s. ((λ z. z), (λ z. z))))

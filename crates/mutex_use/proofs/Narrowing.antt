@@ -141,10 +141,11 @@ swapped {Set} v w x old new k g valid f =
     (λ a. ((λ h. elim h [ inl y ↦ y | inr z ↦ absurd z ]), (λ h. inl h)))
 
 -- so, and then the space may collect
-pub narrows_tidied : {Set : Type 0} (v w x y : View Set) {Q : State → Type 0} (old new r : Set) → Kept v w
+pub narrows_tidied : {Set : Type 0} {v w x y : View Set} {Q : State → Type 0} {old new r : Set} → Kept v w
     → Gives v w (λ s. Has v old s × Q s) new → Valid v old → Forgot w x old → r ≡ new
     → Stays x y → Narrows v y old Q r
-narrows_tidied {Set} v w x y {Q} old new r k g valid f e z = subst (λ (a : Set). Narrows v y old Q a) (sym e) (record {
+narrows_tidied {Set} {v} {w} {x} {y} {Q} {old} {new} k g valid f e
+    z = subst (λ (a : Set). Narrows v y old Q a) (sym e) (record {
   trades = stays_after (swapped v w x old new k g valid f) z;
   means = λ s.
       let apart = λ (o : new ≡ old). valid_clash (subst (λ (a : Set). Valid v a) (sym o) valid) g.fresh in

@@ -119,10 +119,11 @@ notes_start w op effects = record {
   only = λ var x h. inl h;
 }
 
-pub notes_next : (old w new : List (List ℕ)) (op : ℕ) (effects : List Effect) (i : ℕ) (e : Effect)
+pub notes_next : {old w new : List (List ℕ)} {op : ℕ} (effects : List Effect) (i : ℕ) (e : Effect)
     → i < length effects → get_or effects i e ≡ e → e.var < length old
     → new ≡ set w e.var (writers_at w e.var ++ op ∷ []) → Notes old op (take i effects) w → Notes old op (take (i + 1) effects) new
-notes_next old w new op effects i e lt is within step n = subst (Notes old op (take (i + 1) effects)) (sym step) (record {
+notes_next {old} {w} {new} {op} effects i e lt is within step
+    n = subst (Notes old op (take (i + 1) effects)) (sym step) (record {
   each = length-set w e.var (writers_at w e.var ++ op ∷ []) ∙ n.each;
   kept = λ var x h. kept_at w e.var op inside var x (n.kept var x h);
   noted = λ effect h. elim ((more effects i e effect lt is).0 h) [

@@ -108,12 +108,26 @@ same_preimage v w op to from s k vt vf = (
   (λ h. (k.same from vf s ∙ h.0, (h.1.0, k.same to vt h.1.0 ∙ h.1.1, subst (λ (y : System). Leads y op s h.1.0) (sym k.system) h.1.2))),
 )
 
+-- the operator at place i was tried, in a view that keeps both sets, and leads from no state of the one into the other
+pub record IsTried {Set : Type 0} (v w : View Set) (ops : List ℕ) (i x : ℕ) (to from : Set) (r : Bool) : Type 0 where
+  pub within : i < length ops
+  pub is : get_or ops i x ≡ x
+  pub kept : Kept v w
+  pub to_valid : Valid v to
+  pub from_valid : Valid v from
+  pub tells : IsTrue r ↔ ((s : State) × Preimage w x to from s)
+  pub fails : r ≡ false
+
+-- no operator of the list leads from a state of the one set into the other
+abbrev pub NoneLeads : {Set : Type 0} → View Set → List ℕ → Set → Set → Type 0
+NoneLeads v operators to from = (op : ℕ) (s : State) → Contains operators op → ¬ Preimage v op to from s
+
 -- one operator more is tried
 pub none_more : {Set : Type 0} (v w : View Set) (operators : List ℕ) (i x : ℕ) (to from : Set) (r : Bool)
-    → i < length operators → get_or operators i x ≡ x → Kept v w → Valid v to → Valid v from
-    → IsTrue r ↔ ((s : State) × Preimage w x to from s) → r ≡ false → ((op : ℕ) (s : State) → Contains (take i operators) op → ¬ Preimage v op to from s)
-    → (op : ℕ) (s : State) → Contains (take (i + 1) operators) op → ¬ Preimage v op to from s
-none_more v w operators i x to from r lt is k vt vf tells fails before op s has pre = elim ((more operators i x op lt is).0 has) [
+    → IsTried v w operators i x to from r → NoneLeads v (take i operators) to from
+    → NoneLeads v (take (i + 1) operators) to from
+none_more v w operators i x to from r t before = λ op s has pre. elim ((more operators i x op t.within t.is).0 has) [
   | inl m ↦ before op s m pre
-  | inr e ↦ valid_clash (tells.1 (s, (same_preimage v w x to from s k vt vf).1 (subst (λ (z : ℕ). Preimage v z to from s) (sym e) pre))) fails
+  | inr e ↦ valid_clash (t.tells.1 (s, (same_preimage v w x to from s t.kept t.to_valid t.from_valid).1
+      (subst (λ (z : ℕ). Preimage v z to from s) (sym e) pre))) t.fails
 ]

@@ -19,7 +19,7 @@ returns-clause-ok g c =
     let x = view c.join_each-kept.new.space in
     let y = view c.forget.new.self in
     IfOk-weaker c.join_each-kept.result (KeepsHolding w x c.args.task.now) (KeepsHolding v y c.args.task.now)
-    (λ r h. holding_back v w x y c.args.task.now c.in_ok-all.all r c.all.ensures.makes.kept
+    (λ r h. holding_back c.args.task.now r c.all.ensures.makes.kept
     c.in_ok-all.ensures.makes.ok c.join_each-kept.ensures.kept h c.forget.ensures) c.join_each-kept.ensures.ok
 
 pub returns-clause-useful : goal.returns-clause-useful
@@ -31,5 +31,5 @@ returns-clause-useful g c =
     let y = view c.forget.new.self in
     IfOk-weaker c.join_each-kept.result (KeepsHolding w x c.args.task.now) (λ set. (s : State) → Useful v.system s → Has y set s)
     (λ r h. useful_within v y c.args.task.now r (g.met.S.Space.of_task c.args.space.now) c.requires c.parts.ensures.fits
-    (holding_back v w x y c.args.task.now c.in_ok-all.all r c.all.ensures.makes.kept c.in_ok-all.ensures.makes.ok
+    (holding_back c.args.task.now r c.all.ensures.makes.kept c.in_ok-all.ensures.makes.ok
     c.join_each-kept.ensures.kept h c.forget.ensures)) c.join_each-kept.ensures.ok

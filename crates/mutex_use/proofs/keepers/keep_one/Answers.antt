@@ -11,11 +11,9 @@ returns-in-Ok-clause-ok g c =
     let view = g.S.Space.view in
     let v = view c.args.space.now in
     let w = view c.kept_more-left.new.space in
-    let x = view c.forget.new.self in
     let gives = of_ok c.kept_more-left.result (Gives v w (KeepsIn v c.args.kept c.args.facts.now)) c.in-Ok.set c.in-Ok.is c.kept_more-left.ensures.ok in
     if_ok_both c.tidied.result
-    (λ r e z. narrows_tidied v w x (view c.tidied.new.space) c.args.kept c.in-Ok.set r c.kept_more-left.ensures.kept
-    gives c.requires.valid c.forget.ensures e z)
+    (λ r e z. narrows_tidied c.kept_more-left.ensures.kept gives c.requires.valid c.forget.ensures e z)
     c.tidied.ensures.same c.tidied.ensures.stays
 
 pub returns-in-Ok-clause-err : goal.returns-in-Ok-clause-err

@@ -30,9 +30,17 @@ operators-preserved g c =
       task = c.leads.ensures.task ∙ i.task;
       stays = stays_trans i.stays c.leads.ensures.stays;
       none = none_more (view c.args.space.now) (view c.operators.space) c.args.operators.now c.operators.i op
-          c.args.to c.args.from c.in_ok-leads.field-0 c.operators-test.true
-          (get_or_default c.args.operators.now c.operators.i op 0 c.operators-test.true) i.stays.kept c.requires.to
-          c.requires.from c.in_ok-leads.ensures.ok c.if-branch.false i.none;
+          c.args.to c.args.from c.in_ok-leads.field-0
+          (record {
+            within = c.operators-test.true;
+            is = get_or_default c.args.operators.now c.operators.i op 0 c.operators-test.true;
+            kept = i.stays.kept;
+            to_valid = c.requires.to;
+            from_valid = c.requires.from;
+            tells = c.in_ok-leads.ensures.ok;
+            fails = c.if-branch.false;
+          })
+          i.none;
     }
 
 pub returns-clause-ok : goal.returns-clause-ok

@@ -10,7 +10,7 @@ pub effects-preserved : goal.effects-preserved
 effects-preserved c =
     let d = c.index-effects-i.result in
     let e = get_or c.args.effects.now c.effects.i d in
-    notes_next c.args.writers.now c.effects.writers c.note.new.writers c.args.op c.args.effects.now c.effects.i e c.effects-test.true
+    notes_next c.args.effects.now c.effects.i e c.effects-test.true
     (get_or_default c.args.effects.now c.effects.i e d c.effects-test.true)
     (c.requires c.effects.i d c.effects-test.true) c.in_ok-note.ensures c.effects.invariant
 

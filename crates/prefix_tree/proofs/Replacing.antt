@@ -8,21 +8,21 @@ any_default [] i d e b = absurd (omega arith)
 any_default (x ∷ xs) zero d e b = refl
 any_default (x ∷ xs) (suc i) d e b = any_default xs i d e (omega arith)
 
-pub replaced : {X : Type 0} (old kids rest more new : List X) (x e : X) → 0 < length old → x ≡ slice_index_or old 0 x
+pub replaced : {X : Type 0} {old kids rest more new : List X} {x e : X} → 0 < length old → x ≡ slice_index_or old 0 x
     → e ≡ slice_index_or old 0 e → IsPermutation old (x ∷ rest) → IsPermutation kids more
     → IsPermutation (rest ++ more) new → IsPermutation (old ++ kids) (e ∷ new)
-replaced {X} old kids rest more new x e some top first out in_ joined =
+replaced {X} {old} {kids} {rest} {more} {new} {x} {e} some top first out in_ joined =
     let same : x ≡ e = top ∙ (any_default old 0 x e some ∙ sym first) in
     subst (λ (y : X). IsPermutation (old ++ kids) (y ∷ new)) same
     (IsPermutation-trans (old ++ kids) (x ∷ (rest ++ more)) (x ∷ new)
     (IsPermutation-append old (x ∷ rest) kids more out in_) (IsPermutation-cons x (rest ++ more) new joined))
 
 -- the first entry gives way to the first of the others
-pub replaced_first : {X : Type 0} (old kids all more put new : List X) (x e : X) → 0 < length old
+pub replaced_first : {X : Type 0} (old : List X) {kids all more put new : List X} {x e : X} → 0 < length old
     → e ≡ slice_index_or old 0 e → IsPermutation kids all → IsPermutation all (x ∷ more)
     → IsPermutation (x ∷ drop 1 old) put → IsPermutation (put ++ more) new → IsPermutation (old ++ kids) (e ∷ new)
-replaced_first [] kids all more put new x e some first in_ out top joined = absurd (omega arith)
-replaced_first {X} (a ∷ old) kids all more put new x e some first in_ out top joined =
+replaced_first [] some first in_ out top joined = absurd (omega arith)
+replaced_first {X} (a ∷ old) {kids} {all} {more} {put} {new} {x} some first in_ out top joined =
     subst (λ (b : X). IsPermutation (a ∷ (old ++ kids)) (b ∷ new)) (sym first)
     (IsPermutation-cons a (old ++ kids) new
     (IsPermutation-trans (old ++ kids) (old ++ x ∷ more) new (IsPermutation-append_right old kids (x ∷ more) (IsPermutation-trans kids all (x ∷ more) in_ out))
@@ -33,7 +33,7 @@ replaced_first {X} (a ∷ old) kids all more put new x e some first in_ out top 
 pub replaced_none : {X : Type 0} (old kids rest : List X) (x e : X) → 0 < length old → length kids ≡ 0
     → x ≡ slice_index_or old 0 x → e ≡ slice_index_or old 0 e → IsPermutation old (x ∷ rest)
     → IsPermutation (old ++ kids) (e ∷ rest)
-replaced_none old [] rest x e some none top first out = replaced old [] rest [] rest x e some top first out
+replaced_none old [] rest x e some none top first out = replaced some top first out
     (IsPermutation-refl []) (IsPermutation-append_comm rest [])
 replaced_none old (k ∷ kids) rest x e some none top first out = absurd (omega arith)
 

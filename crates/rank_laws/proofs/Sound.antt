@@ -40,10 +40,10 @@ module _ (g : Graph) (P : State → Type 0) (f : ℕ) (at : Ranks) (many : ℕ) 
 inside_by : (side : Side) (y : System) (P : State → Type 0) (d : ℕ) (s : State) → InsideAt side y P d s → InsideBy (seen_from side y) P d s
 inside_by side y P d s h = inside_walk side y P d s h
 
-pub rank_cost : (side : Side) (y : System) (P : State → Type 0) (f : ℕ) (at : Ranks) (many : ℕ) (Waits : Waiting)
+pub rank_cost : (side : Side) (y : System) {P : State → Type 0} {f : ℕ} {at : Ranks} {many : ℕ} {Waits : Waiting}
     → AreRanks (seen_from side y) P f at many Waits → (i x : ℕ) (s : State) → at i x s → AtCost side y x s
     × ((d : ℕ) → InsideAt side y P d s → x ≤ d)
-rank_cost side y P f at many Waits r i x s a =
+rank_cost side y {P = P} {f = f} {at = at} {many = many} {Waits = Waits} r i x s a =
     let w = rank_inside (seen_from side y) P f at many Waits r i x s a in
     ((reached_side side y x s).0 (w.0, walk_of (seen_from side y) P w.0 s w.1, w.2), λ d h. r.least i x d s a (inside_by side y P d s h))
 
@@ -51,10 +51,10 @@ from_other : (side : Side) (y : System) (a : ℕ) (s : State) → AtCost (other 
 from_other Ahead y a s h = (reached_side Back y a s).1 h
 from_other Back y a s h = (reached_side Ahead y a s).1 h
 
-pub runs_bound : (side : Side) (y : System) (P : State → Type 0) (f : ℕ) (at : Ranks) (many : ℕ) (Waits : Waiting)
-    → AreRanks (seen_from side y) P f at many Waits → (n : ℕ) → NoneBelow Waits n → (s : State)
-    → ((i x : ℕ) → at i x s → ⊥) → (a d : ℕ) → AtCost (other side) y a s → InsideAt side y P d s
+pub runs_bound : (side : Side) (y : System) {P : State → Type 0} {f : ℕ} {at : Ranks} {many : ℕ} {Waits : Waiting}
+    → AreRanks (seen_from side y) P f at many Waits → {n : ℕ} → NoneBelow Waits n → (s : State)
+    → ((i x : ℕ) → at i x s → ⊥) → (a : ℕ) {d : ℕ} → AtCost (other side) y a s → InsideAt side y P d s
     → d < 2 ^ 64 → n ≤ a + d
-runs_bound side y P f at many Waits r n none s new a d w h lt =
+runs_bound side y {P = P} {f = f} {at = at} {many = many} {Waits = Waits} r {n = n} none s new a {d = d} w h lt =
     bound (seen_from side y) P f at many Waits r n none s new a d (from_other side y a s w)
     (inside_by side y P d s h) lt

@@ -82,8 +82,10 @@ last_stays left later given more false after (Err Memory) h n = absurd (n refl)
 last_stays left later given more before after (Err CostRange) h n = absurd h
 
 -- the next of those told is given where it is new
-pub took_next : (plans given more : List (List ℕ)) (next : ℕ) (p key d : List ℕ) → next < length plans → p ≡ get_or plans next d → All (λ a. a < 2 ^ 32) p → key ≡ p → ¬ Contains given key → more ≡ given ++ key ∷ [] → Took (drop next plans) (drop (next + 1) plans) given more p
-took_next plans given more next p key d within is fits same fresh noted = record {
+pub took_next : (plans : List (List ℕ)) {given more : List (List ℕ)} (next : ℕ) {p key : List ℕ} (d : List ℕ)
+    → next < length plans → p ≡ get_or plans next d → All (λ a. a < 2 ^ 32) p → key ≡ p → ¬ Contains given key
+    → more ≡ given ++ key ∷ [] → Took (drop next plans) (drop (next + 1) plans) given more p
+took_next plans {given} {more} next {p} {key} d within is fits same fresh noted = record {
   first = drop_more plans next d within ∙ ap (λ (z : List ℕ). z ∷ drop (next + 1) plans) (sym is);
   plan = ([], runs_free p fits, refl);
   fresh = λ m. fresh (key_by_listed TopK given p key (λ k d lt. (slice_index_or given k d, refl)) (sym same) m);

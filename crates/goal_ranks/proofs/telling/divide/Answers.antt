@@ -83,8 +83,8 @@ returns-in_ok-near-in-Ok-Ring-clause-ok g c =
     let lists = lists_reached x c.task-task.result.now c.parts.ensures.fits (g.met.S.Space.of_task c.tell.new.space) c.task-task.ensures in
     let h = subst (λ (l : Layers _). Gives x y (λ s. Has x fresh s × InLayer (Stands x l) cost s) near)
     c.layers.ensures.value c.in_ok-near-in-Ok-Ring.ensures.ok in (
-      ring v u f c.args.waiting c.args.left fresh c.meet.ensures.kept c.in_ok-fresh.ensures.ok x y
-          (view c.forget-in-Ok-Ring.new.self) cost near c.tell.ensures.stays lists t a c.in_layer-near.ensures.kept h
+      ring v u f c.args.waiting c.args.left fresh c.meet.ensures.kept c.in_ok-fresh.ensures.ok cost
+          c.tell.ensures.stays lists t a c.in_layer-near.ensures.kept h
           c.forget-in-Ok-Ring.ensures,
       (λ e. cc),
     )

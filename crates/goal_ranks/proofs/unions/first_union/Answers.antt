@@ -22,7 +22,7 @@ halves-preserved g c =
     let at = slice_get_read us (length us) place u refl (omega (arith, c.place_in-place.ensures.high, i.high)) c.index-unions-place.is in
     let k = meets_kept v (view c.halves.space) c.args.set u i.stays.kept (c.requires.unions.valid place u.states (u, at, refl)) c.requires.set in
     let t = c.in_ok-met.ensures.ok in
-    let h = halved v us c.args.set c.requires.unions c.in_ok-met.met c.halves.span.low c.halves.span.high place
+    let h = halved v us c.args.set c.requires.unions c.in_ok-met.met
     c.half-span.result.low c.half-span.result.high u at
     c.place_in-place.ensures.low c.place_in-place.ensures.high ((λ b. k.0 (t.0 b)), (λ m. t.1 (k.1 m))) c.half-span.ensures i.splits in
     record {

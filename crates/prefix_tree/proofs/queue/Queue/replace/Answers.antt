@@ -20,10 +20,6 @@ returns-in-None-clause-replaces g c e first =
 
 pub returns-clause-replaces : goal.returns-clause-replaces
 returns-clause-replaces g c e first =
-    let old = heap_items c.args.self.now.heap in
-    let all = heap_items c.from-others.result in
-    let more = heap_items c.pop.new.self in
-    let put = heap_items c.put_first.new.heap in
     let room : heap_len c.put_first.new.heap + heap_len c.pop.new.self ≤ heap_capacity c.put_first.new.heap =
     omega (
       arith,
@@ -32,6 +28,6 @@ returns-clause-replaces g c e first =
       c.put_first.ensures.len,
       c.put_first.ensures.capacity,
     ) in
-    replaced_first old c.args.others.items all more put (heap_items c.append.new.self) c.in-Some.next e
-    c.requires.some first c.from-others.ensures.1 c.in-Some.ensures.permutation c.put_first.ensures.items
+    replaced_first (heap_items c.args.self.now.heap) c.requires.some first c.from-others.ensures.1
+    c.in-Some.ensures.permutation c.put_first.ensures.items
     (on_ok c.append.result c.append.ensures.permutation (c.append.ensures.succeeds room))

@@ -10,6 +10,6 @@ returns-clause-some c =
     let same = c.of.ensures ∙ copied.same in
     let new = rw c.if-not-is_new.false at c.is_new.ensures in
     let within : next < length plans = omega (arith, c.if-self-len.false, c.len.ensures, c.args.self.now.plans.ok.0) in
-    took_next plans c.args.self.now.given c.is_new.new.given next c.of.result c.in_ok-key.key.items c.index.result.now within
+    took_next plans next c.index.result.now within
     (same ∙ c.as_slice-operators.ensures ∙ c.index.ensures)
     (subst (All (λ a. a < 2 ^ 32)) (sym c.of.ensures) copied.fit) (c.in_ok-key.ensures.same ∙ sym same) new.1 new.0

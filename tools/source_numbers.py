@@ -15,6 +15,7 @@ from pathlib import Path
 
 TOP = Path(__file__).resolve().parent.parent
 RUN, MANY, DOZEN, COLUMNS = 6, 8, 12, 160
+KINDS = "abbrev |record |data |unfoldable "
 PASSED_OVER = re.compile(r"(//|--|#\[cfg\(test\)\]|use |ghost use |pub use |mod |pub mod |\W*\Z)")
 
 
@@ -129,7 +130,7 @@ def names():
     """Names that the specs of two crates define."""
     found = defaultdict(list)
     for crate, path, text in files("specs", ".antt"):
-        for name in set(re.findall(r"(?m)^(?:abbrev |record |data )*pub (?:abbrev |record |data )*([\w◌-]+)", text)):
+        for name in set(re.findall(r"(?m)^(?:%s)*pub (?:%s)*(?!mod |use )([\w◌-]+)" % (KINDS, KINDS), text)):
             found[name].append((crate, path))
     for name, places in sorted(found.items()):
         if len({crate for crate, _ in places}) > 1:

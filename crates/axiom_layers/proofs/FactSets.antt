@@ -14,10 +14,10 @@ use Rattle.task_run.specs.Values.{HasValue}
 use Rattle.bdd_table.specs.declared.node.Node.{Node}
 use Rattle.bdd_table.specs.Diagram.{Bits, means, Keeps}
 use Rattle.var_order.specs.Layout.{Layout, IsOrderOf}
-use Rattle.var_order.specs.Codes.{IsCode, value_in}
+use Rattle.var_order.specs.Codes.{IsCode, coded_value}
 use Rattle.var_order.proofs.Values.{base_slot}
 use Rattle.axiom_layers.specs.Roots.{AreSets}
-use Rattle.axiom_layers.specs.Raising.{values_of, Says}
+use Rattle.axiom_layers.specs.Raising.{values_of, IsTrueExactlyWhere}
 use Rattle.axiom_layers.proofs.RootValues.{base_value, derived_value, kept_values}
 
 -- a variable read from the task is a base variable or has a layer
@@ -46,14 +46,14 @@ read_derived task vs var v same lt is none =
 
 -- a fact of a base variable
 pub base_says : (task : TaskParts) (o : Layout) (xs : List Node) (roots : List ℕ) (fact : Fact) (id : ℕ) → IsOrderOf task o → IsBase task fact.var
-    → ((s : List ℕ) (b : Bits) → IsCode o 0 s b → means xs id b ≡ (value_in o s fact.var == fact.val))
-    → Says task o xs roots (λ values. HasValue values fact) id
+    → ((s : List ℕ) (b : Bits) → IsCode o 0 s b → means xs id b ≡ (coded_value o s fact.var == fact.val))
+    → IsTrueExactlyWhere task o xs roots (λ values. HasValue values fact) id
 base_says task o xs roots fact id order base m s b state code =
     let at = base_value task xs roots s b fact.var base in
-    let v : value_in o s fact.var ≡ get_or s (place task fact.var) 0 =
+    let v : coded_value o s fact.var ≡ get_or s (place task fact.var) 0 =
     ap (λ (x : Option ℕ). option_map_or (λ slot. get_or s slot 0) x 0) (base_slot task o fact.var order base) in
     let e = m s b code in
-    ((λ t. at ∙ sym v ∙ eqb-true (value_in o s fact.var) fact.val (sym e ∙ t)), (λ h. e ∙ eq-eqb (value_in o s fact.var) fact.val (v ∙ sym at ∙ h)))
+    ((λ t. at ∙ sym v ∙ eqb-true (coded_value o s fact.var) fact.val (sym e ∙ t)), (λ h. e ∙ eq-eqb (coded_value o s fact.var) fact.val (v ∙ sym at ∙ h)))
 
 cond_other : (t : Bool) (other default val : ℕ) → (other ≡ default → ⊥) → val ≡ other → (t ≡ true) ↔ (cond t other default ≡ val)
 cond_other true other default val ne e = ((λ _. sym e), (λ _. refl))
@@ -71,7 +71,7 @@ other_differs task var layer fits l e = (let t = two_values task var layer fits 
 pub other_says : (task : TaskParts) (o : Layout) (xs : List Node) (roots : List ℕ) (fact : Fact) (layer : ℕ)
     → Fits task → HasLayer task fact.var layer → InRange task.variables fact
     → (fact.val ≡ get_or task.initial fact.var 0 → ⊥)
-    → Says task o xs roots (λ values. HasValue values fact) (get_or roots fact.var 0)
+    → IsTrueExactlyWhere task o xs roots (λ values. HasValue values fact) (get_or roots fact.var 0)
 other_says task o xs roots fact layer fits l within ne s b state code =
     let two = fact_two task fact layer fits within l in
     let t = two_values task fact.var layer fits l in
@@ -85,7 +85,7 @@ other_says task o xs roots fact layer fits l within ne s b state code =
 pub default_says : {task : TaskParts} {o : Layout} {xs ys : List Node} {roots : List ℕ} (fact : Fact) (layer id : ℕ)
     → Fits task → HasLayer task fact.var layer → fact.val ≡ get_or task.initial fact.var 0
     → Keeps xs ys → AreSets task o xs roots → ((b : Bits) → means ys id b ≡ not
-    (means xs (get_or roots fact.var 0) b)) → Says task o ys roots (λ values. HasValue values fact) id
+    (means xs (get_or roots fact.var 0) b)) → IsTrueExactlyWhere task o ys roots (λ values. HasValue values fact) id
 default_says {task} {o} {xs} {ys} {roots} fact layer id fits l e keeps are m s b state code =
     let k = cond_default (means xs (get_or roots fact.var 0) b) (other_value task fact.var)
     (get_or task.initial fact.var 0) fact.val (other_differs task fact.var layer fits l) e in
@@ -94,7 +94,7 @@ default_says {task} {o} {xs} {ys} {roots} fact layer id fits l e keeps are m s b
 
 -- no facts, and one more
 pub none_says : (task : TaskParts) (o : Layout) (xs : List Node) (roots : List ℕ) (facts : List Fact) (id : ℕ)
-    → ((b : Bits) → means xs id b ≡ true) → Says task o xs roots
+    → ((b : Bits) → means xs id b ≡ true) → IsTrueExactlyWhere task o xs roots
     (λ values. (k : ℕ) (d : Fact) → k < 0 → HasValue values (get_or facts k d)) id
 none_says task o xs roots facts id m s b state code = ((λ _ k d lt. absurd (omega (arith, lt))), (λ _. m b))
 
@@ -103,9 +103,9 @@ pub record IsConj (ys zs : List Node) (f g id : ℕ) : Type 0 where
   pub both : (b : Bits) → means zs id b ≡ (means ys f b && means ys g b)
 
 pub conj_says : {task : TaskParts} {o : Layout} {ys zs : List Node} {roots : List ℕ} {f g id : ℕ}
-    (P Q R : List ℕ → Type 0) → Keeps ys zs → AreSets task o ys roots → Says task o ys roots P f
-    → Says task o ys roots Q g → IsConj ys zs f g id → ((values : List ℕ) → (P values × Q values) ↔ R values)
-    → Says task o zs roots R id
+    (P Q R : List ℕ → Type 0) → Keeps ys zs → AreSets task o ys roots → IsTrueExactlyWhere task o ys roots P f
+    → IsTrueExactlyWhere task o ys roots Q g → IsConj ys zs f g id → ((values : List ℕ) → (P values × Q values) ↔ R values)
+    → IsTrueExactlyWhere task o zs roots R id
 conj_says {task} {o} {ys} {zs} {roots} {f} {g} {id} P Q R keeps are p q conj r s b state code =
     let v = kept_values task o ys zs roots s b keeps are in
     let x = p s b state code in

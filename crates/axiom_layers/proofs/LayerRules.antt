@@ -9,7 +9,7 @@ use Rattle.symk_task.specs.declared.parts.TaskParts.{TaskParts}
 use Rattle.symk_task.specs.Fits.{Fits, FitsRule}
 use Rattle.task_run.specs.declared.counting.Counting.{Counting}
 use Rattle.task_run.specs.Counted.{IsCounting, AreRulesOf, IsLayer}
-use Rattle.task_run.specs.Layer.{IsOwn}
+use Rattle.task_run.specs.Layer.{IsOwnRule}
 use Rattle.task_run.proofs.Bucketing.{counting_within}
 use Rattle.axiom_layers.specs.Raising.{AreOfLayer}
 
@@ -104,5 +104,5 @@ rule_read task rules counting rule fits c same is =
     let lt = counting_within task counting c in
     let here : rule ≡ get_or task.rules counting.rule rule = is ∙ ap (λ (z : List Rule). get_or z counting.rule rule) same in
     let at = slice_get_read task.rules (length task.rules) counting.rule rule refl lt here in
-    let own = subst (λ (o : Option Rule). IsSomeAnd o (IsOwn task counting.layer)) at c in
+    let own = subst (λ (o : Option Rule). IsSomeAnd o (IsOwnRule task counting.layer)) at c in
     record { at = at; fits = subst (FitsRule task) (sym here) (fits.each_rule counting.rule rule lt); counts = own.counts }

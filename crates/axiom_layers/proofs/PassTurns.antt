@@ -1,4 +1,4 @@
--- Passes over the rules of a layer, seen in one state.
+-- GrowsInPasses over the rules of a layer, seen in one state.
 use Rattle.std.proofs.Common.{◌≡◌, ℕ, zero, suc, ◌+◌, ◌<◌, ◌≤◌, ◌⊎◌, inl, inr, Bool, true, false, cond, ◌==◌, List, [], ◌∷◌, length, get_or, Contains, Option, Some, IsSomeAnd, IfSome, slice_get, refl, sym, ap, subst, ◌∙◌, arith}
 use Rattle.std.proofs.Math.ListN.{set}
 use Rattle.std.proofs.lemmas.Bool.{cases_eq, eq-eqb}
@@ -10,19 +10,19 @@ use Rattle.symk_task.specs.declared.parts.TaskParts.{TaskParts}
 use Rattle.symk_task.specs.Fits.{Fits}
 use Rattle.symk_task.proofs.Places.{within_some}
 use Rattle.task_run.specs.declared.counting.Counting.{Counting}
-use Rattle.task_run.specs.Layer.{IsOwn, Raises, Grows, IsStuck, at_default}
+use Rattle.task_run.specs.Layer.{IsOwnRule, Raises, Grows, IsStuck, at_default}
 use Rattle.task_run.specs.Layer.Grows.{done, by}
 use Rattle.task_run.proofs.Growing.{at_default_falls, grows_on}
-use Rattle.axiom_layers.specs.Raising.{RuleTurn, AreOfLayer, NoneRaises, PassTurn, Passes, Closes}
+use Rattle.axiom_layers.specs.Raising.{RuleTurn, AreOfLayer, NoneRaises, PassTurn, GrowsInPasses, Closes}
 
 -- the rule of a number in the list is one of the layer
 own_there : (task : TaskParts) (layer n : ℕ) (rules : List Counting) (counting : Counting) (rule : Rule)
     → AreOfLayer task layer rules → n < length rules → counting ≡ get_or rules n counting
-    → slice_get task.rules counting.rule ≡ Some rule → IsOwn task layer rule
+    → slice_get task.rules counting.rule ≡ Some rule → IsOwnRule task layer rule
 own_there task layer n rules counting rule are lt is at =
-    let own = subst (λ (x : Counting). IsSomeAnd (slice_get task.rules x.rule) (IsOwn task x.layer)) (sym is) (are.counting n counting lt) in
+    let own = subst (λ (x : Counting). IsSomeAnd (slice_get task.rules x.rule) (IsOwnRule task x.layer)) (sym is) (are.counting n counting lt) in
     let same : counting.layer ≡ layer = ap (λ (x : Counting). x.layer) is ∙ are.same n counting lt in
-    subst (λ (z : ℕ). IsOwn task z rule) same (subst (λ (o : Option Rule). IsSomeAnd o (IsOwn task counting.layer)) at own)
+    subst (λ (z : ℕ). IsOwnRule task z rule) same (subst (λ (o : Option Rule). IsSomeAnd o (IsOwnRule task counting.layer)) at own)
 
 -- the list has the number of the rule at the place
 pub record IsRuleAt (task : TaskParts) (rules : List Counting) (n : ℕ) (rule : Rule) : Type 0 where
@@ -86,7 +86,7 @@ none_stuck : (task : TaskParts) (layer : ℕ) (rules : List Counting) (values : 
 none_stuck task layer rules values are none i d lt raises =
     let x : Counting = record { layer = layer; rule = i } in
     let here = slice_get-get_or task.rules i d lt in
-    let c = are.each x (subst (λ (o : Option Rule). IsSomeAnd o (IsOwn task layer)) (sym here) raises.opened.own) refl in
+    let c = are.each x (subst (λ (o : Option Rule). IsSomeAnd o (IsOwnRule task layer)) (sym here) raises.opened.own) refl in
     let no = none c.0 x c.1 in
     let no2 = subst (λ (y : Counting). IfSome (slice_get task.rules y.rule) (λ rule. Raises task layer values rule → ⊥)) c.2 no in
     let no3 = subst (λ (o : Option Rule). IfSome o (λ rule. Raises task layer values rule → ⊥)) here no2 in
@@ -103,7 +103,7 @@ no_less : (n : ℕ) → n < n → ⊥
 no_less n lt = omega (arith, lt)
 
 -- no pass, and one more
-pub passes_none : (task : TaskParts) (layer : ℕ) (now : List ℕ) → Fits task → Passes task layer 0 now now
+pub passes_none : (task : TaskParts) (layer : ℕ) (now : List ℕ) → Fits task → GrowsInPasses task layer 0 now now
 passes_none task layer now fits = (done now, inr (let k = most task.initial now in let i = fits.initial in omega (arith, k, i)))
   where
     most : (initial values : List ℕ) → at_default initial values ≤ length initial
@@ -116,8 +116,8 @@ passes_none task layer now fits = (done now, inr (let k = most task.initial now 
         one false k = omega (arith, k)
 
 pub passes_more : (task : TaskParts) (layer n : ℕ) (rules : List Counting) (old now next : List ℕ)
-    → AreOfLayer task layer rules → Passes task layer n old now → PassTurn task layer rules (length rules) now next
-    → Passes task layer (n + 1) old next
+    → AreOfLayer task layer rules → GrowsInPasses task layer n old now → PassTurn task layer rules (length rules) now next
+    → GrowsInPasses task layer (n + 1) old next
 passes_more task layer n rules old now next are (g, t) (h, inr (same, none)) = (
   grows_on task layer old now next g h,
   inl (subst (λ (z : List ℕ). IsStuck task layer z) (sym same)
@@ -131,7 +131,7 @@ passes_more task layer n rules old now next are (g, inr few) (h, inl f) = (grows
 
 -- no set changed
 pub closes_early : (task : TaskParts) (layer n : ℕ) (rules : List Counting) (old now next : List ℕ)
-    → AreOfLayer task layer rules → Passes task layer n old now → PassTurn task layer rules (length rules) now next
+    → AreOfLayer task layer rules → GrowsInPasses task layer n old now → PassTurn task layer rules (length rules) now next
     → next ≡ now → Closes task layer old next
 closes_early task layer n rules old now next are (g, t) (h, inr (same, none)) e = (
   grows_on task layer old now next g h,
@@ -151,7 +151,7 @@ some_default (x ∷ initial) (y ∷ values) (suc var) lt within e = omega (arith
 
 -- as many passes as variables
 pub closes_late : (task : TaskParts) (layer n : ℕ) (old now : List ℕ) → Fits task → length now ≡ length task.variables
-    → length task.variables ≤ n → Passes task layer n old now → Closes task layer old now
+    → length task.variables ≤ n → GrowsInPasses task layer n old now → Closes task layer old now
 closes_late task layer n old now fits each all (g, inl stuck) = (g, stuck)
 closes_late task layer n old now fits each all (g, inr few) = (
   g,

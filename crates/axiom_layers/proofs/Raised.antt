@@ -20,7 +20,7 @@ use Rattle.bdd_table.proofs.Meaning.{means_false}
 use Rattle.var_order.specs.Layout.{Layout}
 use Rattle.bdd_sets.specs.Sets.{IsSetOfStates}
 use Rattle.axiom_layers.specs.Roots.{AreSets, AreRoots, EachState, IsTrueWhere}
-use Rattle.axiom_layers.specs.Raising.{values_of, Says}
+use Rattle.axiom_layers.specs.Raising.{values_of, IsTrueExactlyWhere}
 use Rattle.axiom_layers.proofs.RootValues.{values_length, base_value, derived_value, kept_sets, constant_of_states}
 use Rattle.axiom_layers.proofs.FactSets.{other_differs}
 
@@ -158,7 +158,7 @@ roots_valued task o xs roots fits are s b state code = record
 -- what is said of values is so of facts
 pub fact_holds : (task : TaskParts) (o : Layout) (xs : List Node) (roots : List ℕ) (fact : Fact) (id : ℕ) → Fits task
     → AreRoots task o xs roots → InRange task.variables fact
-    → Says task o xs roots (λ values. HasValue values fact) id → IsTrueWhere task o xs (λ s. Holds task s fact) id
+    → IsTrueExactlyWhere task o xs roots (λ values. HasValue values fact) id → IsTrueWhere task o xs (λ s. Holds task s fact) id
 fact_holds task o xs roots fact id fits are within says s b state code =
     let h = says s b state code in
     let v = (roots_valued task o xs roots fits are s b state code).holds fact within in
@@ -166,7 +166,7 @@ fact_holds task o xs roots fact id fits are within says s b state code =
 
 pub facts_hold : (task : TaskParts) (o : Layout) (xs : List Node) (roots : List ℕ) (facts : List Fact) (id : ℕ)
     → Fits task → AreRoots task o xs roots → All (InRange task.variables) facts
-    → Says task o xs roots (λ values. All (HasValue values) facts) id → IsTrueWhere task o xs (λ s. All (Holds task s) facts) id
+    → IsTrueExactlyWhere task o xs roots (λ values. All (HasValue values) facts) id → IsTrueWhere task o xs (λ s. All (Holds task s) facts) id
 facts_hold task o xs roots facts id fits are within says s b state code =
     let h = says s b state code in
     let v = roots_valued task o xs roots fits are s b state code in (

@@ -12,25 +12,25 @@ use Rattle.var_order.specs.Layout.{Layout}
 use Rattle.bdd_sets.specs.Sets.{IsSetOfStates}
 use Rattle.bdd_sets.proofs.OfStates.{set_kept}
 use Rattle.axiom_layers.specs.Roots.{AreSets}
-use Rattle.axiom_layers.specs.Raising.{value_by, values_of, Says}
+use Rattle.axiom_layers.specs.Raising.{value_by_roots, values_of, IsTrueExactlyWhere}
 
 pub values_length : (task : TaskParts) (xs : List Node) (roots s : List ℕ) (b : Bits) → length (values_of task xs roots s b) ≡ length task.variables
 unfolding values_of
-values_length task xs roots s b = length-map-range_with_len (λ var. value_by task xs roots s b var (layer_of task var)) 0 (length task.variables)
+values_length task xs roots s b = length-map-range_with_len (λ var. value_by_roots task xs roots s b var (layer_of task var)) 0 (length task.variables)
 
 pub value_there : (task : TaskParts) (xs : List Node) (roots s : List ℕ) (b : Bits) (var : ℕ)
-    → var < length task.variables → get_or (values_of task xs roots s b) var 0 ≡ value_by task xs roots s b var
+    → var < length task.variables → get_or (values_of task xs roots s b) var 0 ≡ value_by_roots task xs roots s b var
     (layer_of task var)
 unfolding values_of
 value_there task xs roots s b var lt = get_or-map-range_with_len
-    (λ var. value_by task xs roots s b var (layer_of task var)) 0 (length task.variables) var var 0 lt (omega arith)
+    (λ var. value_by_roots task xs roots s b var (layer_of task var)) 0 (length task.variables) var var 0 lt (omega arith)
 
 -- what a list of values must have to be these
 pub values_are : (task : TaskParts) (xs : List Node) (roots s : List ℕ) (b : Bits) (values : List ℕ) → length values ≡ length task.variables
-    → ((var : ℕ) → var < length task.variables → get_or values var 0 ≡ value_by task xs roots s b var
+    → ((var : ℕ) → var < length task.variables → get_or values var 0 ≡ value_by_roots task xs roots s b var
     (layer_of task var)) → values ≡ values_of task xs roots s b
 unfolding values_of
-values_are task xs roots s b values e h = fill_by_all (λ var. value_by task xs roots s b var (layer_of task var)) values (length task.variables) 0 e h
+values_are task xs roots s b values e h = fill_by_all (λ var. value_by_roots task xs roots s b var (layer_of task var)) values (length task.variables) 0 e h
 
 at_layer : (o : Option Variable) (l : Option ℕ) → IsSomeAnd o (λ v. v.layer ≡ l) → option_and_then (λ (v : Variable). v.layer) o ≡ l
 at_layer None l h = absurd h
@@ -43,13 +43,13 @@ pub base_value : (task : TaskParts) (xs : List Node) (roots s : List ℕ) (b : B
     → get_or (values_of task xs roots s b) var 0 ≡ get_or s (place task var) 0
 base_value task xs roots s b var h =
     value_there task xs roots s b var (within_some (λ v. v.layer ≡ None) task.variables var h)
-    ∙ ap (λ z. value_by task xs roots s b var z) (at_layer (slice_get task.variables var) None h)
+    ∙ ap (λ z. value_by_roots task xs roots s b var z) (at_layer (slice_get task.variables var) None h)
 
 pub derived_value : (task : TaskParts) (xs : List Node) (roots s : List ℕ) (b : Bits) (var layer : ℕ) → HasLayer task var layer
     → get_or (values_of task xs roots s b) var 0 ≡ cond (means xs (get_or roots var 0) b) (other_value task var) (get_or task.initial var 0)
 derived_value task xs roots s b var layer h =
     value_there task xs roots s b var (within_some (λ v. v.layer ≡ Some layer) task.variables var h)
-    ∙ ap (λ z. value_by task xs roots s b var z) (layer_is task var layer h)
+    ∙ ap (λ z. value_by_roots task xs roots s b var z) (layer_is task var layer h)
 
 -- roots that mean the same give the same values
 pub same_values : (task : TaskParts) (xs ys : List Node) (roots more s : List ℕ) (b : Bits)
@@ -60,7 +60,7 @@ same_values task xs ys roots more s b h = values_are task xs roots s b (values_o
     (h var lt))
   where
     each : (var : ℕ) (l : Option ℕ) → means ys (get_or more var 0) b ≡ means xs (get_or roots var 0) b
-        → value_by task ys more s b var l ≡ value_by task xs roots s b var l
+        → value_by_roots task ys more s b var l ≡ value_by_roots task xs roots s b var l
     each var None e = refl
     each var (Some layer) e = ap (λ t. cond t (other_value task var) (get_or task.initial var 0)) e
 
@@ -78,7 +78,7 @@ kept_sets task o xs ys roots k a = record {
 }
 
 pub kept_says : (task : TaskParts) (o : Layout) (xs ys : List Node) (roots : List ℕ) (P : List ℕ → Type 0) (id : ℕ)
-    → Keeps xs ys → AreSets task o xs roots → id < length xs → Says task o xs roots P id → Says task o ys roots P id
+    → Keeps xs ys → AreSets task o xs roots → id < length xs → IsTrueExactlyWhere task o xs roots P id → IsTrueExactlyWhere task o ys roots P id
 kept_says task o xs ys roots P id k a known says s b state code =
     let h = says s b state code in
     let e = k.meaning id b known in

@@ -16,7 +16,7 @@ use Rattle.bdd_table.specs.Diagram.{Bits, means, Keeps}
 use Rattle.var_order.specs.Layout.{Layout}
 use Rattle.var_order.specs.Codes.{IsCode}
 use Rattle.axiom_layers.specs.Roots.{AreSets}
-use Rattle.axiom_layers.specs.Raising.{value_by, values_of, Says, IsReady, RuleTurn}
+use Rattle.axiom_layers.specs.Raising.{value_by_roots, values_of, IsTrueExactlyWhere, IsReady, RuleTurn}
 use Rattle.axiom_layers.proofs.RootValues.{values_length, value_there, values_are, same_values, kept_values, derived_value, layer_is}
 use Rattle.axiom_layers.proofs.FactSets.{other_differs}
 
@@ -28,7 +28,7 @@ rule_within task o xs roots rule fit are = (let w = within_some (λ v. v.layer �
 module _ (task : TaskParts) (o : Layout) (rule : Rule) (xs ys zs : List Node) (roots : List ℕ) (conds root : ℕ)
     (fits : Fits task) (fit : FitsRule task rule) (counts : rule.new ≡ get_or task.initial rule.var 0 → ⊥)
     (are : AreSets task o xs roots) (xy : Keeps xs ys) (yz : Keeps ys zs) (known : conds < length ys)
-    (says : Says task o ys roots (λ values. All (HasValue values) rule.conds) conds)
+    (says : IsTrueExactlyWhere task o ys roots (λ values. All (HasValue values) rule.conds) conds)
     (m : (b : Bits) → means zs root b ≡ (means ys (get_or roots rule.var 0) b || means ys conds b)) where
   two : Two task rule.var fit.layer
   two = two_values task rule.var fit.layer fits fit.on
@@ -77,12 +77,13 @@ module _ (task : TaskParts) (o : Layout) (rule : Rule) (xs ys zs : List Node) (r
           | inr ne ↦ get_or-set_other old rule.var k rule.new 0 ne ∙ value_there task xs roots s b k lt ∙ there k ne lt (layer_of task k)
         ]))
       where
-        here : value_by task zs more s b rule.var (layer_of task rule.var) ≡ other_value task rule.var
-        here = ap (λ z. value_by task zs more s b rule.var z) (layer_is task rule.var fit.layer fit.on)
+        here : value_by_roots task zs more s b rule.var (layer_of task rule.var) ≡ other_value task rule.var
+        here = ap (λ z. value_by_roots task zs more s b rule.var z) (layer_is task rule.var fit.layer fit.on)
             ∙ ap (λ i. cond (means zs i b) (other_value task rule.var) (get_or task.initial rule.var 0)) (get_or-set_same roots rule.var root 0 within)
             ∙ ap (λ t. cond t (other_value task rule.var) (get_or task.initial rule.var 0)) e
 
-        there : (k : ℕ) → (k ≡ rule.var → ⊥) → k < length task.variables → (l : Option ℕ) → value_by task xs roots s b k l ≡ value_by task zs more s b k l
+        there : (k : ℕ) → (k ≡ rule.var → ⊥) → k < length task.variables → (l : Option ℕ)
+            → value_by_roots task xs roots s b k l ≡ value_by_roots task zs more s b k l
         there k ne lt None = refl
         there k ne lt (Some n) = ap (λ t. cond t (other_value task k) (get_or task.initial k 0))
             (sym (ap (λ i. means zs i b) (get_or-set_other roots rule.var k root 0 ne)

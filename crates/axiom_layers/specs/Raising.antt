@@ -14,17 +14,17 @@ use Rattle.var_order.specs.Layout.{Layout}
 use Rattle.axiom_layers.specs.Roots.{EachState}
 
 -- the value of a variable in a state with these bits, by its layer: a derived variable has its other value where its root is true
-abbrev pub value_by : TaskParts → List Node → List ℕ → List ℕ → Bits → ℕ → Option ℕ → ℕ
-value_by task nodes roots s b var None = slice_index s (place task var)
-value_by task nodes roots s b var (Some layer) = if means nodes (slice_index roots var) b then other_value task var else slice_index task.initial var
+abbrev pub value_by_roots : TaskParts → List Node → List ℕ → List ℕ → Bits → ℕ → Option ℕ → ℕ
+value_by_roots task nodes roots s b var None = slice_index s (place task var)
+value_by_roots task nodes roots s b var (Some layer) = if means nodes (slice_index roots var) b then other_value task var else slice_index task.initial var
 
 -- one value for each variable
 unfoldable pub values_of : TaskParts → List Node → List ℕ → List ℕ → Bits → List ℕ
-values_of task nodes roots s b = map (λ var. value_by task nodes roots s b var (layer_of task var)) (range_with_len 0 (length task.variables))
+values_of task nodes roots s b = map (λ var. value_by_roots task nodes roots s b var (layer_of task var)) (range_with_len 0 (length task.variables))
 
 -- the Id is true in exactly the states whose values are so
-abbrev pub Says : TaskParts → Layout → List Node → List ℕ → (List ℕ → Type 0) → ℕ → Type 0
-Says task o nodes roots P id = EachState task o (λ s b. (means nodes id b ≡ true) ↔ P (values_of task nodes roots s b))
+abbrev pub IsTrueExactlyWhere : TaskParts → Layout → List Node → List ℕ → (List ℕ → Type 0) → ℕ → Type 0
+IsTrueExactlyWhere task o nodes roots P id = EachState task o (λ s b. (means nodes id b ≡ true) ↔ P (values_of task nodes roots s b))
 
 -- the rule's variable has its default value, and the rule's conditions have their values
 pub record IsReady (task : TaskParts) (values : List ℕ) (rule : Rule) : Type 0 where
@@ -50,8 +50,8 @@ abbrev pub PassTurn : TaskParts → ℕ → List Counting → ℕ → List ℕ �
 PassTurn task layer rules n old new = Grows task layer old new × ((at_default task.initial new < at_default task.initial old) ⊎ ((new ≡ old) × NoneRaises task layer rules n old))
 
 -- after so many passes no rule of the layer raises anything, or so many variables were raised
-abbrev pub Passes : TaskParts → ℕ → ℕ → List ℕ → List ℕ → Type 0
-Passes task layer n old new = Grows task layer old new × (IsStuck task layer new ⊎ (at_default task.initial new + n ≤ length task.variables))
+abbrev pub GrowsInPasses : TaskParts → ℕ → ℕ → List ℕ → List ℕ → Type 0
+GrowsInPasses task layer n old new = Grows task layer old new × (IsStuck task layer new ⊎ (at_default task.initial new + n ≤ length task.variables))
 
 -- rules of the layer raised variables until none could
 abbrev pub Closes : TaskParts → ℕ → List ℕ → List ℕ → Type 0

@@ -7,7 +7,7 @@ ghost use Rattle.task_run.specs.Values.{HasValue};
 ghost use Rattle.var_order.specs.Layout.{IsOrderOf};
 ghost use Rattle.bdd_sets.specs.Sets.{IsSetOfStates};
 ghost use Rattle.axiom_layers.specs.Roots.{AreSets};
-ghost use Rattle.axiom_layers.specs.Raising.{Says};
+ghost use Rattle.axiom_layers.specs.Raising.{IsTrueExactlyWhere};
 
 use bdd_ops::Ops;
 use bdd_table::{Id, TRUE, TableFault};
@@ -28,7 +28,8 @@ pub(crate) fn value_set(
     requires fact { InRange parts.now.variables fact }
     ensures known { IfOk result (λ id. id < length ops.new) }
     ensures of_states { IfOk result (IsSetOfStates order.now ops.new) }
-    ensures meaning { IfOk result (Says parts.now order.now ops.new roots.now (λ values. HasValue values fact)) }
+    ensures meaning { IfOk result (IsTrueExactlyWhere parts.now order.now ops.new roots.now
+        (λ values. HasValue values fact)) }
     ensures kept { Keeps ops.old ops.new }
     ensures reduced { IsReduced ops.new }
 {
@@ -57,7 +58,8 @@ pub(crate) fn values_set(
     requires facts { All (InRange parts.now.variables) facts.now }
     ensures known { IfOk result (λ id. id < length ops.new) }
     ensures of_states { IfOk result (IsSetOfStates order.now ops.new) }
-    ensures meaning { IfOk result (Says parts.now order.now ops.new roots.now (λ values. All (HasValue values)
+    ensures meaning { IfOk result (IsTrueExactlyWhere parts.now order.now ops.new roots.now
+        (λ values. All (HasValue values)
         facts.now)) }
     ensures kept { Keeps ops.old ops.new }
     ensures reduced { IsReduced ops.new }

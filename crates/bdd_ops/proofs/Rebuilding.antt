@@ -5,7 +5,7 @@ use Rattle.std.proofs.lemmas.List.{length_push, get_or_append_left, get_or_push}
 use Rattle.std.proofs.lemmas.List.Elements.{All-nil, All-cons, All-push}
 use Rattle.bdd_table.specs.declared.node.Node.{Node}
 use Rattle.bdd_table.specs.Diagram.{Bits, at, level_of, means, IsReduced, Keeps}
-use Rattle.bdd_table.specs.Collected.{MarkedFrom, IsClosed, is_marked, is_kept}
+use Rattle.bdd_table.specs.Collected.{MarkedFrom, IsClosed, is_marked_id, is_kept}
 use Rattle.bdd_table.proofs.Meaning.{means_false, means_true, means_chosen}
 
 -- each kept Id below n has a diagram in the new table: what it says of the bits that are seen
@@ -46,10 +46,10 @@ below_or_at : (k n : ℕ) → k < n + 1 → (k < n) ⊎ (k ≡ n)
 below_or_at k n h = grind arith
 
 -- an inner Id that is kept is marked
-kept_marked : (marks : List Bool) (id : ℕ) → 2 ≤ id → is_kept marks id ≡ true → is_marked marks id ≡ true
+kept_marked : (marks : List Bool) (id : ℕ) → 2 ≤ id → is_kept marks id ≡ true → is_marked_id marks id ≡ true
 kept_marked marks id two = by_test (nat_lt id 2) refl
   where
-    by_test : (t : Bool) → nat_lt id 2 ≡ t → (t || is_marked marks id) ≡ true → is_marked marks id ≡ true
+    by_test : (t : Bool) → nat_lt id 2 ≡ t → (t || is_marked_id marks id) ≡ true → is_marked_id marks id ≡ true
     by_test true e kept = (let low = ltb-true id 2 e in absurd (omega (arith, low, two)))
     by_test false e kept = kept
 
@@ -60,7 +60,7 @@ module _ (old : List Node) (marks : List Bool) (seen : Bits → Bits) (start now
   chosen_means true b two known kept = (let i = ro.inner n two known in rebuilt.meaning (at old n).hi b i.hi_before (closed.hi_kept n two known kept))
   chosen_means false b two known kept = (let i = ro.inner n two known in rebuilt.meaning (at old n).lo b i.lo_before (closed.lo_kept n two known kept))
 
-  pub rebuilt_more : {new : List Node} {all shown : List ℕ} {wanted : Bool} (id : ℕ) → wanted ≡ is_marked marks n
+  pub rebuilt_more : {new : List Node} {all shown : List ℕ} {wanted : Bool} (id : ℕ) → wanted ≡ is_marked_id marks n
       → 2 ≤ n → n < length old → Keeps now new → IsReduced new → id < length new
       → shown ≡ ids → all ≡ ids ++ id ∷ []
       → (wanted ≡ true → (b : Bits) → means new id b ≡ cond (seen b (level_of old n))
@@ -98,4 +98,4 @@ or_right false b e = e
 
 -- the root is kept, so it has its diagram
 pub root_kept : (old : List Node) (marks : List Bool) (root : ℕ) → MarkedFrom old (root ∷ []) marks 2 → is_kept marks root ≡ true
-root_kept old marks root m = or_right (nat_lt root 2) (is_marked marks root) (m.roots_marked 0 (omega arith))
+root_kept old marks root m = or_right (nat_lt root 2) (is_marked_id marks root) (m.roots_marked 0 (omega arith))

@@ -4,3 +4,9 @@ mod Room
 mod Members
 pub mod Conjunctions
 pub mod Spelled
+pub mod Passing
+pub mod Descending
+pub mod StepLaws
+pub mod FactLists
+pub mod Missing
+pub mod Children

@@ -4,7 +4,7 @@ use Rattle.std.specs.Option.{option_map_or}
 use Rattle.bdd_table.specs.declared.node.Node.{Node}
 use Rattle.bdd_table.specs.Diagram.{Bits, means, Keeps}
 use Rattle.var_order.specs.Layout.{Layout, IsLayout, no_block, slot_of, block_at, bits, level_at}
-use Rattle.var_order.specs.Codes.{number, value_at, value_in, value_of, IsCode}
+use Rattle.var_order.specs.Codes.{number, value_at, coded_value, spelt_value, IsCode}
 use Rattle.var_order.proofs.Spelling.{number_same}
 use Rattle.var_order.proofs.Values.{code_spells}
 use Rattle.bdd_sets.specs.Sets.{IsOfState, IsSetOfStates}
@@ -18,7 +18,7 @@ same_value o b c slot l agree = number_same b c 0 0 (block_at o slot).width (blo
     (λ k below. agree ((block_at o slot).first + k) (l.owned slot ((block_at o slot).first + k)
     (record { from = omega arith; before = omega (arith, below) })).0)
 
-same_number : (o : Layout) (b c : Bits) (var : ℕ) → IsLayout o → Agree o b c → value_of o 0 b var ≡ value_of o 0 c var
+same_number : (o : Layout) (b c : Bits) (var : ℕ) → IsLayout o → Agree o b c → spelt_value o 0 b var ≡ spelt_value o 0 c var
 same_number o b c var l agree = go (slot_of o var)
   where
     go : (x : Option ℕ) → number b 0 (option_map_or (block_at o) x no_block).first
@@ -40,7 +40,7 @@ turned o b c agree place lt = sym (agree place lt)
 
 -- the set of a fact, of one state, and of all
 pub fact_of_states : (o : Layout) (nodes : List Node) (id var value : ℕ) → IsLayout o
-    → ((b : Bits) → means nodes id b ≡ (value_of o 0 b var == value)) → IsSetOfStates o nodes id
+    → ((b : Bits) → means nodes id b ≡ (spelt_value o 0 b var == value)) → IsSetOfStates o nodes id
 fact_of_states o nodes id var value l is b c agree = is b ∙ ap (λ (x : ℕ). x == value) (same_number o b c var l agree) ∙ sym (is c)
 
 pub state_of_states : (o : Layout) (nodes : List Node) (id : ℕ) (s : List ℕ) → IsLayout o
@@ -57,13 +57,13 @@ valid_of_states o nodes id l is b c agree = same_truth (means nodes id b) (means
 
 -- the set of a fact by states
 pub fact_by_states : (o : Layout) (nodes : List Node) (id var value : ℕ) → IsLayout o → IsSome (slot_of o var)
-    → ((b : Bits) → means nodes id b ≡ (value_of o 0 b var == value))
-    → (s : List ℕ) (b : Bits) → IsCode o 0 s b → means nodes id b ≡ (value_in o s var == value)
+    → ((b : Bits) → means nodes id b ≡ (spelt_value o 0 b var == value))
+    → (s : List ℕ) (b : Bits) → IsCode o 0 s b → means nodes id b ≡ (coded_value o s var == value)
 fact_by_states o nodes id var value l some is s b code = is b ∙ ap (λ (x : ℕ). x == value) (code_spells o 0 s b var l code some)
 
 pub next_fact_by_states : (o : Layout) (nodes : List Node) (id var value : ℕ) → IsLayout o → IsSome (slot_of o var)
-    → ((b : Bits) → means nodes id b ≡ (value_of o 1 b var == value))
-    → (s : List ℕ) (b : Bits) → IsCode o 1 s b → means nodes id b ≡ (value_in o s var == value)
+    → ((b : Bits) → means nodes id b ≡ (spelt_value o 1 b var == value))
+    → (s : List ℕ) (b : Bits) → IsCode o 1 s b → means nodes id b ≡ (coded_value o s var == value)
 next_fact_by_states o nodes id var value l some is s b code = is b ∙ ap (λ (x : ℕ). x == value) (code_spells o 1 s b var l code some)
 
 -- a set stays one of states, with the same states, where its table grows

@@ -3,7 +3,7 @@
 ghost use Rattle.std.specs.Prelude.{◌≡◌, ℕ, ◌<◌, ◌↔◌, ◌==◌, List, Bool, true, length, IfOk, IsSome};
 ghost use Rattle.bdd_table.specs.Diagram.{Bits, means, Keeps, IsReduced};
 ghost use Rattle.var_order.specs.Layout.{slot_of, block_of};
-ghost use Rattle.var_order.specs.Codes.{value_in, value_of, IsCode, IsStateOf};
+ghost use Rattle.var_order.specs.Codes.{coded_value, spelt_value, IsCode, IsStateOf};
 ghost use Rattle.bdd_sets.specs.Sets.{IsOfState, IsSetOfStates};
 
 use crate::values::{value_at_most, value_is};
@@ -16,10 +16,10 @@ use var_order::Order;
 pub fn fact_set(ops: &mut Ops, order: &Order, fact: Fact) -> Result<Id, TableFault>
     requires { IsSome (slot_of order.now fact.var) }
     ensures known { IfOk result (λ id. id < length ops.new) }
-    ensures meaning { IfOk result (λ id. (b : Bits) → means ops.new id b ≡ (value_of order.now 0 b fact.var ==
+    ensures meaning { IfOk result (λ id. (b : Bits) → means ops.new id b ≡ (spelt_value order.now 0 b fact.var ==
         fact.val)) }
     ensures states { IfOk result (λ id. (s : List ℕ) (b : Bits) → IsCode order.now 0 s b
-        → means ops.new id b ≡ (value_in order.now s fact.var == fact.val)) }
+        → means ops.new id b ≡ (coded_value order.now s fact.var == fact.val)) }
     ensures of_states { IfOk result (IsSetOfStates order.now ops.new) }
     ensures kept { Keeps ops.old ops.new }
     ensures reduced { IsReduced ops.new }
@@ -32,10 +32,10 @@ pub fn fact_set(ops: &mut Ops, order: &Order, fact: Fact) -> Result<Id, TableFau
 pub fn next_fact_set(ops: &mut Ops, order: &Order, fact: Fact) -> Result<Id, TableFault>
     requires { IsSome (slot_of order.now fact.var) }
     ensures known { IfOk result (λ id. id < length ops.new) }
-    ensures meaning { IfOk result (λ id. (b : Bits) → means ops.new id b ≡ (value_of order.now 1 b fact.var ==
+    ensures meaning { IfOk result (λ id. (b : Bits) → means ops.new id b ≡ (spelt_value order.now 1 b fact.var ==
         fact.val)) }
     ensures states { IfOk result (λ id. (s : List ℕ) (b : Bits) → IsCode order.now 1 s b
-        → means ops.new id b ≡ (value_in order.now s fact.var == fact.val)) }
+        → means ops.new id b ≡ (coded_value order.now s fact.var == fact.val)) }
     ensures kept { Keeps ops.old ops.new }
     ensures reduced { IsReduced ops.new }
 {

@@ -7,7 +7,7 @@ use Rattle.task_system.proofs.StatesLaw.{states_law}
 use Rattle.var_order.specs.Codes.{IsStateOf}
 use Rattle.symk_task.specs.Variables.{IsState}
 use Rattle.var_order.proofs.Laying.{state_of, of_state}
-use Rattle.bdd_sets.specs.Sets.{Has, IsSetOfStates}
+use Rattle.bdd_sets.specs.Sets.{HasCodedState, IsSetOfStates}
 use Rattle.space_api.specs.View.{HasMember, IsEmpty, HasSame}
 use Rattle.bdd_space.specs.Slots.{set_at}
 use Rattle.bdd_space.specs.Members.{code_of, has_state, IsKnownSet}
@@ -66,14 +66,14 @@ module _ (e : Symbolic) (start : List ℕ) (i : IsSpace e start) (a f : ℕ) (is
   )
 
   -- a state is one of the set where the Id is true by all bits of it
-  pub state_says : (s : State) → IsStateOf e.order s → (r : Bool) → IsTrue r ↔ Has e.order e.nodes f s → r ≡ (seen e).has a s
+  pub state_says : (s : State) → IsStateOf e.order s → (r : Bool) → IsTrue r ↔ HasCodedState e.order e.nodes f s → r ≡ (seen e).has a s
   state_says s state r says =
       both_true r ((seen e).has a s)
       (λ h. seen_is s ∙ has_from e.order e.nodes f s state (says.0 h (code_of e.order s) (code_law e.order s i.order.layout state)))
       (λ h. says.1 (λ b code. (known.set b).1 (s, state, code, has_member e.order e.nodes f s i.order.layout (sym (seen_is s) ∙ h))))
 
   -- and so is the initial one
-  pub start_says : (r : Bool) → IsTrue r ↔ Has e.order e.nodes f start → r ≡ (seen e).has a (system_of e.task).initial
+  pub start_says : (r : Bool) → IsTrue r ↔ HasCodedState e.order e.nodes f start → r ≡ (seen e).has a (system_of e.task).initial
   start_says r says =
       let same : start ≡ (system_of e.task).initial = one_initial e.task start (system_of e.task).initial i.initial (start_law e.task i.fits) in
       let state : IsStateOf e.order start = subst (IsStateOf e.order) (sym same) (start_state e start i) in
@@ -102,10 +102,10 @@ module _ (e old : Symbolic) (start : List ℕ) (i : IsSpace e start) (same : e �
         (λ alike. eq-eqb f g ((same_says e start i a f here b g there).1 alike)),
       )
 
-  pub start_by : (r : Bool) → IsTrue r ↔ Has e.order e.nodes f start → r ≡ (seen old).has a (system_of old.task).initial
+  pub start_by : (r : Bool) → IsTrue r ↔ HasCodedState e.order e.nodes f start → r ≡ (seen old).has a (system_of old.task).initial
   start_by r says = subst (λ (x : Symbolic). r ≡ (seen x).has a (system_of x.task).initial) same (start_says e start i a f here r says)
 
-  pub state_by : (s : State) → IsState old.task s → (r : Bool) → IsTrue r ↔ Has e.order e.nodes f s → r ≡ (seen old).has a s
+  pub state_by : (s : State) → IsState old.task s → (r : Bool) → IsTrue r ↔ HasCodedState e.order e.nodes f s → r ≡ (seen old).has a s
   state_by s state r says =
       let mine : IsState e.task s = subst (λ (x : Symbolic). IsState x.task s) (sym same) state in
       subst (λ (x : Symbolic). r ≡ (seen x).has a s) same (state_says e start i a f here s (state_of e.task e.order s i.order mine) r says)

@@ -2,7 +2,7 @@
 use Rattle.std.proofs.Common.{◌≡◌, ℕ, ◌<◌, ◌==◌, not, ◌&&◌, ◌||◌, List, length, Some, IsSome, IsTrue, Result, Ok, Err, IfOk, OnErr, sym, ◌∙◌, ap, subst, arith}
 use Rattle.symk_task.specs.declared.parts.TaskParts.{TaskParts}
 use Rattle.var_order.specs.Layout.{Layout, slot_of}
-use Rattle.var_order.specs.Codes.{IsCode, value_in}
+use Rattle.var_order.specs.Codes.{IsCode, coded_value}
 use Rattle.symk_task.specs.declared.parts.Fact.{Fact}
 use Rattle.symk_task.specs.Variables.{IsBase}
 use Rattle.symk_task.specs.Steps.{Step}
@@ -11,12 +11,12 @@ use Rattle.bdd_table.specs.Diagram.{Bits, means, Keeps}
 use Rattle.transitions.specs.Relations.{Names}
 use Rattle.space_api.specs.View.{GoalIn, FactIn, Unites, Meets, Lacks, Image, CostImage, Preimage, CostPreimage}
 use Rattle.space_api.specs.Frames.{Kept, NoMore, Gives}
-use Rattle.operator_relations.specs.Steps.{StepOfCost, ImageBy, PreimageBy}
-use Rattle.operator_relations.specs.Relations.{AreAsked}
+use Rattle.trans_merge.specs.Steps.{StepOfCost, ImageBy, PreimageBy}
+use Rattle.trans_merge.specs.Relations.{AreAsked}
 use Rattle.bdd_space.specs.declared.slots.Slot.{Slot}
 use Rattle.bdd_space.specs.Slots.{set_at, Puts}
 use Rattle.bdd_space.specs.Members.{has_state, IsKnownSet}
-use Rattle.bdd_space.specs.Symbolic.{Symbolic, IsSpace, Grows, Makes}
+use Rattle.bdd_space.specs.Symbolic.{Symbolic, IsSpace, GrowsSymbolic, Makes}
 use Rattle.bdd_space.specs.Seen.{seen}
 use Rattle.space_api.proofs.Keeping.{kept_refl}
 use Rattle.bdd_space.proofs.Keeping.{over, with_sets, grows, kept_grown, id_there, space_put, kept_put, gives_put}
@@ -29,8 +29,8 @@ ok_both (Ok x) P Q S p q f = f x p q
 ok_both (Err e) P Q S p q f = tt
 
 module _ (e old : Symbolic) (start : List ℕ) (i : IsSpace e start) (same : e ≡ old) where
-  pub grows_by : (new : List Node) → Keeps e.nodes new → Grows old (over e new)
-  grows_by new k = subst (λ (x : Symbolic). Grows x (over e new)) same (grows e new k)
+  pub grows_by : (new : List Node) → Keeps e.nodes new → GrowsSymbolic old (over e new)
+  grows_by new k = subst (λ (x : Symbolic). GrowsSymbolic x (over e new)) same (grows e new k)
 
   pub kept_by : (new : List Node) → Keeps e.nodes new → Kept (seen old) (seen (over e new))
   kept_by new k = subst (λ (x : Symbolic). Kept (seen x) (seen (over e new))) same (kept_grown e new i.sets k)
@@ -122,7 +122,7 @@ module _ (e old : Symbolic) (start : List ℕ) (i : IsSpace e start) (same : e �
         (r : Result ℕ E) (known : IfOk r (λ id. id < length new))
         (meaning : IfOk r (λ id. (v : Bits) → means new id v ≡ (means mid f v && means mid facts v))) where
       pub fact_by : ((s : List ℕ) (b : Bits) → IsCode e.order 0 s b
-          → means mid facts b ≡ (value_in e.order s fact.var == fact.val))
+          → means mid facts b ≡ (coded_value e.order s fact.var == fact.val))
           → IfOk r (Makes (over e new) (FactIn (seen old) fact a))
       fact_by says = ok_both r (λ id. id < length new) (λ id. (v : Bits) → means new id v
           ≡ (means mid f v && means mid facts v)) (Makes (over e new) (FactIn (seen old) fact a)) known meaning

@@ -7,7 +7,7 @@ use Rattle.symk_task.specs.Variables.{IsBase, place}
 use Rattle.bdd_table.specs.declared.node.Node.{Node}
 use Rattle.bdd_table.specs.Diagram.{Bits, means, Keeps}
 use Rattle.var_order.specs.Layout.{slot_of}
-use Rattle.var_order.specs.Codes.{IsCode, value_in}
+use Rattle.var_order.specs.Codes.{IsCode, coded_value}
 use Rattle.var_order.proofs.Values.{base_slot}
 use Rattle.transitions.specs.Relations.{Names}
 use Rattle.space_api.specs.View.{FactIn}
@@ -27,13 +27,13 @@ module _ (e : Symbolic) (start : List ℕ) (i : IsSpace e start) (fact : Fact) (
   pub slot_there : IsSome (slot_of e.order fact.var)
   slot_there = subst (λ (x : Option ℕ). IsSome x) (sym slot_is) refl
 
-  value_is : (s : List ℕ) → value_in e.order s fact.var ≡ get_or s (place e.task fact.var) 0
+  value_is : (s : List ℕ) → coded_value e.order s fact.var ≡ get_or s (place e.task fact.var) 0
   value_is s = ap (λ (x : Option ℕ). option_map_or (λ slot. get_or s slot 0) x 0) slot_is
 
   -- `facts` holds over the table in the middle where the variable has the value, and `id` where `f` does, too
   module _ (a f : ℕ) (is : set_at e.sets a ≡ Some f) (mid new : List Node) (facts id : ℕ) (k : Keeps e.nodes mid) (at : id < length new)
       (both : (b : Bits) → means new id b ≡ (means mid f b && means mid facts b))
-      (says : (s : List ℕ) (b : Bits) → IsCode e.order 0 s b → means mid facts b ≡ (value_in e.order s fact.var == fact.val)) where
+      (says : (s : List ℕ) (b : Bits) → IsCode e.order 0 s b → means mid facts b ≡ (coded_value e.order s fact.var == fact.val)) where
     set : IsKnownSet e.order e.nodes f
     set = id_there e.order e.nodes e.sets a f i.sets is
 
@@ -50,13 +50,13 @@ module _ (e : Symbolic) (start : List ℕ) (i : IsSpace e start) (fact : Fact) (
             x.2,
             (
               member_has e.order e.nodes f x.0 i.order.layout set.set x.1 x.3,
-              sym (value_is x.0) ∙ eqb-true (value_in e.order x.0 fact.var) fact.val (sym (says x.0 b x.2) ∙ p.1),
+              sym (value_is x.0) ∙ eqb-true (coded_value e.order x.0 fact.var) fact.val (sym (says x.0 b x.2) ∙ p.1),
             ),
           ))),
       (λ (s, state, code, (has, val)). (
           let here = (set.set b).1 (s, state, code, has_member e.order e.nodes f s i.order.layout has) in
           both b ∙ and_from (means mid f b) (means mid facts b) (k.meaning f b set.known ∙ here)
-          (says s b code ∙ eq-eqb (value_in e.order s fact.var) fact.val (value_is s ∙ val)))),
+          (says s b code ∙ eq-eqb (coded_value e.order s fact.var) fact.val (value_is s ∙ val)))),
     )
 
     those : HasThose e.order new Chosen id

@@ -8,7 +8,7 @@ use Rattle.var_order.specs.declared.block.Block.{Block}
 use Rattle.var_order.specs.Layout.{Layout, IsLayout, no_block, level_at}
 use Rattle.var_order.specs.Codes.{IsCode, IsStateOf}
 use Rattle.var_order.proofs.Coding.{coded, code_digit}
-use Rattle.transitions.specs.Relations.{HasMember, IsSet}
+use Rattle.transitions.specs.Relations.{HoldsForState, IsSet}
 use Rattle.transitions.proofs.SameBits.{same_code}
 use Rattle.transitions.proofs.Using.{set_of_names, member_named, set_alike, set_by}
 use Rattle.bdd_space.specs.Members.{digit, code_of, is_state, has_state, IsKnownSet, HasThose, MeansAs}
@@ -80,11 +80,11 @@ unfolding has_state
 has_from o nodes id s state m = and_from (is_state o.blocks s) (means nodes id (code_of o s)) (state_is o s state) m
 
 -- a set has the states for some bits of which it holds
-pub has_member : (o : Layout) (nodes : List Node) (id : ℕ) (s : List ℕ) → IsLayout o → has_state o nodes id s ≡ true → HasMember o (means nodes id) s
+pub has_member : (o : Layout) (nodes : List Node) (id : ℕ) (s : List ℕ) → IsLayout o → has_state o nodes id s ≡ true → HoldsForState o (means nodes id) s
 has_member o nodes id s l h = let both = has_parts o nodes id s h in (code_of o s, code_law o s l both.0, both.1)
 
 pub member_has : (o : Layout) (nodes : List Node) (id : ℕ) (s : List ℕ) → IsLayout o → IsSet o (means nodes id)
-    → IsStateOf o s → HasMember o (means nodes id) s → has_state o nodes id s ≡ true
+    → IsStateOf o s → HoldsForState o (means nodes id) s → has_state o nodes id s ≡ true
 member_has o nodes id s l set state member = has_from o nodes id s state ((set (code_of o s)).1 (s, state, code_law o s l state, member))
 
 -- an Id that has those states is a set, and has them

@@ -8,13 +8,13 @@ use Rattle.var_order.specs.Layout.{Layout}
 use Rattle.symk_task.specs.declared.parts.TaskParts.{TaskParts}
 use Rattle.task_system.specs.System.{State}
 use Rattle.space_api.specs.Frames.{Kept, Gives}
-use Rattle.operator_relations.proofs.Kept.{relations_kept}
+use Rattle.trans_merge.proofs.Kept.{relations_kept}
 use Rattle.bdd_space.specs.declared.slots.Slot.{Slot}
 use Rattle.bdd_space.specs.declared.symbolic.Own.{Own}
 use Rattle.bdd_space.specs.declared.slots.Slot.TheVariants.{Free}
 use Rattle.bdd_space.specs.Slots.{id_of, set_at, Puts}
 use Rattle.bdd_space.specs.Members.{has_state, IsKnownSet}
-use Rattle.bdd_space.specs.Symbolic.{Symbolic, in_set, OwnAre, AreSets, IsSpace, Grows}
+use Rattle.bdd_space.specs.Symbolic.{Symbolic, in_set, OwnAre, AreKnownSets, IsSpace, GrowsSymbolic}
 use Rattle.bdd_space.specs.Seen.{seen}
 use Rattle.bdd_space.proofs.Having.{alike_has, alike_set, alike_those, kept_alike}
 
@@ -54,23 +54,23 @@ in_grown : (o : Layout) (old new : List Node) (x : Option ℕ) (s : State) → K
 in_grown o old new None s k h = refl
 in_grown o old new (Some id) s k h = alike_has o old new id id s (kept_alike old new id k h.known)
 
-pub kept_grown : (e : Symbolic) (new : List Node) → AreSets e.order e.nodes e.sets → Keeps e.nodes new → Kept (seen e) (seen (over e new))
+pub kept_grown : (e : Symbolic) (new : List Node) → AreKnownSets e.order e.nodes e.sets → Keeps e.nodes new → Kept (seen e) (seen (over e new))
 kept_grown e new sets k = record {
   system = refl;
   valid = λ a h. h;
   same = λ a h s. in_grown e.order e.nodes new (set_at e.sets a) s k (sets a);
 }
 
-pub grows : (e : Symbolic) (new : List Node) → Keeps e.nodes new → Grows e (over e new)
+pub grows : (e : Symbolic) (new : List Node) → Keeps e.nodes new → GrowsSymbolic e (over e new)
 grows e new k = record { same = refl; keeps = k }
 
 -- no set
-pub no_sets : (o : Layout) (nodes : List Node) (sets : List Slot) → sets ≡ [] → AreSets o nodes sets
+pub no_sets : (o : Layout) (nodes : List Node) (sets : List Slot) → sets ≡ [] → AreKnownSets o nodes sets
 no_sets o nodes sets none a = subst (λ (xs : List Slot). IfSome (set_at xs a) (IsKnownSet o nodes)) (sym none)
     (subst (λ (x : Slot). IfSome (id_of x) (IsKnownSet o nodes)) (sym (get_or_past [] a (Free 0) (omega arith))) tt)
 
 -- the Id of a valid set
-pub id_there : (o : Layout) (nodes : List Node) (sets : List Slot) (a id : ℕ) → AreSets o nodes sets → set_at sets a ≡ Some id → IsKnownSet o nodes id
+pub id_there : (o : Layout) (nodes : List Node) (sets : List Slot) (a id : ℕ) → AreKnownSets o nodes sets → set_at sets a ≡ Some id → IsKnownSet o nodes id
 id_there o nodes sets a id are is = subst (λ (x : Option ℕ). IfSome x (IsKnownSet o nodes)) is (are a)
 
 pub has_there : (e : Symbolic) (a id : ℕ) (s : State) → set_at e.sets a ≡ Some id → (seen e).has a s ≡ has_state e.order e.nodes id s
@@ -79,7 +79,7 @@ has_there e a id s is = ap (λ (x : Option ℕ). in_set e.order e.nodes x s) is
 -- a set is added
 
 module _ (e : Symbolic) (id r : ℕ) (new : List Slot) (puts : Puts e.sets id new r) where
-  sets_put : IsKnownSet e.order e.nodes id → AreSets e.order e.nodes e.sets → AreSets e.order e.nodes new
+  sets_put : IsKnownSet e.order e.nodes id → AreKnownSets e.order e.nodes e.sets → AreKnownSets e.order e.nodes new
   sets_put known are a = elim (cases_eq a r) [
     | inl here ↦ subst (λ (x : Option ℕ). IfSome x (IsKnownSet e.order e.nodes)) (sym (ap (set_at new) here ∙ puts.is)) known
     | inr other ↦ subst (λ (x : Option ℕ). IfSome x (IsKnownSet e.order e.nodes)) (sym (puts.others a other)) (are a)

@@ -3,7 +3,7 @@ use Rattle.std.proofs.Common.{◌≡◌, ℕ, List, length, Some, Result, IfOk, 
 use Rattle.std.proofs.lemmas.Result.{IfOk-weaker}
 use Rattle.task_system.specs.System.{State}
 use Rattle.bdd_table.specs.declared.node.Node.{Node}
-use Rattle.set_values.specs.Leading.{MissNone, HasState, LeadsFrom, LeadsInto}
+use Rattle.bdd_sets.specs.Leading.{MissNone, HasState, LeadsFrom, LeadsInto}
 use Rattle.space_api.specs.View.{Has}
 use Rattle.space_api.specs.Operators.{LeadInto, LeadFrom}
 use Rattle.bdd_space.specs.Slots.{set_at}

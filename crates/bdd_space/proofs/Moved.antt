@@ -12,15 +12,15 @@ use Rattle.bdd_table.proofs.Canonical.{canonical}
 use Rattle.var_order.specs.Layout.{Layout}
 use Rattle.space_api.specs.Frames.{Stays}
 use Rattle.space_api.specs.Tidied.{Collected}
-use Rattle.operator_relations.specs.declared.relations.OperatorRelations.{OperatorRelations}
-use Rattle.operator_relations.specs.Relations.{AreRelationsOf}
-use Rattle.operator_relations.specs.Roots.{roots_of as relation_roots, AreMovedTo}
+use Rattle.trans_merge.specs.declared.relations.OperatorRelations.{OperatorRelations}
+use Rattle.trans_merge.specs.Relations.{AreRelationsOf}
+use Rattle.trans_merge.specs.Roots.{roots_of as relation_roots, AreMovedTo}
 use Rattle.bdd_space.specs.declared.slots.Slot.{Slot}
 use Rattle.bdd_space.specs.declared.slots.Slot.TheVariants.{Holds, Free}
 use Rattle.bdd_space.specs.declared.symbolic.Own.{Own}
-use Rattle.bdd_space.specs.Slots.{id_of, root_of, with_root, AreMoved}
+use Rattle.bdd_space.specs.Slots.{id_of, root_of, with_root, AreSlotsMoved}
 use Rattle.bdd_space.specs.Members.{IsKnownSet, MeansAs}
-use Rattle.bdd_space.specs.Symbolic.{Symbolic, in_set, OwnAre, IsSpace, roots_of}
+use Rattle.bdd_space.specs.Symbolic.{Symbolic, in_set, OwnAre, IsSpace, symbolic_roots}
 use Rattle.bdd_space.specs.Seen.{seen, Needs}
 use Rattle.bdd_space.proofs.Having.{alike_has, alike_set, alike_those, false_means}
 use Rattle.bdd_space.proofs.Needing.{node_ids, all_reached}
@@ -57,21 +57,21 @@ joined_length (x ∷ xs) ys = ap suc (joined_length xs ys) ∙ (let e : suc (len
 
 module _ (e : Symbolic) where
   -- how many roots there are
-  pub roots_length : length (roots_of e) ≡ 3 + (length (relation_roots e.relations) + length e.sets)
+  pub roots_length : length (symbolic_roots e) ≡ 3 + (length (relation_roots e.relations) + length e.sets)
   roots_length =
       let a = joined_length (relation_roots e.relations) (map root_of e.sets) in
       let b = mapped_length e.sets in
       omega (arith, a, b)
 
   -- those of the relations stand from the fourth on
-  relation_root : (i : ℕ) → i < length (relation_roots e.relations) → get_or (roots_of e) (3 + i) 0 ≡ get_or (relation_roots e.relations) i 0
+  relation_root : (i : ℕ) → i < length (relation_roots e.relations) → get_or (symbolic_roots e) (3 + i) 0 ≡ get_or (relation_roots e.relations) i 0
   relation_root i lt = three_more e.own.all e.own.start e.own.goals (relation_roots e.relations ++ map root_of e.sets)
       i ∙ before (relation_roots e.relations) (map root_of e.sets) i lt
 
   -- and behind them those of the sets
-  set_root : (a : ℕ) → get_or (roots_of e) (3 + length (relation_roots e.relations) + a) 0 ≡ root_of (get_or e.sets a (Free 0))
+  set_root : (a : ℕ) → get_or (symbolic_roots e) (3 + length (relation_roots e.relations) + a) 0 ≡ root_of (get_or e.sets a (Free 0))
   set_root a =
-      ap (λ (k : ℕ). get_or (roots_of e) k 0) (let h : 3 + length (relation_roots e.relations) + a ≡ 3
+      ap (λ (k : ℕ). get_or (symbolic_roots e) k 0) (let h : 3 + length (relation_roots e.relations) + a ≡ 3
       + (length (relation_roots e.relations) + a) = omega arith in h)
       ∙ three_more e.own.all e.own.start e.own.goals (relation_roots e.relations ++ map root_of e.sets) (length (relation_roots e.relations) + a)
       ∙ after (relation_roots e.relations) (map root_of e.sets) a
@@ -83,8 +83,8 @@ slot_known nodes o (Free next) two k = omega (arith, two)
 
 -- each root is an Id of the table
 pub roots_known : (e : Symbolic) (start : List ℕ) → IsSpace e start
-    → All (λ id. id < length e.nodes) (relation_roots e.relations) → (i : ℕ) → i < length (roots_of e)
-    → get_or (roots_of e) i 0 < length e.nodes
+    → All (λ id. id < length e.nodes) (relation_roots e.relations) → (i : ℕ) → i < length (symbolic_roots e)
+    → get_or (symbolic_roots e) i 0 < length e.nodes
 roots_known e start is relations zero lt = is.own.all.known
 roots_known e start is relations (suc zero) lt = is.own.start.known
 roots_known e start is relations (suc (suc zero)) lt = is.own.goals.known
@@ -164,13 +164,13 @@ abbrev pub set_from : Symbolic → ℕ
 set_from e = 3 + length (relation_roots e.relations)
 
 module _ (e : Symbolic) (start : List ℕ) (now : List Node) (places : List ℕ) (relations : OperatorRelations) (slots : List Slot) (n : ℕ)
-    (i : IsSpace e start) (r : IsReduced now) (as_long : length places ≡ length (roots_of e))
-    (moved : (k : ℕ) → k < length (roots_of e) → IsMoved e.nodes now (get_or (roots_of e) k 0) (get_or places k 0))
-    (sets : AreMoved e.sets places (set_from e) slots) where
-  root_means : (k : ℕ) → k < length (roots_of e) → MeansAs e.nodes (get_or (roots_of e) k 0) now (get_or places k 0)
-  root_means k lt = moved_means e.nodes now (get_or (roots_of e) k 0) (get_or places k 0) (moved k lt)
+    (i : IsSpace e start) (r : IsReduced now) (as_long : length places ≡ length (symbolic_roots e))
+    (moved : (k : ℕ) → k < length (symbolic_roots e) → IsMoved e.nodes now (get_or (symbolic_roots e) k 0) (get_or places k 0))
+    (sets : AreSlotsMoved e.sets places (set_from e) slots) where
+  root_means : (k : ℕ) → k < length (symbolic_roots e) → MeansAs e.nodes (get_or (symbolic_roots e) k 0) now (get_or places k 0)
+  root_means k lt = moved_means e.nodes now (get_or (symbolic_roots e) k 0) (get_or places k 0) (moved k lt)
 
-  many : 3 ≤ length (roots_of e)
+  many : 3 ≤ length (symbolic_roots e)
   many = let c = roots_length e in omega (arith, c)
 
   own_moved : OwnAre e.task e.order now (own_at places)
@@ -244,7 +244,7 @@ module _ (e : Symbolic) (start : List ℕ) (now : List Node) (places : List ℕ)
     set_at_place : (a : ℕ) → a < length e.sets → root_of (get_or slots a (Free 0)) ≡ get_or places (set_from e + a) 0
     set_at_place a lt = ap root_of (sets.below a lt) ∙ slot_root e.nodes now (get_or e.sets a (Free 0)) (get_or places (set_from e + a) 0) r (set_place a lt)
 
-    same_length : length (roots_of (collected e now places relations slots n)) ≡ length places
+    same_length : length (symbolic_roots (collected e now places relations slots n)) ≡ length places
     same_length =
         let a = roots_length (collected e now places relations slots n) in
         let b = roots_length e in
@@ -269,7 +269,7 @@ module _ (e : Symbolic) (start : List ℕ) (now : List Node) (places : List ℕ)
           ∙ ap (λ (j : ℕ). get_or places j 0) to)
     ]
 
-    roots_at : (k : ℕ) → k < length places → get_or (roots_of (collected e now places relations slots n)) k 0 ≡ get_or places k 0
+    roots_at : (k : ℕ) → k < length places → get_or (symbolic_roots (collected e now places relations slots n)) k 0 ≡ get_or places k 0
     roots_at zero lt = refl
     roots_at (suc zero) lt = refl
     roots_at (suc (suc zero)) lt = refl
@@ -277,8 +277,8 @@ module _ (e : Symbolic) (start : List ℕ) (now : List Node) (places : List ℕ)
         let to : 3 + k ≡ suc (suc (suc k)) = omega arith in
         rest_at k (omega (arith, lt)) ∙ ap (λ (j : ℕ). get_or places j 0) to
 
-    roots_are : roots_of (collected e now places relations slots n) ≡ places
-    roots_are = ext_get_or 0 (roots_of (collected e now places relations slots n)) places same_length
+    roots_are : symbolic_roots (collected e now places relations slots n) ≡ places
+    roots_are = ext_get_or 0 (symbolic_roots (collected e now places relations slots n)) places same_length
         (λ k lt. roots_at k (let c = same_length in omega (arith, lt, c)))
 
     places_known : (k : ℕ) → k < length places → get_or places k 0 < length now
@@ -286,7 +286,7 @@ module _ (e : Symbolic) (start : List ℕ) (now : List Node) (places : List ℕ)
 
     -- what is held is what the space needs
     pub is_collected : n + 2 ≡ length now → ((id : ℕ) → 2 ≤ id → id < length now → Reaches now places id)
-        → ((ids : List ℕ) → AreReached e.nodes (roots_of e) ids → length now ≡ length ids + 2)
+        → ((ids : List ℕ) → AreReached e.nodes (symbolic_roots e) ids → length now ≡ length ids + 2)
         → Collected (Needs e) (Needs (collected e now places relations slots n)) (seen e) (seen (collected e now places relations slots n))
     is_collected held exact count = record {
       needed = λ m (ids, reached, is). (let c = count ids reached in omega (arith, c, is));

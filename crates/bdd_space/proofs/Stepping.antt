@@ -12,7 +12,7 @@ use Rattle.var_order.specs.Layout.{Layout, IsLayout}
 use Rattle.var_order.specs.Codes.{IsStateOf}
 use Rattle.var_order.proofs.Laying.{state_of, of_state}
 use Rattle.space_api.specs.View.{Image, CostImage, Preimage, CostPreimage}
-use Rattle.operator_relations.specs.Steps.{StepOfCost, ImageBy, PreimageBy}
+use Rattle.trans_merge.specs.Steps.{StepOfCost, ImageBy, PreimageBy}
 use Rattle.bdd_space.specs.Slots.{set_at}
 use Rattle.bdd_space.specs.Members.{has_state, IsKnownSet, HasThose}
 use Rattle.bdd_space.specs.Symbolic.{Symbolic, IsSpace, Makes}

@@ -7,19 +7,19 @@ use Rattle.bdd_table.specs.Diagram.{IsReduced}
 use Rattle.bdd_table.specs.Collected.{IsMoved, Reaches, AreReached}
 use Rattle.space_api.specs.Frames.{Stays}
 use Rattle.space_api.specs.Tidied.{Collected}
-use Rattle.operator_relations.specs.declared.relations.OperatorRelations.{OperatorRelations}
-use Rattle.operator_relations.specs.Relations.{AreRelationsOf}
-use Rattle.operator_relations.specs.Roots.{roots_of as relation_roots, AreMovedTo}
-use Rattle.operator_relations.proofs.Rooting.{known_roots}
+use Rattle.trans_merge.specs.declared.relations.OperatorRelations.{OperatorRelations}
+use Rattle.trans_merge.specs.Relations.{AreRelationsOf}
+use Rattle.trans_merge.specs.Roots.{roots_of as relation_roots, AreMovedTo}
+use Rattle.trans_merge.proofs.Rooting.{known_roots}
 use Rattle.bdd_space.specs.declared.slots.Slot.{Slot}
-use Rattle.bdd_space.specs.Slots.{AreMoved}
-use Rattle.bdd_space.specs.Symbolic.{Symbolic, IsSpace, roots_of}
+use Rattle.bdd_space.specs.Slots.{AreSlotsMoved}
+use Rattle.bdd_space.specs.Symbolic.{Symbolic, IsSpace, symbolic_roots}
 use Rattle.bdd_space.specs.Seen.{seen, Needs}
 use Rattle.bdd_space.proofs.Moved.{collected, set_from, roots_known, relations_to, space_collected, stays_collected, is_collected}
 
-module _ (e old : Symbolic) (start : List ℕ) (i : IsSpace e start) (same : e ≡ old) (xs : List ℕ) (are : xs ≡ roots_of old) where
-  inside : xs ≡ roots_of e
-  inside = are ∙ ap roots_of (sym same)
+module _ (e old : Symbolic) (start : List ℕ) (i : IsSpace e start) (same : e ≡ old) (xs : List ℕ) (are : xs ≡ symbolic_roots old) where
+  inside : xs ≡ symbolic_roots e
+  inside = are ∙ ap symbolic_roots (sym same)
 
   -- the roots are Ids of the table
   pub known_by : (k : ℕ) → k < length xs → get_or xs k 0 < length e.nodes
@@ -28,17 +28,17 @@ module _ (e old : Symbolic) (start : List ℕ) (i : IsSpace e start) (same : e �
 
   module _ (places at : List ℕ) (slice : at ≡ places) (now : List Node) (r : IsReduced now) (as_long : length places ≡ length xs)
       (moved : (k : ℕ) → k < length xs → IsMoved e.nodes now (get_or xs k 0) (get_or places k 0)) where
-    at_long : length at ≡ length (roots_of e)
+    at_long : length at ≡ length (symbolic_roots e)
     at_long = ap length slice ∙ as_long ∙ ap length inside
 
-    at_moved : (k : ℕ) → k < length (roots_of e) → IsMoved e.nodes now (get_or (roots_of e) k 0) (get_or at k 0)
+    at_moved : (k : ℕ) → k < length (symbolic_roots e) → IsMoved e.nodes now (get_or (symbolic_roots e) k 0) (get_or at k 0)
     at_moved k lt =
-        subst (λ (ys : List ℕ). IsMoved e.nodes now (get_or (roots_of e) k 0) (get_or ys k 0)) (sym slice)
+        subst (λ (ys : List ℕ). IsMoved e.nodes now (get_or (symbolic_roots e) k 0) (get_or ys k 0)) (sym slice)
         (subst (λ (ys : List ℕ). k < length ys → IsMoved e.nodes now (get_or ys k 0) (get_or places k 0)) inside (moved k) lt)
 
-    module _ (relations : OperatorRelations) (slots : List Slot) (n from : ℕ) (is_from : from ≡ set_from e) (sets : AreMoved e.sets at from slots) where
-      sets_at : AreMoved e.sets at (set_from e) slots
-      sets_at = subst (λ (k : ℕ). AreMoved e.sets at k slots) is_from sets
+    module _ (relations : OperatorRelations) (slots : List Slot) (n from : ℕ) (is_from : from ≡ set_from e) (sets : AreSlotsMoved e.sets at from slots) where
+      sets_at : AreSlotsMoved e.sets at (set_from e) slots
+      sets_at = subst (λ (k : ℕ). AreSlotsMoved e.sets at k slots) is_from sets
 
       pub relations_by : AreMovedTo e.nodes now (relation_roots e.relations) at 3
       relations_by = relations_to e start now at relations slots n i r at_long at_moved sets_at

@@ -4,7 +4,7 @@ use Rattle.bdd_table.specs.Collected.{AreReached}
 use Rattle.space_api.specs.View.{View}
 use Rattle.task_system.specs.Computed.{system_of}
 use Rattle.bdd_space.specs.Slots.{set_at}
-use Rattle.bdd_space.specs.Symbolic.{Symbolic, in_set, roots_of}
+use Rattle.bdd_space.specs.Symbolic.{Symbolic, in_set, symbolic_roots}
 
 -- A set is valid where its place has an Id, and has the states that the Id has. The two constants are no nodes.
 abbrev pub seen : Symbolic → View ℕ
@@ -19,4 +19,4 @@ seen e = record {
 
 -- the space needs as many nodes as its valid sets and its own Ids reach
 abbrev pub Needs : Symbolic → ℕ → Type 0
-Needs e n = (ids : List ℕ) × AreReached e.nodes (roots_of e) ids × (n ≡ length ids)
+Needs e n = (ids : List ℕ) × AreReached e.nodes (symbolic_roots e) ids × (n ≡ length ids)

@@ -41,5 +41,5 @@ pub record MovedBelow (old : List Slot) (roots : List ℕ) (from : ℕ) (new : L
   pub others : (a : ℕ) → n ≤ a → slice_index_or new a (Free 0) ≡ slice_index_or old a (Free 0)
 
 -- so do all places
-abbrev pub AreMoved : List Slot → List ℕ → ℕ → List Slot → Type 0
-AreMoved old roots from new = MovedBelow old roots from new (length old)
+abbrev pub AreSlotsMoved : List Slot → List ℕ → ℕ → List Slot → Type 0
+AreSlotsMoved old roots from new = MovedBelow old roots from new (length old)

@@ -10,11 +10,11 @@ use Rattle.task_system.specs.Computed.{system_of}
 use Rattle.bdd_table.specs.declared.node.Node.{Node}
 use Rattle.bdd_table.specs.Diagram.{IsReduced, Keeps}
 use Rattle.var_order.specs.Layout.{Layout, IsOrderOf}
-use Rattle.operator_relations.specs.declared.relations.OperatorRelations.{OperatorRelations}
-use Rattle.operator_relations.specs.Relations.{AreRelationsOf}
-use Rattle.operator_relations.specs.Roots.{roots_of as relation_roots}
-use Rattle.set_values.specs.declared.stepping.StepFacts.{StepFacts}
-use Rattle.set_values.specs.Steps.{AreStepFacts}
+use Rattle.trans_merge.specs.declared.relations.OperatorRelations.{OperatorRelations}
+use Rattle.trans_merge.specs.Relations.{AreRelationsOf}
+use Rattle.trans_merge.specs.Roots.{roots_of as relation_roots}
+use Rattle.bdd_sets.specs.declared.stepping.StepFacts.{StepFacts}
+use Rattle.bdd_sets.specs.Steps.{AreStepFacts}
 use Rattle.bdd_space.specs.declared.slots.Slot.{Slot}
 use Rattle.bdd_space.specs.declared.symbolic.Own.{Own}
 use Rattle.bdd_space.specs.Slots.{set_at, root_of}
@@ -43,8 +43,8 @@ pub record OwnAre (task : TaskParts) (o : Layout) (nodes : List Node) (own : Own
   pub goals : HasThose o nodes (λ s. IsTrue ((system_of task).goal s)) own.goals
 
 -- each set that there is is a set of states
-abbrev pub AreSets : Layout → List Node → List Slot → Type 0
-AreSets o nodes sets = (a : ℕ) → IfSome (set_at sets a) (IsKnownSet o nodes)
+abbrev pub AreKnownSets : Layout → List Node → List Slot → Type 0
+AreKnownSets o nodes sets = (a : ℕ) → IfSome (set_at sets a) (IsKnownSet o nodes)
 
 -- what a space keeps true
 pub record IsSpace (e : Symbolic) (start : List ℕ) : Type 0 where
@@ -55,15 +55,15 @@ pub record IsSpace (e : Symbolic) (start : List ℕ) : Type 0 where
   pub own : OwnAre e.task e.order e.nodes e.own
   pub relations : AreRelationsOf e.task e.order e.nodes e.relations
   pub steps : AreStepFacts e.task e.order e.steps
-  pub sets : AreSets e.order e.nodes e.sets
+  pub sets : AreKnownSets e.order e.nodes e.sets
   pub initial : IsInitial e.task start
 
 -- the Ids that a space needs: its own, those of its relations, and those of its sets
-abbrev pub roots_of : Symbolic → List ℕ
-roots_of e = e.own.all ∷ e.own.start ∷ e.own.goals ∷ (relation_roots e.relations ++ map root_of e.sets)
+abbrev pub symbolic_roots : Symbolic → List ℕ
+symbolic_roots e = e.own.all ∷ e.own.start ∷ e.own.goals ∷ (relation_roots e.relations ++ map root_of e.sets)
 
 -- the table alone has changed, and each Id that was known means the same
-pub record Grows (old new : Symbolic) : Type 0 where
+pub record GrowsSymbolic (old new : Symbolic) : Type 0 where
   pub same : new ≡ record old { nodes = new.nodes }
   pub keeps : Keeps old.nodes new.nodes
 

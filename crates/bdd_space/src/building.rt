@@ -6,7 +6,7 @@ ghost use Rattle.symk_task.specs.Plans.{IsInitial};
 ghost use Rattle.task_system.specs.Computed.{system_of};
 ghost use Rattle.var_order.specs.Layout.{IsOrderOf};
 ghost use Rattle.axiom_layers.specs.Roots.{AreRoots};
-ghost use Rattle.operator_relations.specs.Relations.{AreJoinedWithin};
+ghost use Rattle.trans_merge.specs.Relations.{AreJoinedWithin};
 ghost use Rattle.bdd_space.specs.Symbolic.{OwnAre};
 ghost use Rattle.bdd_space.specs.Seen.{seen};
 
@@ -14,13 +14,12 @@ use crate::slots::Slots;
 use crate::symbolic::{BddSpace, Own};
 use axiom_layers::{Derived, compile};
 use bdd_ops::{CACHE, Ops};
-use bdd_sets::{state_set, valid_set};
+use bdd_sets::{StepFacts, state_set, valid_set};
 use bdd_table::Table;
-use operator_relations::OperatorRelations;
-use set_values::StepFacts;
 use std::alloc::Global;
 use symk_task::{Memory, State, Task};
 use task_run::Rules;
+use trans_merge::OperatorRelations;
 use var_order::Order;
 
 /// Relations of one cost are joined while a joined one has at most so many nodes. Fewer relations make fewer products

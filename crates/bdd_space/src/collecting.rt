@@ -5,7 +5,7 @@ ghost use Rattle.bdd_table.specs.Diagram.{IsReduced};
 ghost use Rattle.bdd_table.specs.Collected.{IsMoved, Reaches, AreReached};
 ghost use Rattle.space_api.specs.Frames.{Stays};
 ghost use Rattle.space_api.specs.Tidied.{IsFull, Collected, SameRoom};
-ghost use Rattle.bdd_space.specs.Symbolic.{roots_of};
+ghost use Rattle.bdd_space.specs.Symbolic.{symbolic_roots};
 ghost use Rattle.bdd_space.specs.Seen.{seen, Needs};
 
 use crate::symbolic::{BddSpace, Own};
@@ -56,7 +56,7 @@ impl<'a> BddSpace<'a> {
 
     /// The Ids that the space needs.
     fn roots(&self) -> Result<Vec<Id>, Memory>
-        ensures { IfOk result (λ roots. roots.items ≡ roots_of self.now) }
+        ensures { IfOk result (λ roots. roots.items ≡ symbolic_roots self.now) }
     {
         let mut roots = Vec::new(self.ops.table().allocator());
         roots.push(self.own.all)?;

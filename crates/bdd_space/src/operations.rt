@@ -6,7 +6,7 @@ ghost use Rattle.task_system.specs.System.{Listed};
 ghost use Rattle.space_api.specs.View.{Valid, GoalIn, FactIn, Unites, Meets, Lacks};
 ghost use Rattle.space_api.specs.Frames.{Kept};
 ghost use Rattle.space_api.specs.Listing.{ListsReached};
-ghost use Rattle.bdd_space.specs.Symbolic.{Grows, Makes};
+ghost use Rattle.bdd_space.specs.Symbolic.{GrowsSymbolic, Makes};
 ghost use Rattle.bdd_space.specs.Seen.{seen};
 
 use crate::symbolic::BddSpace;
@@ -42,7 +42,7 @@ impl<'a> BddSpace<'a> {
     pub(crate) fn goals_of(&mut self, a: usize) -> Result<Id, Memory>
         requires { Valid (seen self.old) a }
         ensures made { IfOk result (Makes self.new (GoalIn (seen self.old) a)) }
-        ensures grows { Grows self.old self.new }
+        ensures grows { GrowsSymbolic self.old self.new }
         ensures kept { Kept (seen self.old) (seen self.new) }
     {
         let set = self.id(a);
@@ -54,7 +54,7 @@ impl<'a> BddSpace<'a> {
         requires fact { IsBase self.old.task fact.var }
         requires a { Valid (seen self.old) a }
         ensures made { IfOk result (Makes self.new (FactIn (seen self.old) fact a)) }
-        ensures grows { Grows self.old self.new }
+        ensures grows { GrowsSymbolic self.old self.new }
         ensures kept { Kept (seen self.old) (seen self.new) }
     {
         let set = self.id(a);
@@ -67,7 +67,7 @@ impl<'a> BddSpace<'a> {
         requires a { Valid (seen self.old) a }
         requires b { Valid (seen self.old) b }
         ensures made { IfOk result (Makes self.new (Unites (seen self.old) a b)) }
-        ensures grows { Grows self.old self.new }
+        ensures grows { GrowsSymbolic self.old self.new }
         ensures kept { Kept (seen self.old) (seen self.new) }
     {
         let f = self.id(a);
@@ -80,7 +80,7 @@ impl<'a> BddSpace<'a> {
         requires a { Valid (seen self.old) a }
         requires b { Valid (seen self.old) b }
         ensures made { IfOk result (Makes self.new (Meets (seen self.old) a b)) }
-        ensures grows { Grows self.old self.new }
+        ensures grows { GrowsSymbolic self.old self.new }
         ensures kept { Kept (seen self.old) (seen self.new) }
     {
         let f = self.id(a);
@@ -93,7 +93,7 @@ impl<'a> BddSpace<'a> {
         requires a { Valid (seen self.old) a }
         requires b { Valid (seen self.old) b }
         ensures made { IfOk result (Makes self.new (Lacks (seen self.old) a b)) }
-        ensures grows { Grows self.old self.new }
+        ensures grows { GrowsSymbolic self.old self.new }
         ensures kept { Kept (seen self.old) (seen self.new) }
     {
         let f = self.id(a);

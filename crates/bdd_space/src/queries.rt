@@ -8,9 +8,8 @@ ghost use Rattle.space_api.specs.Operators.{LeadInto, LeadFrom};
 ghost use Rattle.bdd_space.specs.Seen.{seen};
 
 use crate::symbolic::BddSpace;
-use bdd_sets::has;
+use bdd_sets::{has, leading_from, leading_into};
 use bdd_table::FALSE;
-use set_values::{leading_from, leading_into};
 use std::alloc::Global;
 use symk_task::{Memory, State};
 use task_run::Rules;

@@ -1,7 +1,7 @@
 //! Sets by number.
 
 ghost use Rattle.std.specs.Prelude.{◌≡◌, ◌+◌, ◌<◌, ◌≤◌, ◌++◌, [], map, length, IfOk, OnOk, OnErr, IsSome, Some};
-ghost use Rattle.bdd_space.specs.Slots.{set_at, root_of, with_root, Puts, Empties, AreMoved};
+ghost use Rattle.bdd_space.specs.Slots.{set_at, root_of, with_root, Puts, Empties, AreSlotsMoved};
 
 use bdd_table::{FALSE, Id};
 use std::alloc::{AllocError, Global};
@@ -120,7 +120,7 @@ impl Slots {
     /// Gives each set the Id that stands for it in the list, the first at `from`.
     pub(crate) fn take_roots(&mut self, roots: &[Id], from: usize)
         requires { from + length self.old.slots.items ≤ length roots.now }
-        ensures { AreMoved self.old.slots.items roots.now from self.new.slots.items }
+        ensures { AreSlotsMoved self.old.slots.items roots.now from self.new.slots.items }
     {
         for a in 0..self.slots.len() {
             self.slots[a] = self.slots[a].with_root(roots[from + a]);

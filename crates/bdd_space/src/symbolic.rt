@@ -2,12 +2,12 @@
 
 use crate::slots::Slots;
 use bdd_ops::Ops;
+use bdd_sets::StepFacts;
 use bdd_table::{FALSE, Id};
-use operator_relations::OperatorRelations;
-use set_values::StepFacts;
 use std::marker::Model;
 use symk_task::{Memory, State, Task};
 use task_run::Rules;
+use trans_merge::OperatorRelations;
 use var_order::Order;
 
 /// The sets of states of one task, each a decision diagram.
@@ -77,7 +77,7 @@ ghost use Rattle.space_api.specs.View.{View, Valid, GoalIn, Unites, Meets, Lacks
 ghost use Rattle.space_api.specs.Frames.{MakesSet};
 ghost use Rattle.bdd_space.specs.Slots.{set_at};
 ghost use Rattle.bdd_space.specs.Members.{has_state, IsKnownSet};
-ghost use Rattle.bdd_space.specs.Symbolic.{Grows, Makes};
+ghost use Rattle.bdd_space.specs.Symbolic.{GrowsSymbolic, Makes};
 ghost use Rattle.bdd_space.specs.Seen.{seen};
 
 impl<'a> BddSpace<'a> {

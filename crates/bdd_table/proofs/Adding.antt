@@ -4,7 +4,7 @@ use Rattle.std.proofs.lemmas.List.{get_or_append_left}
 use Rattle.std.specs.List.{list_any}
 use Rattle.indexmap.specs.IndexSet.{insert_key}
 use Rattle.bdd_table.specs.declared.node.Node.{Node}
-use Rattle.bdd_table.specs.Diagram.{Bits, node_of, at, level_of, means, IsInner, IsReduced, Grows, Keeps, Adds}
+use Rattle.bdd_table.specs.Diagram.{Bits, node_of, at, level_of, means, IsInner, IsReduced, GrowsTable, Keeps, AddsNode}
 use Rattle.bdd_table.specs.NodeHash.{node_eq}
 use Rattle.bdd_table.proofs.Canonical.{order}
 use Rattle.bdd_table.proofs.Meaning.{means_chosen, chosen_known, keeps_grown}
@@ -89,7 +89,7 @@ module _ (eq : Node → Node → Bool) (itself : (x : Node) → eq x x ≡ true)
   got (y ∷ ys) (suc i) k e = got ys i k e
 
   pub adds_of : (xs ys : List Node) (n : Node) (id : ℕ) → ys ≡ insert_key eq xs n → id < length ys
-      → ((k : Node) × (slice_get ys id ≡ Some k) × (eq n k ≡ true)) → Adds xs n ys id
+      → ((k : Node) × (slice_get ys id ≡ Some k) × (eq n k ≡ true)) → AddsNode xs n ys id
   adds_of xs ys n id e known stored = record {
     known = known;
     is = got ys id stored.0 stored.1 ∙ sym (same n stored.0 stored.2);
@@ -141,7 +141,7 @@ pub record IsAbove (xs : List Node) (n : Node) : Type 0 where
   pub hi_below : n.level < level_of xs n.hi
 
 pub reduced_after : {E : Type 0} (xs ys : List Node) (n : Node) (r : Result ℕ E) → IsReduced xs → IsAbove xs n
-    → IfOk r (Adds xs n ys) → OnErr r (ys ≡ xs) → IsReduced ys
+    → IfOk r (AddsNode xs n ys) → OnErr r (ys ≡ xs) → IsReduced ys
 reduced_after xs ys n (Ok id) r above a e = elim (a.how) [
   | inl same ↦ subst IsReduced (sym same) r
   | inr p ↦ subst IsReduced (sym p.0)
@@ -149,17 +149,17 @@ reduced_after xs ys n (Ok id) r above a e = elim (a.how) [
 ]
 reduced_after xs ys n (Err x) r above a e = subst IsReduced (sym e) r
 
-pub grows_adds : (xs ys : List Node) (n : Node) (id : ℕ) → Adds xs n ys id → Grows xs ys
+pub grows_adds : (xs ys : List Node) (n : Node) (id : ℕ) → AddsNode xs n ys id → GrowsTable xs ys
 grows_adds xs ys n id a = elim (a.how) [
-  | inl same ↦ subst (Grows xs) (sym same) (record { longer = omega arith; same = λ i h. refl })
-  | inr p ↦ subst (Grows xs) (sym p.0) (record { longer = omega (arith, length_pushed xs n); same = λ i h. at_old xs n i h })
+  | inl same ↦ subst (GrowsTable xs) (sym same) (record { longer = omega arith; same = λ i h. refl })
+  | inr p ↦ subst (GrowsTable xs) (sym p.0) (record { longer = omega (arith, length_pushed xs n); same = λ i h. at_old xs n i h })
 ]
 
-pub kept_after : {E : Type 0} (xs ys : List Node) (n : Node) (r : Result ℕ E) → IsReduced xs → IfOk r (Adds xs n ys) → OnErr r (ys ≡ xs) → Keeps xs ys
+pub kept_after : {E : Type 0} (xs ys : List Node) (n : Node) (r : Result ℕ E) → IsReduced xs → IfOk r (AddsNode xs n ys) → OnErr r (ys ≡ xs) → Keeps xs ys
 kept_after xs ys n (Ok id) r a e = keeps_grown xs ys r (grows_adds xs ys n id a)
 kept_after xs ys n (Err x) r a e = subst (Keeps xs) (sym e) (record { known = omega arith; meaning = λ id b h. refl })
 
-pub meaning_after : {E : Type 0} (xs ys : List Node) (level lo hi : ℕ) (r : Result ℕ E) → IsReduced ys → IfOk r (Adds xs (node_of level lo hi) ys)
+pub meaning_after : {E : Type 0} (xs ys : List Node) (level lo hi : ℕ) (r : Result ℕ E) → IsReduced ys → IfOk r (AddsNode xs (node_of level lo hi) ys)
     → IfOk r (λ id. (b : Bits) → means ys id b ≡ cond (b level) (means ys hi b) (means ys lo b))
 meaning_after xs ys level lo hi (Ok id) r a = node_meaning ys r level lo hi id a.known a.is
 meaning_after xs ys level lo hi (Err x) r a = tt

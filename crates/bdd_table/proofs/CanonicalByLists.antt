@@ -1,7 +1,7 @@
 -- Ids that agree on all lists of bits are equal.
 use Rattle.std.proofs.Common.{◌≡◌, ℕ, zero, suc, ◌<◌, ◌≤◌, ◌==◌, ◌↔◌, Bool, true, false, cond, inl, inr, List, [], ◌∷◌, length, refl, sym, ◌∙◌, ap, arith, get_or, eqb-true, eq-eqb}
 use Rattle.bdd_table.specs.declared.node.Node.{Node}
-use Rattle.bdd_table.specs.Diagram.{Bits, at, level_of, chosen, leads, means, IsReduced, bits_of}
+use Rattle.bdd_table.specs.Diagram.{Bits, at, level_of, chosen, leads, means, IsReduced, as_bits}
 use Rattle.bdd_table.proofs.Meaning.{split, leads_constant, chosen_known}
 use Rattle.bdd_table.proofs.Canonical.{canonical, level_bound}
 
@@ -33,11 +33,11 @@ module _ (xs : List Node) (r : IsReduced xs) (n : ℕ) (all : 4294967295 ≤ n) 
   unfolding means
   means_levels b c id h agree = leads_agree id b c id h agree
 
-  means_listed : (b : Bits) (id : ℕ) → id < length xs → means xs id b ≡ means xs id (bits_of (tabulate n b))
+  means_listed : (b : Bits) (id : ℕ) → id < length xs → means xs id b ≡ means xs id (as_bits (tabulate n b))
   unfolding means
-  means_listed b id h = leads_agree id b (bits_of (tabulate n b)) id h (λ l k. sym (get_tabulate n b l k))
+  means_listed b id h = leads_agree id b (as_bits (tabulate n b)) id h (λ l k. sym (get_tabulate n b l k))
 
-  pub canonical_by : (f g : ℕ) → f < length xs → g < length xs → ((bits : List Bool) → means xs f (bits_of bits) ≡ means xs g (bits_of bits)) → f ≡ g
+  pub canonical_by : (f g : ℕ) → f < length xs → g < length xs → ((bits : List Bool) → means xs f (as_bits bits) ≡ means xs g (as_bits bits)) → f ≡ g
   canonical_by f g kf kg same = canonical xs r f g kf kg (λ b. means_listed b f kf ∙ same (tabulate n b) ∙ sym (means_listed b g kg))
 
 -- bits of the levels above the constants decide
@@ -46,9 +46,9 @@ pub means_agree : (xs : List Node) → IsReduced xs → (id : ℕ) → id < leng
 means_agree xs r id h b c agree = means_levels xs r 4294967295 (omega arith) b c id h agree
 
 pub canonical_lists : (xs : List Node) → IsReduced xs → (f g : ℕ) → f < length xs → g < length xs
-    → ((bits : List Bool) → means xs f (bits_of bits) ≡ means xs g (bits_of bits)) → f ≡ g
+    → ((bits : List Bool) → means xs f (as_bits bits) ≡ means xs g (as_bits bits)) → f ≡ g
 canonical_lists xs r f g kf kg same = canonical_by xs r 4294967295 (omega arith) f g kf kg same
 
 pub same_by_lists : (xs : List Node) → IsReduced xs → (f g : ℕ) → f < length xs → g < length xs → ((f == g) ≡ true)
-    ↔ ((values : List Bool) → means xs f (bits_of values) ≡ means xs g (bits_of values))
-same_by_lists xs r f g kf kg = (λ e values. ap (λ i. means xs i (bits_of values)) (eqb-true f g e), λ h. eq-eqb f g (canonical_lists xs r f g kf kg h))
+    ↔ ((values : List Bool) → means xs f (as_bits values) ≡ means xs g (as_bits values))
+same_by_lists xs r f g kf kg = (λ e values. ap (λ i. means xs i (as_bits values)) (eqb-true f g e), λ h. eq-eqb f g (canonical_lists xs r f g kf kg h))

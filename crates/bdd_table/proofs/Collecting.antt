@@ -3,7 +3,7 @@ use Rattle.std.proofs.Common.{◌≡◌, ℕ, ◌+◌, ◌<◌, ◌≤◌, ◌||
 use Rattle.std.proofs.lemmas.Grind.{get_or_default_zero}
 use Rattle.bdd_table.specs.declared.node.Node.{Node}
 use Rattle.bdd_table.specs.Diagram.{at, means, IsReduced}
-use Rattle.bdd_table.specs.Collected.{MarkedFrom, is_marked, is_kept, Reaches, AreReached, IsMoved, IsClosed, AreMoved}
+use Rattle.bdd_table.specs.Collected.{MarkedFrom, is_marked_id, is_kept, Reaches, AreReached, IsMoved, IsClosed, AreMoved}
 use Rattle.bdd_table.specs.Collected.Reaches.{root, lo, hi}
 use Rattle.bdd_table.proofs.Canonical.{canonical, inner_of_level, level_bound, order}
 use Rattle.bdd_table.proofs.Adding.{lo_known, hi_known}
@@ -22,8 +22,8 @@ closed_marks old roots marks m = record {
   hi_kept = λ id two known kept. or_right (nat_lt (at old id).hi 2) _ (m.hi_marked id two two known (marked id two kept));
 }
   where
-    marked : (id : ℕ) → 2 ≤ id → is_kept marks id ≡ true → is_marked marks id ≡ true
-    marked id two k = (elim (nat_lt id 2) as (λ t. nat_lt id 2 ≡ t → (t || is_marked marks id) ≡ true → is_marked marks id ≡ true) [
+    marked : (id : ℕ) → 2 ≤ id → is_kept marks id ≡ true → is_marked_id marks id ≡ true
+    marked id two k = (elim (nat_lt id 2) as (λ t. nat_lt id 2 ≡ t → (t || is_marked_id marks id) ≡ true → is_marked_id marks id ≡ true) [
       | true ↦ λ t m. let low = ltb-true id 2 t in absurd (omega arith)
       | false ↦ λ t m. m
     ]) refl k

@@ -2,7 +2,7 @@
 use Rattle.std.proofs.Common.{◌≡◌, ℕ, ◌<◌, ◌≤◌, Bool, true, false, cond, inl, inr, List, length, refl, sym, ◌∙◌, ap, arith}
 use Rattle.std.proofs.lemmas.Bool.{eq-eqb, ne_eqb}
 use Rattle.bdd_table.specs.declared.node.Node.{Node}
-use Rattle.bdd_table.specs.Diagram.{node_of, at, level_of, put, IsReduced, Grows, Keeps}
+use Rattle.bdd_table.specs.Diagram.{node_of, at, level_of, put, IsReduced, GrowsTable, Keeps}
 use Rattle.bdd_table.proofs.Meaning.{split}
 use Rattle.bdd_table.proofs.Canonical.{half, half_known, means_put, canonical, order, level_bound}
 
@@ -59,7 +59,7 @@ module _ (old new : List Node) (ro : IsReduced old) (rn : IsReduced new) (k : Ke
       ]
 
   -- each Id that was known has the same node
-  pub kept_grows : Grows old new
+  pub kept_grows : GrowsTable old new
   kept_grows = record {
     longer = k.known;
     same = λ id known. elim (split id) [

@@ -1,7 +1,7 @@
 -- Laws of `means` over lists of nodes.
 use Rattle.std.proofs.Common.{◌≡◌, ℕ, zero, suc, ◌<◌, ◌≤◌, ◌==◌, Bool, true, false, cond, ◌⊎◌, inl, inr, List, length, refl, sym, ◌∙◌, ap, arith}
 use Rattle.bdd_table.specs.declared.node.Node.{Node}
-use Rattle.bdd_table.specs.Diagram.{Bits, at, level_of, chosen, leads, means, IsReduced, Grows, Keeps}
+use Rattle.bdd_table.specs.Diagram.{Bits, at, level_of, chosen, leads, means, IsReduced, GrowsTable, Keeps}
 
 -- an Id is a constant or an inner node
 pub split : (id : ℕ) → (id ≡ 0) ⊎ (id ≡ 1) ⊎ (2 ≤ id)
@@ -98,19 +98,19 @@ module _ (xs : List Node) (r : IsReduced xs) where
   means_later b c id h agree = leads_later id b c id h agree
 
   -- what was known before means the same
-  leads_grown : (ys : List Node) → Grows xs ys → (k : ℕ) (b : Bits) (id : ℕ) → id < length xs → leads k ys b id ≡ leads k xs b id
+  leads_grown : (ys : List Node) → GrowsTable xs ys → (k : ℕ) (b : Bits) (id : ℕ) → id < length xs → leads k ys b id ≡ leads k xs b id
   unfolding leads
   leads_grown ys g zero b id h = refl
   leads_grown ys g (suc k) b id h =
       let same : chosen ys b id ≡ chosen xs b id = ap (λ (n : Node). cond (b n.level) n.hi n.lo) (g.same id h) in
       ap (leads k ys b) same ∙ leads_grown ys g k b (chosen xs b id) (chosen_known b id h)
 
-  pub means_grown : (ys : List Node) → Grows xs ys → (b : Bits) (id : ℕ) → id < length xs → means ys id b ≡ means xs id b
+  pub means_grown : (ys : List Node) → GrowsTable xs ys → (b : Bits) (id : ℕ) → id < length xs → means ys id b ≡ means xs id b
   unfolding means
   means_grown ys g b id h = leads_grown ys g id b id h
 
-pub level_grown : (xs ys : List Node) → Grows xs ys → (id : ℕ) → id < length xs → level_of ys id ≡ level_of xs id
+pub level_grown : (xs ys : List Node) → GrowsTable xs ys → (id : ℕ) → id < length xs → level_of ys id ≡ level_of xs id
 level_grown xs ys g id h = ap (λ (n : Node). n.level) (g.same id h)
 
-pub keeps_grown : (xs ys : List Node) → IsReduced xs → Grows xs ys → Keeps xs ys
+pub keeps_grown : (xs ys : List Node) → IsReduced xs → GrowsTable xs ys → Keeps xs ys
 keeps_grown xs ys r g = record { known = g.longer; meaning = λ id b h. means_grown xs r ys g b id h }

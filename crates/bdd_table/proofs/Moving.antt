@@ -2,8 +2,8 @@
 use Rattle.std.proofs.Common.{◌≡◌, ◌≢◌, ℕ, ◌+◌, ◌<◌, ◌≤◌, ◌||◌, Bool, true, false, cond, inl, inr, List, [], ◌∷◌, ◌++◌, length, Result, Ok, Err, IfOk, refl, sym, ◌∙◌, ap, subst, arith, get_or-append-add, length-append, nat_lt, slice_index, ltb-true}
 use Rattle.std.proofs.lemmas.List.{get_or_append_left}
 use Rattle.bdd_table.specs.declared.node.Node.{Node}
-use Rattle.bdd_table.specs.Diagram.{Bits, node_of, at, level_of, means, IsReduced, Grows, Adds}
-use Rattle.bdd_table.specs.Collected.{IsMoved, IsPlaced, AreMoved, IsClosed, is_marked, is_kept}
+use Rattle.bdd_table.specs.Diagram.{Bits, node_of, at, level_of, means, IsReduced, GrowsTable, AddsNode}
+use Rattle.bdd_table.specs.Collected.{IsMoved, IsPlaced, AreMoved, IsClosed, is_marked_id, is_kept}
 use Rattle.bdd_table.proofs.Meaning.{split, means_chosen, means_grown, means_false, means_true}
 use Rattle.bdd_table.proofs.Canonical.{canonical, constant_level, order}
 use Rattle.bdd_table.proofs.Adding.{grows_adds, node_meaning, length_pushed}
@@ -21,7 +21,7 @@ pub placed_node : {E : Type 0} {old before new : List Node} (places : List ℕ) 
     (r : Result ℕ E)
     → IsReduced old → IsReduced before → IsReduced new → 2 ≤ id → id < length old
     → HasPlaces old before places id lo hi level
-    → IfOk r (λ place. lo ≢ hi → Adds before (node_of level lo hi) new place) → IfOk r (IsPlaced old before new places id)
+    → IfOk r (λ place. lo ≢ hi → AddsNode before (node_of level lo hi) new place) → IfOk r (IsPlaced old before new places id)
 placed_node places id (Err e) ro rb rn two known has added = tt
 placed_node {E} {old} {before} {new} places id {lo} {hi} {level} (Ok place) ro rb rn two known has added = record {
   moved = record { known = a.known; level = ap (λ (m : Node). m.level) a.is ∙ has.level_is; meaning = meaning };
@@ -38,10 +38,10 @@ placed_node {E} {old} {before} {new} places id {lo} {hi} {level} (Ok place) ro r
         (λ b. sym (has.lo_moved.meaning b) ∙ ap (λ k. means before k b) (sym has.lo_is ∙ e ∙ has.hi_is)
         ∙ has.hi_moved.meaning b))
 
-    a : Adds before (node_of level lo hi) new place
+    a : AddsNode before (node_of level lo hi) new place
     a = added differ
 
-    grows : Grows before new
+    grows : GrowsTable before new
     grows = grows_adds before new (node_of level lo hi) place a
 
     lo_meaning : (b : Bits) → means new lo b ≡ means old (at old id).lo b
@@ -63,7 +63,8 @@ placed_node {E} {old} {before} {new} places id {lo} {hi} {level} (Ok place) ro r
         ∙ (λ k. cond (b (has.level_is k)) (hi_meaning b k) (lo_meaning b k))
         ∙ out b (b (level_of old id)) ∙ sym (means_chosen old ro b id known)
 
-pub moved_grown : (old before new : List Node) → IsReduced before → Grows before new → (id place : ℕ) → IsMoved old before id place → IsMoved old new id place
+pub moved_grown : (old before new : List Node) → IsReduced before → GrowsTable before new → (id place : ℕ)
+    → IsMoved old before id place → IsMoved old new id place
 moved_grown old before new r g id place m = record {
   known = omega (arith, m.known, g.longer);
   level = ap (λ (n : Node). n.level) (g.same place m.known) ∙ m.level;
@@ -125,9 +126,9 @@ start_moved old new marks places ro rn en e = record {
 
 module _ (old before new : List Node) (marks : List Bool) (places after : List ℕ) (n place : ℕ) (ro : IsReduced old)
     (in_range : n < length old) (was : AreMoved old marks before places n)
-    (g : Grows before new) (rn : IsReduced new)
-    (e : after ≡ places ++ place ∷ []) (two : 2 ≤ n) (here : is_marked marks n ≡ true → IsPlaced old before new places
-    n place) (none : is_marked marks n ≡ false → new ≡ before) where
+    (g : GrowsTable before new) (rn : IsReduced new)
+    (e : after ≡ places ++ place ∷ []) (two : 2 ≤ n) (here : is_marked_id marks n ≡ true → IsPlaced old before new places
+    n place) (none : is_marked_id marks n ≡ false → new ≡ before) where
   last : slice_index after n ≡ place
   last = let c : length places + 0 ≡ n = omega (arith, was.count) in
       ap (λ l. slice_index l n) e ∙ ap (slice_index (places ++ place ∷ [])) (sym c) ∙ get_or-append-add places (place ∷ []) 0 0
@@ -135,8 +136,8 @@ module _ (old before new : List Node) (marks : List Bool) (places after : List �
   stays : (id : ℕ) → id < n → slice_index after id ≡ slice_index places id
   stays id h = ap (λ l. slice_index l id) e ∙ get_or_append_left places (place ∷ []) 0 id (omega (arith, was.count))
 
-  marked : is_kept marks n ≡ true → is_marked marks n ≡ true
-  marked k = (elim (nat_lt n 2) as (λ t. nat_lt n 2 ≡ t → (t || is_marked marks n) ≡ true → is_marked marks n ≡ true) [
+  marked : is_kept marks n ≡ true → is_marked_id marks n ≡ true
+  marked k = (elim (nat_lt n 2) as (λ t. nat_lt n 2 ≡ t → (t || is_marked_id marks n) ≡ true → is_marked_id marks n ≡ true) [
     | true ↦ λ t m. let low = ltb-true n 2 t in absurd (omega arith)
     | false ↦ λ t m. m
   ]) refl k
@@ -163,27 +164,27 @@ module _ (old before new : List Node) (marks : List Bool) (places after : List �
   old_hi id h kept = ap (λ p. (at new p).hi) (stays id h) ∙ ap (λ (m : Node). m.hi) (g.same (slice_index places id) (was.moved id h kept).known)
       ∙ was.hi_moved id h kept ∙ sym (stays (at old id).hi (omega (arith, h, child_hi id (omega (arith, h, in_range)))))
 
-  new_lo : is_marked marks n ≡ true → (at new (slice_index after n)).lo ≡ slice_index after (at old n).lo
+  new_lo : is_marked_id marks n ≡ true → (at new (slice_index after n)).lo ≡ slice_index after (at old n).lo
   new_lo m = ap (λ p. (at new p).lo) last ∙ ap (λ (k : Node). k.lo) (here m).is
       ∙ sym (stays (at old n).lo (let i = ro.inner n two in_range in i.lo_before))
 
-  new_hi : is_marked marks n ≡ true → (at new (slice_index after n)).hi ≡ slice_index after (at old n).hi
+  new_hi : is_marked_id marks n ≡ true → (at new (slice_index after n)).hi ≡ slice_index after (at old n).hi
   new_hi m = ap (λ p. (at new p).hi) last ∙ ap (λ (k : Node). k.hi) (here m).is
       ∙ sym (stays (at old n).hi (let i = ro.inner n two in_range in i.hi_before))
 
-  new_only : (p : ℕ) → 2 ≤ p → p < length new → (id : ℕ) × (2 ≤ id) × (id < n + 1) × (is_marked marks id ≡ true) × (slice_index after id ≡ p)
+  new_only : (p : ℕ) → 2 ≤ p → p < length new → (id : ℕ) × (2 ≤ id) × (id < n + 1) × (is_marked_id marks id ≡ true) × (slice_index after id ≡ p)
   new_only p inner h = elim (order p (length before)) [
     | inl a ↦ older a
     | inr (inl a) ↦ newer (omega arith)
     | inr (inr a) ↦ newer (omega arith)
   ]
     where
-      older : p < length before → (id : ℕ) × (2 ≤ id) × (id < n + 1) × (is_marked marks id ≡ true) × (slice_index after id ≡ p)
+      older : p < length before → (id : ℕ) × (2 ≤ id) × (id < n + 1) × (is_marked_id marks id ≡ true) × (slice_index after id ≡ p)
       older a = let w = was.only p inner a in (w.0, w.1, omega (arith, w.2), w.3, stays w.0 w.2 ∙ w.4)
 
-      newer : length before ≤ p → (id : ℕ) × (2 ≤ id) × (id < n + 1) × (is_marked marks id ≡ true) × (slice_index after id ≡ p)
-      newer a = (elim (is_marked marks n) as (λ t. is_marked marks n ≡ t → (id : ℕ) × (2 ≤ id) × (id < n + 1)
-          × (is_marked marks id ≡ true) × (slice_index after id ≡ p)) [
+      newer : length before ≤ p → (id : ℕ) × (2 ≤ id) × (id < n + 1) × (is_marked_id marks id ≡ true) × (slice_index after id ≡ p)
+      newer a = (elim (is_marked_id marks n) as (λ t. is_marked_id marks n ≡ t → (id : ℕ) × (2 ≤ id) × (id < n + 1)
+          × (is_marked_id marks id ≡ true) × (slice_index after id ≡ p)) [
             | true ↦ λ m. (n, two, omega arith, m, last ∙ sym ((here m).only p a h))
             | false ↦ λ m. absurd (omega (arith, a, h, ap (λ (l : List Node). length l) (none m)))
           ]) refl
@@ -216,21 +217,21 @@ module _ (old before new : List Node) (marks : List Bool) (places after : List �
 
 -- the children of a marked node have their places
 pub lo_placed : (old before : List Node) (marks : List Bool) (places : List ℕ) (n : ℕ) → IsReduced old
-    → IsClosed old marks → 2 ≤ n → n < length old → AreMoved old marks before places n → is_marked marks n ≡ true
+    → IsClosed old marks → 2 ≤ n → n < length old → AreMoved old marks before places n → is_marked_id marks n ≡ true
     → IsMoved old before (at old n).lo (slice_index places (at old n).lo)
 lo_placed old before marks places n ro closed two known was m = let i = ro.inner n two known in
     was.moved (at old n).lo i.lo_before (closed.lo_kept n two known (kept_marked (nat_lt n 2) m))
   where
-    kept_marked : (a : Bool) → is_marked marks n ≡ true → (a || is_marked marks n) ≡ true
+    kept_marked : (a : Bool) → is_marked_id marks n ≡ true → (a || is_marked_id marks n) ≡ true
     kept_marked true e = refl
     kept_marked false e = e
 
 pub hi_placed : (old before : List Node) (marks : List Bool) (places : List ℕ) (n : ℕ) → IsReduced old
-    → IsClosed old marks → 2 ≤ n → n < length old → AreMoved old marks before places n → is_marked marks n ≡ true
+    → IsClosed old marks → 2 ≤ n → n < length old → AreMoved old marks before places n → is_marked_id marks n ≡ true
     → IsMoved old before (at old n).hi (slice_index places (at old n).hi)
 hi_placed old before marks places n ro closed two known was m = let i = ro.inner n two known in
     was.moved (at old n).hi i.hi_before (closed.hi_kept n two known (kept_marked (nat_lt n 2) m))
   where
-    kept_marked : (a : Bool) → is_marked marks n ≡ true → (a || is_marked marks n) ≡ true
+    kept_marked : (a : Bool) → is_marked_id marks n ≡ true → (a || is_marked_id marks n) ≡ true
     kept_marked true e = refl
     kept_marked false e = e

@@ -22,20 +22,20 @@ pub record IsMoved (old new : List Node) (id place : ℕ) : Type 0 where
   pub meaning : (b : Bits) → means new place b ≡ means old id b
 
 -- whether an Id is marked
-abbrev pub is_marked : List Bool → ℕ → Bool
-is_marked marks id = slice_index_or marks id false
+abbrev pub is_marked_id : List Bool → ℕ → Bool
+is_marked_id marks id = slice_index_or marks id false
 
 -- Whether an Id is kept: a constant, or one that is marked.
 abbrev pub is_kept : List Bool → ℕ → Bool
-is_kept marks id = nat_lt id 2 || is_marked marks id
+is_kept marks id = nat_lt id 2 || is_marked_id marks id
 
 -- the roots are marked, and the children of each marked node from an Id on; all that is marked is reached
 pub record MarkedFrom (nodes : List Node) (roots : List ℕ) (marks : List Bool) (from : ℕ) : Type 0 where
   pub as_long : length marks ≡ length nodes
-  pub roots_marked : (i : ℕ) → i < length roots → is_marked marks (slice_index roots i) ≡ true
-  pub lo_marked : (id : ℕ) → from ≤ id → 2 ≤ id → id < length nodes → is_marked marks id ≡ true → is_marked marks (at nodes id).lo ≡ true
-  pub hi_marked : (id : ℕ) → from ≤ id → 2 ≤ id → id < length nodes → is_marked marks id ≡ true → is_marked marks (at nodes id).hi ≡ true
-  pub only : (id : ℕ) → is_marked marks id ≡ true → Reaches nodes roots id
+  pub roots_marked : (i : ℕ) → i < length roots → is_marked_id marks (slice_index roots i) ≡ true
+  pub lo_marked : (id : ℕ) → from ≤ id → 2 ≤ id → id < length nodes → is_marked_id marks id ≡ true → is_marked_id marks (at nodes id).lo ≡ true
+  pub hi_marked : (id : ℕ) → from ≤ id → 2 ≤ id → id < length nodes → is_marked_id marks id ≡ true → is_marked_id marks (at nodes id).hi ≡ true
+  pub only : (id : ℕ) → is_marked_id marks id ≡ true → Reaches nodes roots id
 
 -- the children of a kept node are kept
 pub record IsClosed (nodes : List Node) (marks : List Bool) : Type 0 where
@@ -56,4 +56,4 @@ pub record AreMoved (old : List Node) (marks : List Bool) (new : List Node) (pla
   pub moved : (id : ℕ) → id < n → is_kept marks id ≡ true → IsMoved old new id (slice_index places id)
   pub lo_moved : (id : ℕ) → id < n → is_kept marks id ≡ true → (at new (slice_index places id)).lo ≡ slice_index places (at old id).lo
   pub hi_moved : (id : ℕ) → id < n → is_kept marks id ≡ true → (at new (slice_index places id)).hi ≡ slice_index places (at old id).hi
-  pub only : (place : ℕ) → 2 ≤ place → place < length new → (id : ℕ) × (2 ≤ id) × (id < n) × (is_marked marks id ≡ true) × (slice_index places id ≡ place)
+  pub only : (place : ℕ) → 2 ≤ place → place < length new → (id : ℕ) × (2 ≤ id) × (id < n) × (is_marked_id marks id ≡ true) × (slice_index places id ≡ place)

@@ -7,8 +7,8 @@ abbrev pub Bits : Type 0
 Bits = ℕ → Bool
 
 -- a list as bits: a level past its end counts as false
-abbrev pub bits_of : List Bool → Bits
-bits_of values = λ level. slice_index_or values level Bool.false
+abbrev pub as_bits : List Bool → Bits
+as_bits values = λ level. slice_index_or values level Bool.false
 
 -- the node of this level with these children
 abbrev pub node_of : ℕ → ℕ → ℕ → Node
@@ -56,7 +56,7 @@ pub record IsReduced (nodes : List Node) : Type 0 where
   pub unique : (i j : ℕ) → i < length nodes → j < length nodes → at nodes i ≡ at nodes j → i ≡ j
 
 -- each Id that was known has the same node
-pub record Grows (old new : List Node) : Type 0 where
+pub record GrowsTable (old new : List Node) : Type 0 where
   pub longer : length old ≤ length new
   pub same : (id : ℕ) → id < length old → at new id ≡ at old id
 
@@ -66,7 +66,7 @@ pub record Keeps (old new : List Node) : Type 0 where
   pub meaning : (id : ℕ) (b : Bits) → id < length old → means new id b ≡ means old id b
 
 -- the node has the Id: it was there, or it wasn't, and is now the last
-pub record Adds (old : List Node) (node : Node) (new : List Node) (id : ℕ) : Type 0 where
+pub record AddsNode (old : List Node) (node : Node) (new : List Node) (id : ℕ) : Type 0 where
   pub known : id < length new
   pub is : at new id ≡ node
   pub how : (new ≡ old) ⊎ ((new ≡ old ++ node ∷ []) × (id ≡ length old) × ((i : ℕ) → i < length old → at old i ≢ node))

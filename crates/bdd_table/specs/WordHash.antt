@@ -11,8 +11,8 @@ unfoldable pub folded_multiply : ℕ → ℕ → ℕ
 folded_multiply a b = bit_xor (bit_and (a * b) (2 ^ 64 - 1)) (a * b / 2 ^ 64)
 
 -- the state after a word
-unfoldable pub mixed : ℕ → ℕ → ℕ
-mixed state word = folded_multiply (bit_xor state word) 0x9e37_79b9_7f4a_7c15
+unfoldable pub mixed_word : ℕ → ℕ → ℕ
+mixed_word state word = folded_multiply (bit_xor state word) 0x9e37_79b9_7f4a_7c15
 
 -- the word that these bytes are, the lowest first; 0 where they are not eight
 unfoldable pub word_of : List ℕ → ℕ
@@ -20,7 +20,7 @@ word_of bytes = if length bytes == 8 then from_le_bytes w64 bytes else 0
 
 -- the state after `write(bytes)`
 unfoldable pub write : WordHasher → List ℕ → WordHasher
-write hasher bytes = record { state = mixed hasher.state (word_of bytes) }
+write hasher bytes = record { state = mixed_word hasher.state (word_of bytes) }
 
 -- what `finish` returns
 abbrev pub finish : WordHasher → ℕ

@@ -36,7 +36,7 @@ fn folded_multiply(a: u64, b: u64) -> u64
 
 /// The state after a word.
 fn mixed(state: u64, word: u64) -> u64
-    ensures { result ≡ word_hash.mixed state word }
+    ensures { result ≡ word_hash.mixed_word state word }
 {
     folded_multiply(state ^ word, MULTIPLIER)
 }

@@ -2,7 +2,7 @@
 
 ghost use Rattle.std.specs.Prelude.{◌≡◌, ℕ, ◌+◌, ◌<◌, ◌≤◌, ◌⊎◌, true, length, IfOk, slice_index, EachIndex};
 ghost use Rattle.bdd_table.specs.Diagram.{at};
-ghost use Rattle.bdd_table.specs.Collected.{MarkedFrom, is_marked};
+ghost use Rattle.bdd_table.specs.Collected.{MarkedFrom, is_marked_id};
 
 use crate::table::{Id, Table, TableFault};
 use std::alloc::Global;
@@ -13,12 +13,12 @@ fn mark_children(table: &Table, marks: &mut Vec<bool>, id: Id)
     requires known { id < length table.now }
     requires as_long { length marks.old.items ≡ length table.now }
     ensures as_long { length marks.new.items ≡ length marks.old.items }
-    ensures kept { (k : ℕ) → is_marked marks.old.items k ≡ true → is_marked marks.new.items k ≡ true }
-    ensures later { (k : ℕ) → id ≤ k → is_marked marks.new.items k ≡ is_marked marks.old.items k }
-    ensures lo { is_marked marks.old.items id ≡ true → is_marked marks.new.items (at table.now id).lo ≡ true }
-    ensures hi { is_marked marks.old.items id ≡ true → is_marked marks.new.items (at table.now id).hi ≡ true }
-    ensures only { (k : ℕ) → is_marked marks.new.items k ≡ true → (is_marked marks.old.items k ≡ true)
-        ⊎ ((is_marked marks.old.items id ≡ true) × ((k ≡ (at table.now id).lo) ⊎ (k ≡ (at table.now id).hi))) }
+    ensures kept { (k : ℕ) → is_marked_id marks.old.items k ≡ true → is_marked_id marks.new.items k ≡ true }
+    ensures later { (k : ℕ) → id ≤ k → is_marked_id marks.new.items k ≡ is_marked_id marks.old.items k }
+    ensures lo { is_marked_id marks.old.items id ≡ true → is_marked_id marks.new.items (at table.now id).lo ≡ true }
+    ensures hi { is_marked_id marks.old.items id ≡ true → is_marked_id marks.new.items (at table.now id).hi ≡ true }
+    ensures only { (k : ℕ) → is_marked_id marks.new.items k ≡ true → (is_marked_id marks.old.items k ≡ true)
+        ⊎ ((is_marked_id marks.old.items id ≡ true) × ((k ≡ (at table.now id).lo) ⊎ (k ≡ (at table.now id).hi))) }
 {
     if marks[id] {
         let lo = table.lo(id);

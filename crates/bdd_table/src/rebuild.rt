@@ -1,7 +1,7 @@
 //! A table with the kept nodes of another.
 
 ghost use Rattle.std.specs.Prelude.{◌≡◌, ℕ, ◌+◌, ◌<◌, ◌≤◌, true, false, length, IfOk, slice_index};
-ghost use Rattle.bdd_table.specs.Diagram.{at, IsReduced, Grows};
+ghost use Rattle.bdd_table.specs.Diagram.{at, IsReduced, GrowsTable};
 ghost use Rattle.bdd_table.specs.Collected.{IsMoved, IsPlaced, AreMoved, IsClosed};
 
 use crate::table::{Id, Table, TableFault};
@@ -16,7 +16,7 @@ fn add_moved(old: &Table, new: &mut Table, places: &[Id], id: Id) -> Result<Id, 
     requires hi { IsMoved old.now new.old (at old.now id).hi (slice_index places.now (at old.now id).hi) }
     requires reduced { IsReduced new.old }
     ensures placed { IfOk result (IsPlaced old.now new.old new.new places.now id) }
-    ensures grows { Grows new.old new.new }
+    ensures grows { GrowsTable new.old new.new }
     ensures reduced { IsReduced new.new }
 {
     let node = old.get(id);
@@ -43,7 +43,7 @@ fn place_of(
     requires reduced { IsReduced new.old }
     ensures placed { IfOk result (λ place. is_marked ≡ true → IsPlaced old.now new.old new.new places.now id place) }
     ensures none { IfOk result (λ _. is_marked ≡ false → new.new ≡ new.old) }
-    ensures grows { Grows new.old new.new }
+    ensures grows { GrowsTable new.old new.new }
     ensures reduced { IsReduced new.new }
 {
     if is_marked {

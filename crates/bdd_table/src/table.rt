@@ -1,7 +1,7 @@
 //! The unique table.
 
 ghost use Rattle.std.specs.Prelude.{◌≡◌, ◌≢◌, ℕ, ◌+◌, ◌^◌, ◌<◌, ◌≤◌, ◌↔◌, Bool, List, [], ◌∷◌, length, IsTrue, IfOk, OnOk, OnErr, EachIndex, slice_index, if◌then◌else◌};
-ghost use Rattle.bdd_table.specs.Diagram.{Bits, bits_of, bottom, node_of, at, level_of, means, IsReduced, Grows, Keeps, Adds};
+ghost use Rattle.bdd_table.specs.Diagram.{Bits, as_bits, bottom, node_of, at, level_of, means, IsReduced, GrowsTable, Keeps, AddsNode};
 ghost use Rattle.bdd_table.specs.Collected.{IsMoved, Reaches, AreReached};
 
 use crate::hashing::WordHasher;
@@ -129,7 +129,7 @@ impl Table {
         ensures ids { IsTrue result ↔ (f ≡ g) }
         ensures bits { IsTrue result ↔ ((b : Bits) → means self.now f b ≡ means self.now g b) }
         ensures lists { IsTrue result
-            ↔ ((values : List Bool) → means self.now f (bits_of values) ≡ means self.now g (bits_of values)) }
+            ↔ ((values : List Bool) → means self.now f (as_bits values) ≡ means self.now g (as_bits values)) }
     {
         let _ = &self.nodes;
         f == g
@@ -146,14 +146,14 @@ impl Table {
 
         // Either nothing was to be done, or the node has the Id and nothing else was added.
         ensures equal { IfOk result (λ id. lo ≡ hi → (id ≡ lo) × (self.new ≡ self.old)) }
-        ensures added { IfOk result (λ id. lo ≢ hi → Adds self.old (node_of level lo hi) self.new id) }
+        ensures added { IfOk result (λ id. lo ≢ hi → AddsNode self.old (node_of level lo hi) self.new id) }
 
         // What follows of the Id, and what stays.
         ensures known { IfOk result (λ id. id < length self.new) }
         ensures below { IfOk result (λ id. level ≤ level_of self.new id) }
         ensures meaning { IfOk result (λ id. (b : Bits) → means self.new id b
             ≡ (if b level then means self.new hi b else means self.new lo b)) }
-        ensures grows { Grows self.old self.new }
+        ensures grows { GrowsTable self.old self.new }
         ensures kept { Keeps self.old self.new }
         ensures reduced { IsReduced self.new }
         ensures err { OnErr result (self.new ≡ self.old) }
@@ -226,7 +226,7 @@ fn constant(id: u32) -> Node
 
 /// The place of the node, which goes last if it is new.
 fn add(nodes: &mut Nodes, node: Node) -> Result<Id, TableFault>
-    ensures ok { IfOk result (Adds nodes.old.keys node nodes.new.keys) }
+    ensures ok { IfOk result (AddsNode nodes.old.keys node nodes.new.keys) }
     ensures err { OnErr result (nodes.new.keys ≡ nodes.old.keys) }
 {
     let (id, _) = nodes.insert_full(node)?;

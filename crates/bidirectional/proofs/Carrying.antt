@@ -4,7 +4,7 @@ use Rattle.task_system.specs.System.{State, System}
 use Rattle.space_api.specs.View.{View, Valid, Has}
 use Rattle.space_api.specs.Frames.{Kept}
 use Rattle.run_graph.specs.Layering.{At, InLayer}
-use Rattle.cost_layers.specs.Layers.{rings_at, whole_at, Stands, Held}
+use Rattle.cost_layers.specs.Layers.{rings_at, union_at, Stands, Held}
 use Rattle.cost_layers.specs.declared.layers.Layers.{Layers}
 use Rattle.cost_layers.proofs.Holding.{layer_at, holds_kept}
 use Rattle.cost_search.proofs.Meeting.{stands_kept}
@@ -62,7 +62,7 @@ agree_into e = record {
 }
 
 pub held_now : {Set : Type 0} (v u : View Set) (l : Layers Set) → Held v l → Kept v u → Held u l
-held_now v u l held k = holds_kept v u (rings_at l) (whole_at l) k held
+held_now v u l held k = holds_kept v u (rings_at l) (union_at l) k held
 
 -- where sets are kept, from the earlier view to the later one and back
 module _ {Set : Type 0} {v u : View Set} {m : Meeting Set} (held : AreHeld v m) (k : Kept v u) where
@@ -88,6 +88,6 @@ pub set_kept : {Set : Type 0} {v u : View Set} (a : Set) → Kept v u → Valid 
 set_kept a k ok s = ((λ h. k.same a ok s ∙ h), (λ h. sym (k.same a ok s) ∙ h))
 
 -- the set of a backward layer
-pub layer_set : {Set : Type 0} {v : View Set} {m : Meeting Set} (z : ℕ) (whole : Set) → AreHeld v m → whole_at m.back.now z ≡ Some whole → (s : State)
+pub layer_set : {Set : Type 0} {v : View Set} {m : Meeting Set} (z : ℕ) (whole : Set) → AreHeld v m → union_at m.back.now z ≡ Some whole → (s : State)
     → Has v whole s ↔ InLayer (Stands v m.back.now) z s
-layer_set {Set} {v} {m} z whole held e s = let l = m.back.now in (layer_at v (rings_at l z) (whole_at l z) whole e (held.back.each z)).parts s
+layer_set {Set} {v} {m} z whole held e s = let l = m.back.now in (layer_at v (rings_at l z) (union_at l z) whole e (held.back.each z)).parts s

@@ -10,10 +10,10 @@ use Rattle.space_api.proofs.Trading.{trades_trans, trades_gives, gives_made, kep
 use Rattle.run_graph.specs.Graph.{seen_from}
 use Rattle.run_graph.specs.declared.Side.TheVariants.{Ahead}
 use Rattle.run_graph.specs.Layering.{At}
-use Rattle.cost_layers.specs.Layers.{Stands, rings_at, whole_at}
+use Rattle.cost_layers.specs.Layers.{Stands, rings_at, union_at}
 use Rattle.cost_layers.proofs.Holding.{layer_at}
-use Rattle.layer_steps.specs.Arcs.{AlongIn}
-use Rattle.layer_steps.specs.Gathered.{Joins}
+use Rattle.cost_layers.specs.Arcs.{AlongIn}
+use Rattle.cost_layers.specs.Gathered.{Joins}
 use Rattle.bidirectional.specs.Crossing.{AreHeld}
 use Rattle.bidirectional.specs.declared.crossing.Meeting.{Meeting}
 use Rattle.bidirectional.specs.Cutting.{CutsBy, Lands, LandsBy}
@@ -21,11 +21,11 @@ use Rattle.bidirectional.proofs.Carrying.{cuts_as, agree_kept, carries_on, carri
 
 -- from the one layer that the sum allows
 module _ {Set : Type 0} {v w : View Set} {m : Meeting Set} {landed r : Set} (to : Set) (cost z c : ℕ) (held : AreHeld v m) where
-  pub lands_layer : (x : ℕ) (whole : Set) → (x + c + z ≡ cost) × (m.b ≤ z + c) → whole_at m.front.now x ≡ Some whole
+  pub lands_layer : (x : ℕ) (whole : Set) → (x + c + z ≡ cost) × (m.b ≤ z + c) → union_at m.front.now x ≡ Some whole
       → Joins v w landed (AlongIn (seen_from Ahead v.system) v c whole to) r
       → Joins v w landed (LandsBy v.system (Stands v m.front.now) (Has v to) cost m.b z c) r
   lands_layer x whole sums is j =
-      let l = layer_at v (rings_at m.front.now x) (whole_at m.front.now x) whole is (held.front.each x) in
+      let l = layer_at v (rings_at m.front.now x) (union_at m.front.now x) whole is (held.front.each x) in
       record {
         trades = j.trades;
         means = λ s. (

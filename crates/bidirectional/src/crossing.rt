@@ -18,7 +18,7 @@ ghost use Rattle.task_system.specs.System.{State};
 ghost use Rattle.space_api.specs.View.{View, Valid, Has, CostPreimage};
 ghost use Rattle.space_api.specs.Frames.{Stays};
 ghost use Rattle.run_graph.specs.Layering.{InLayer};
-ghost use Rattle.cost_layers.specs.Layers.{whole_at, Held, Stands};
+ghost use Rattle.cost_layers.specs.Layers.{union_at, Held, Stands};
 ghost use Rattle.bidirectional.specs.Crossing.{AreHeld, MeetsBy, CrossAt, CrossBy, CrossIn, IsLeastOf, IsLeastWhole};
 
 use cost_search::cost_after;
@@ -26,8 +26,8 @@ use space_api::{Space, SpaceFault, meets};
 
 /// The first cost from this bound on that has a layer.
 pub(crate) fn cost_from<T: Copy>(layers: &Layers<T>, bound: u128) -> Option<u64>
-    ensures { MatchOption result ((c : ℕ) → bound ≤ c → c < 2 ^ 64 → whole_at layers.now c ≡ None)
-        (λ n. (bound ≤ n) × (n < 2 ^ 64) × ((c : ℕ) → bound ≤ c → c < n → whole_at layers.now c ≡ None)) }
+    ensures { MatchOption result ((c : ℕ) → bound ≤ c → c < 2 ^ 64 → union_at layers.now c ≡ None)
+        (λ n. (bound ≤ n) × (n < 2 ^ 64) × ((c : ℕ) → bound ≤ c → c < n → union_at layers.now c ≡ None)) }
 {
     if bound < (1u128 << 64) {
         layers.next_cost(bound as u64)

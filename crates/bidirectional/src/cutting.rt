@@ -26,9 +26,9 @@ ghost use Rattle.task_system.specs.System.{State};
 ghost use Rattle.space_api.specs.View.{View, Valid, Has, Preimage};
 ghost use Rattle.space_api.specs.Frames.{Stays};
 ghost use Rattle.run_graph.specs.Layering.{InLayer};
-ghost use Rattle.cost_layers.specs.Layers.{whole_at, Held, Stands};
+ghost use Rattle.cost_layers.specs.Layers.{union_at, Held, Stands};
 ghost use Rattle.bidirectional.specs.Crossing.{AreHeld};
-ghost use Rattle.bidirectional.specs.Cutting.{LeadsInto, CutsBy, IsFirstOp, HasEach, Begin, AreFirstCuts, cross_at};
+ghost use Rattle.bidirectional.specs.Cutting.{LeadsFromLayer, CutsBy, IsFirstOp, HasEach, Begin, AreFirstCuts, cross_at};
 
 use crate::crossing::{Meeting, cost_from, layer_meets};
 use crate::landing::landing;
@@ -70,7 +70,7 @@ fn layer_leads<S: Space>(
     requires to { Valid (S.view space.old) to }
     requires op { op < (S.view space.old).system.operators }
     ensures stays { Stays (S.view space.old) (S.view space.new) }
-    ensures ok { IfOk result (λ r. IsTrue r ↔ LeadsInto (S.view space.old).system
+    ensures ok { IfOk result (λ r. IsTrue r ↔ LeadsFromLayer (S.view space.old).system
         (Stands (S.view space.old) front.now) (Has (S.view space.old) to) x op) }
 {
     match front.layer(x) {

@@ -8,14 +8,14 @@ ghost use Rattle.space_api.specs.Owned.{Trades};
 ghost use Rattle.run_graph.specs.Graph.{seen_from};
 ghost use Rattle.run_graph.specs.declared.Side.TheVariants.{Ahead};
 ghost use Rattle.cost_layers.specs.Layers.{Stands};
-ghost use Rattle.layer_steps.specs.Arcs.{AlongIn};
-ghost use Rattle.layer_steps.specs.Gathered.{Joins};
+ghost use Rattle.cost_layers.specs.Arcs.{AlongIn};
+ghost use Rattle.cost_layers.specs.Gathered.{Joins};
 ghost use Rattle.bidirectional.specs.Crossing.{AreHeld};
 ghost use Rattle.bidirectional.specs.Cutting.{Lands, LandsBy};
 
 use crate::crossing::Meeting;
 use crate::cutting::cost_before;
-use layer_steps::unite_along;
+use cost_layers::unite_along;
 use run_graph::Side;
 use space_api::{Space, SpaceFault};
 

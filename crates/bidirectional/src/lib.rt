@@ -8,7 +8,7 @@
 //! tells that no operator leads out of its layers, the useful states are found inside them, once, and both searches
 //! are cut to these; so both end by themselves where the plans do. Sets that a call makes and doesn't keep are given
 //! back. After a fault both bounds and the right layers stand. It stands on `forward_search` and `backward_search`
-//! for the layers, on `useful_states` for the useful states, on `plan_cuts` for what a cut is, on `space_api` for
+//! for the layers, on `cost_layers` for the useful states, on `plan_cuts` for what a cut is, on `space_api` for
 //! sets, and on `task_system` for states.
 //!
 //! Symbolic search from both ends for all cheapest plans by cost, each plan read from one cut: Á. Torralba (2015);

@@ -6,14 +6,13 @@ ghost use Rattle.space_api.specs.View.{View, Valid, Has};
 ghost use Rattle.space_api.specs.Frames.{Stays};
 ghost use Rattle.run_graph.specs.Graph.{seen_from};
 ghost use Rattle.run_graph.specs.Layering.{InLayer};
-ghost use Rattle.layer_steps.specs.Arcs.{Escapes};
+ghost use Rattle.cost_layers.specs.Arcs.{Escapes};
 ghost use Rattle.cost_layers.specs.Layers.{Held, Stands};
 ghost use Rattle.plan_cuts.specs.Meeting.{SeesDearer};
 
 use crate::crossing::cost_from;
-use cost_layers::Layers;
+use cost_layers::{Layers, escapes};
 use cost_search::cost_after;
-use layer_steps::escapes;
 use run_graph::Side;
 use space_api::{Space, SpaceFault};
 

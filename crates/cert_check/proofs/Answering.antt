@@ -13,12 +13,12 @@ use Rattle.bdd_table.specs.declared.node.Node.{Node}
 use Rattle.bdd_table.specs.Diagram.{Bits, means, IsReduced, Keeps}
 use Rattle.bdd_table.proofs.Meaning.{means_false}
 use Rattle.var_order.specs.Layout.{Layout, IsOrderOf}
-use Rattle.bdd_sets.specs.Sets.{Has, IsOfState, IsSetOfStates}
+use Rattle.bdd_sets.specs.Sets.{HasCodedState, IsOfState, IsSetOfStates}
 use Rattle.axiom_layers.specs.Roots.{IsTrueWhere}
-use Rattle.transitions.specs.Relations.{Names, HasMember, IsSet, Relates, Successor, AreOver}
+use Rattle.transitions.specs.Relations.{Names, HoldsForState, IsSet, Relates, Successor, AreOver}
 use Rattle.transitions.proofs.Using.{set_alike, steps_of_relates}
 use Rattle.certificates.specs.Inductive.{Begins, ClosedBy}
-use Rattle.cert_check.specs.Judging.{LeavesBy, MeetsGoal, MissesGoal}
+use Rattle.cert_check.specs.Judging.{LeavesBy, MeetsGoal, HasNoGoalState}
 use Rattle.bdd_table.proofs.Witness.{is_zero, holds_for_some}
 use Rattle.cert_check.proofs.Judged.{member_alike, closed_alike, leaves_alike, meets_alike, misses_alike, leaves, closed, meets, misses, members_set, members_are, has_is, begins_at}
 
@@ -45,7 +45,7 @@ match_none r P Q e h = subst (λ (o : Option ℕ). MatchOption o P Q) e h
 
 -- an Id that was known has the same members
 pub kept_members : (o : Layout) (old new : List Node) (id : ℕ) → Keeps old new → id < length old → (s : List ℕ)
-    → HasMember o (means new id) s ↔ HasMember o (means old id) s
+    → HoldsForState o (means new id) s ↔ HoldsForState o (means old id) s
 kept_members o old new id k lt s = member_alike o (means new id) (means old id) s (λ b. sym (k.meaning id b lt))
 
 pub kept_set : (o : Layout) (old new : List Node) (id : ℕ) → Keeps old new → id < length old → IsSet o (means old id) → IsSet o (means new id)
@@ -70,20 +70,20 @@ module _ (task : TaskParts) (o : Layout) (fits : Fits task) (order : IsOrderOf t
     pub leads_says : (ops2 ops3 : List Node) (reached out : ℕ) → Keeps ops1 ops2 → IsReduced ops3
         → Names o (Successor o places (means ops1 root) (means ops1 members)) (means ops2 reached)
         → out < length ops3 → ((b : Bits) → means ops3 out b ≡ (means ops2 reached b && not (means ops2 members b)))
-        → MatchBool (not (eqb out 0)) (LeavesBy task (HasMember o (means ops0 members)) op) (ClosedBy task (HasMember o (means ops0 members)) op)
+        → MatchBool (not (eqb out 0)) (LeavesBy task (HoldsForState o (means ops0 members)) op) (ClosedBy task (HoldsForState o (means ops0 members)) op)
     leads_says ops2 ops3 reached out k2 reduced names there minus =
         let F = means ops1 members in
         let set1 : IsSet o F = kept_set o ops0 ops1 members k1 known set in
         let in1 = kept_known ops0 ops1 members k1 known in
         let less : (b : Bits) → means ops3 out b ≡ (means ops2 reached b && not (means ops1 members b)) = λ b. minus b
         ∙ ap (λ (t : Bool). means ops2 reached b && not t) (k2.meaning members b in1) in
-        let same : (s : List ℕ) → IsState task s → HasMember o (means ops1 members) s
-        ↔ HasMember o (means ops0 members) s = λ s state. kept_members o ops0 ops1 members k1 known s in
-        says_some ops3 reduced out there (LeavesBy task (HasMember o (means ops0 members)) op) (ClosedBy task (HasMember o (means ops0 members)) op)
-        (λ b h. leaves_alike task fits (HasMember o F) (HasMember o (means ops0 members)) same op
+        let same : (s : List ℕ) → IsState task s → HoldsForState o (means ops1 members) s
+        ↔ HoldsForState o (means ops0 members) s = λ s state. kept_members o ops0 ops1 members k1 known s in
+        says_some ops3 reduced out there (LeavesBy task (HoldsForState o (means ops0 members)) op) (ClosedBy task (HoldsForState o (means ops0 members)) op)
+        (λ b h. leaves_alike task fits (HoldsForState o F) (HoldsForState o (means ops0 members)) same op
         (leaves task o fits order op places (means ops1 root) F (means ops2 reached) (means ops3 out)
         relates set1 names less b h))
-        (λ none. closed_alike task fits (HasMember o F) (HasMember o (means ops0 members)) same op
+        (λ none. closed_alike task fits (HoldsForState o F) (HoldsForState o (means ops0 members)) same op
         (closed task o fits order op places (means ops1 root) F (means ops2 reached) (means ops3 out)
         relates set1 names less none))
 
@@ -92,23 +92,23 @@ module _ (task : TaskParts) (o : Layout) (fits : Fits task) (order : IsOrderOf t
       → IsSet o (means ops0 members) → Keeps ops0 ops1 → IsReduced ops2
       → IsTrueWhere task o ops1 (λ s. All (Holds task s) task.goal) goals → met < length ops2
       → ((b : Bits) → means ops2 met b ≡ (means ops1 members b && means ops1 goals b))
-      → MatchBool (not (eqb met 0)) (MeetsGoal task (HasMember o (means ops0 members))) (MissesGoal task (HasMember o (means ops0 members)))
+      → MatchBool (not (eqb met 0)) (MeetsGoal task (HoldsForState o (means ops0 members))) (HasNoGoalState task (HoldsForState o (means ops0 members)))
   goal_says {ops0} {ops1} {ops2} members goals met known set k1 reduced says there both =
       let F = means ops1 members in
       let set1 : IsSet o F = kept_set o ops0 ops1 members k1 known set in
-      let same : (s : List ℕ) → IsState task s → HasMember o (means ops1 members) s
-      ↔ HasMember o (means ops0 members) s = λ s state. kept_members o ops0 ops1 members k1 known s in
-      says_some ops2 reduced met there (MeetsGoal task (HasMember o (means ops0 members))) (MissesGoal task (HasMember o (means ops0 members)))
-      (λ b h. meets_alike task fits (HasMember o F) (HasMember o (means ops0 members)) same
+      let same : (s : List ℕ) → IsState task s → HoldsForState o (means ops1 members) s
+      ↔ HoldsForState o (means ops0 members) s = λ s state. kept_members o ops0 ops1 members k1 known s in
+      says_some ops2 reduced met there (MeetsGoal task (HoldsForState o (means ops0 members))) (HasNoGoalState task (HoldsForState o (means ops0 members)))
+      (λ b h. meets_alike task fits (HoldsForState o F) (HoldsForState o (means ops0 members)) same
       (meets task o fits order F (means ops1 goals) (means ops2 met) set1 says both b h))
-      (λ none. misses_alike task fits (HasMember o F) (HasMember o (means ops0 members)) same
+      (λ none. misses_alike task fits (HoldsForState o F) (HoldsForState o (means ops0 members)) same
       (misses task o fits order F (means ops1 goals) (means ops2 met) set1 says both none))
 
   -- The members of a set.
   pub record AreMembers (ops0 : List Node) (set : ℕ) (ops1 : List Node) (members : ℕ) : Type 0 where
     pub known : members < length ops1
     pub is_set : IsSet o (means ops1 members)
-    pub same : (s : List ℕ) → IsState task s → HasMember o (means ops0 set) s ↔ HasMember o (means ops1 members) s
+    pub same : (s : List ℕ) → IsState task s → HoldsForState o (means ops0 set) s ↔ HoldsForState o (means ops1 members) s
 
   pub members_made : {ops0 ops1 : List Node} (ops2 : List Node) (set valid members : ℕ) → set < length ops0
       → IsSetOfStates o ops0 set → Keeps ops0 ops1 → ((b : Bits) → (means ops1 valid b ≡ true) ↔ IsOfState o b)
@@ -124,14 +124,14 @@ module _ (task : TaskParts) (o : Layout) (fits : Fits task) (order : IsOrderOf t
 
   -- the initial state
   pub begins_has : (nodes : List Node) (set : ℕ) (start : List ℕ) (r : Bool) → IsInitial task start
-      → IsSetOfStates o nodes set → IsTrue r ↔ Has o nodes set start → r ≡ true
-      → Begins task (HasMember o (means nodes set))
-  begins_has nodes set start r i alone says e = begins_at task (HasMember o (means nodes set)) start i
+      → IsSetOfStates o nodes set → IsTrue r ↔ HasCodedState o nodes set start → r ≡ true
+      → Begins task (HoldsForState o (means nodes set))
+  begins_has nodes set start r i alone says e = begins_at task (HoldsForState o (means nodes set)) start i
       ((has_is task o fits order nodes set start i.state alone).0 (says.0 e))
 
   pub begins_not : (nodes : List Node) (set : ℕ) (start : List ℕ) (r : Bool) → IsInitial task start
-      → IsSetOfStates o nodes set → IsTrue r ↔ Has o nodes set start → r ≡ false → (s : List ℕ) × IsInitial task s
-      × (HasMember o (means nodes set) s → ⊥)
+      → IsSetOfStates o nodes set → IsTrue r ↔ HasCodedState o nodes set start → r ≡ false → (s : List ℕ) × IsInitial task s
+      × (HoldsForState o (means nodes set) s → ⊥)
   begins_not nodes set start r i alone says e = (
     start,
     i,

@@ -10,7 +10,7 @@ use Rattle.bdd_table.specs.Collected.{IsMoved}
 use Rattle.var_order.specs.Layout.{Layout}
 use Rattle.axiom_layers.specs.Roots.{AreRoots}
 use Rattle.axiom_layers.proofs.Raised.{roots_kept, roots_moved}
-use Rattle.transitions.specs.Relations.{IsSet, HasMember}
+use Rattle.transitions.specs.Relations.{IsSet, HoldsForState}
 use Rattle.transitions.proofs.Using.{set_alike}
 use Rattle.certificates.specs.Inductive.{ClosedBy}
 use Rattle.cert_check.specs.Carried.{AreCarried}
@@ -62,29 +62,29 @@ pub record AreWatched (task : TaskParts) (o : Layout) (start : List Node) (set :
   pub same : (b : Bits) → means now members b ≡ means start set b
   pub is_set : IsSet o (means now members)
   pub roots : AreRoots task o now derived
-  pub closed : (a : ℕ) → a < op → ClosedBy task (HasMember o (means start set)) a
+  pub closed : (a : ℕ) → a < op → ClosedBy task (HoldsForState o (means start set)) a
 
 module _ (task : TaskParts) (o : Layout) (fits : Fits task) (start : List Node) (set : ℕ) (now : List Node)
     (derived : List ℕ) (members op : ℕ) (watched : AreWatched task o start set now derived members op) where
   -- the operator leads to members from members alone
-  pub watched_more : (next : List Node) → Keeps now next → ClosedBy task (HasMember o (means now members)) op
+  pub watched_more : (next : List Node) → Keeps now next → ClosedBy task (HoldsForState o (means now members)) op
       → (new : List Node) (more : List ℕ) (place : ℕ) → AreCarried next derived members new more place → AreWatched task o start set new more place (op + 1)
   watched_more next kept closed new more place carried = record {
     known = carried.set.known;
     same = λ b. carried.set.meaning b ∙ kept.meaning members b watched.known ∙ watched.same b;
     is_set = set_alike o (means next members) (means new place) carried.set.meaning (kept_set o now next members kept watched.known watched.is_set);
     roots = roots_moved task o next new derived more (roots_kept task o now next derived kept watched.roots) carried.count carried.each;
-    closed = closed_more task (HasMember o (means start set)) op watched.closed
-        (closed_alike task fits (HasMember o (means now members)) (HasMember o (means start set))
+    closed = closed_more task (HoldsForState o (means start set)) op watched.closed
+        (closed_alike task fits (HoldsForState o (means now members)) (HoldsForState o (means start set))
         (λ s state. member_alike o (means now members) (means start set) s (λ b. sym (watched.same b))) op
         closed);
   }
 
   -- or it leads out of them
-  pub leaves_first : LeavesBy task (HasMember o (means now members)) op → FirstLeaves task (HasMember o (means start set)) op
+  pub leaves_first : LeavesBy task (HoldsForState o (means now members)) op → FirstLeaves task (HoldsForState o (means start set)) op
   leaves_first leaves = (
     watched.closed,
-    leaves_alike task fits (HasMember o (means now members)) (HasMember o (means start set))
+    leaves_alike task fits (HoldsForState o (means now members)) (HoldsForState o (means start set))
         (λ s state. member_alike o (means now members) (means start set) s (λ b. sym (watched.same b))) op leaves,
   )
 

@@ -1,4 +1,4 @@
--- The rows of a certificate are read exactly.
+-- The rows of a certificate are read exact_line.
 use Rattle.std.proofs.Common.{◌≡◌, ℕ, ◌+◌, ◌^◌, ◌<◌, ◌≤◌, Bool, true, false, cond, eqb, nat_lt, ◌||◌, List, ◌++◌, Option, Some, None, refl, ap, subst, ◌∙◌, arith, codes, decimal}
 use Rattle.std.proofs.lemmas.Option.{cond_some}
 use Rattle.std.proofs.lemmas.Bool.{eqb-true, eq-eqb}
@@ -8,24 +8,24 @@ use Rattle.std.specs.Option.{option_and_then}
 use Rattle.std.specs.Str.{bytes_eq}
 use Rattle.line_grammar.proofs.Exact as grammar
 use Rattle.line_grammar.proofs.Joining.{Always}
-use Rattle.line_fields.specs.Numbers.{IsNumbered}
-use Rattle.line_fields.specs.Fields.{number_after, is_numbered}
-use Rattle.line_fields.proofs.Alone.{alone_is, alone_again, numbered_is, numbered_again}
-use Rattle.line_fields.proofs.Decimals.{decimal_number}
+use Rattle.line_grammar.specs.Numbers.{IsNumbered}
+use Rattle.line_grammar.specs.Fields.{number_after, is_numbered}
+use Rattle.line_grammar.proofs.Alone.{alone_is, alone_again, numbered_is, numbered_again}
+use Rattle.line_grammar.proofs.Decimals.{decimal_number}
 use Rattle.certificates.specs.declared.node.CertNode.{CertNode}
-use Rattle.certificates.specs.Texts.{Row, version, bits, count, node, root, «end», IsSpelled, IsNodeAfter}
-use Rattle.cert_check.specs.Reading.{exactly, bits_in, if_may_count, count_in, node_in, if_known, root_in}
+use Rattle.certificates.specs.Texts.{CertRow, version, bits, count, node, root, «end», IsCertRowSpelled, IsNodeAfter}
+use Rattle.cert_check.specs.Reading.{exact_line, bits_in, if_may_count, count_in, node_in, if_known, root_in}
 use Rattle.cert_check.proofs.NodeLines.{node_read, node_again}
 
-abbrev pub shape_of : Row → Unit {0}
+abbrev pub shape_of : CertRow → Unit {0}
 shape_of _ = tt
 
-abbrev pub RowIs : {X : Type 0} → (List ℕ → Option X) → (X → Row) → (X → Type 0) → Type 0
-RowIs test row F = grammar.RowIs shape_of IsSpelled tt test row F
+abbrev pub RowIs : {X : Type 0} → (List ℕ → Option X) → (X → CertRow) → (X → Type 0) → Type 0
+RowIs test row F = grammar.RowIs shape_of IsCertRowSpelled tt test row F
 
 -- a row of known bytes
-word_is : (bytes : List ℕ) (row : Row) → ((l : List ℕ) → l ≡ bytes → IsSpelled row l)
-    → ((l : List ℕ) → IsSpelled row l → l ≡ bytes) → RowIs (exactly bytes) (λ _. row) Always
+word_is : (bytes : List ℕ) (row : CertRow) → ((l : List ℕ) → l ≡ bytes → IsCertRowSpelled row l)
+    → ((l : List ℕ) → IsCertRowSpelled row l → l ≡ bytes) → RowIs (exact_line bytes) (λ _. row) Always
 word_is bytes row to back = record {
   shaped = λ x. refl;
   reads = λ l x e. (tt, to l ((bytes_eq-Decides l bytes).0 (cond_some (bytes_eq l bytes) tt x e).0));
@@ -33,16 +33,16 @@ word_is bytes row to back = record {
   sample = (bytes, tt, (let t : bytes_eq bytes bytes ≡ true = (bytes_eq-Decides bytes bytes).1 refl in rw t refl));
 }
 
-pub version_is : RowIs (exactly (codes "symk-cert 1")) (λ _. version) Always
+pub version_is : RowIs (exact_line (codes "symk-cert 1")) (λ _. version) Always
 version_is = word_is (codes "symk-cert 1") version (λ l e. e) (λ l e. e)
 
-pub end_is : RowIs (exactly (codes "end")) (λ _. «end») Always
+pub end_is : RowIs (exact_line (codes "end")) (λ _. «end») Always
 end_is = word_is (codes "end") «end» (λ l e. e) (λ l e. e)
 
 -- a row of bytes and a number that passes a test
-number_is : (word : List ℕ) (pass : ℕ → Option ℕ) (row : ℕ → Row) (N : ℕ → Type 0)
-    → ((n : ℕ) (l : List ℕ) → IsNumbered word n l → IsSpelled (row n) l)
-    → ((n : ℕ) (l : List ℕ) → IsSpelled (row n) l → IsNumbered word n l)
+number_is : (word : List ℕ) (pass : ℕ → Option ℕ) (row : ℕ → CertRow) (N : ℕ → Type 0)
+    → ((n : ℕ) (l : List ℕ) → IsNumbered word n l → IsCertRowSpelled (row n) l)
+    → ((n : ℕ) (l : List ℕ) → IsCertRowSpelled (row n) l → IsNumbered word n l)
     → ((n m : ℕ) → pass n ≡ Some m → N n × (n ≡ m)) → ((n : ℕ) → N n → pass n ≡ Some n) → N 0
     → RowIs (λ line. option_and_then pass (number_after word line)) row N
 number_is word pass row N to back passes again zero_passes = record {
@@ -57,9 +57,9 @@ number_is word pass row N to back passes again zero_passes = record {
   );
 }
   where
-    found : (l : List ℕ) (x : ℕ) (o : Option ℕ) → number_after word l ≡ o → option_and_then pass o ≡ Some x → N x × IsSpelled (row x) l
+    found : (l : List ℕ) (x : ℕ) (o : Option ℕ) → number_after word l ≡ o → option_and_then pass o ≡ Some x → N x × IsCertRowSpelled (row x) l
     found l x None t e = cc
-    found l x (Some n) t e = (let k = passes n x e in (subst N k.1 k.0, subst (λ (z : ℕ). IsSpelled (row z) l) k.1 (to n l (alone_is word n l t))))
+    found l x (Some n) t e = (let k = passes n x e in (subst N k.1 k.0, subst (λ (z : ℕ). IsCertRowSpelled (row z) l) k.1 (to n l (alone_is word n l t))))
 
 -- how many nodes there may be
 abbrev pub MayCount : ℕ → ℕ → Type 0

@@ -15,8 +15,8 @@ use Rattle.var_order.specs.Layout.{Layout, IsOrderOf, bits, level_at}
 use Rattle.var_order.specs.Codes.{IsCode}
 use Rattle.var_order.proofs.Coding.{coded}
 use Rattle.var_order.proofs.Laying.{state_of, of_state}
-use Rattle.bdd_sets.specs.Sets.{Has, IsOfState, IsSetOfStates}
-use Rattle.transitions.specs.Relations.{Names, HasMember, IsSet, Relates, Successor}
+use Rattle.bdd_sets.specs.Sets.{HasCodedState, IsOfState, IsSetOfStates}
+use Rattle.transitions.specs.Relations.{Names, HoldsForState, IsSet, Relates, Successor}
 use Rattle.transitions.proofs.SameBits.{same_bits}
 use Rattle.transitions.proofs.Using.{connects_related}
 use Rattle.transitions.proofs.ImageLaw.{true_or_false}
@@ -24,10 +24,10 @@ use Rattle.certificates.specs.Inductive.{Begins, ClosedBy}
 use Rattle.cert_check.specs.declared.judging.CertPart.TheVariants.{Initial, Step, Goal}
 use Rattle.cert_check.specs.declared.judging.CertVerdict.{CertVerdict}
 use Rattle.cert_check.specs.declared.judging.CertVerdict.TheVariants.{Yes, No}
-use Rattle.cert_check.specs.Judging.{LeavesBy, FirstLeaves, MeetsGoal, MissesGoal, Judges}
+use Rattle.cert_check.specs.Judging.{LeavesBy, FirstLeaves, MeetsGoal, HasNoGoalState, JudgesCert}
 
 -- members are those of the bits alone
-pub member_alike : (o : Layout) (F G : Bits → Bool) (s : List ℕ) → ((b : Bits) → G b ≡ F b) → HasMember o F s ↔ HasMember o G s
+pub member_alike : (o : Layout) (F G : Bits → Bool) (s : List ℕ) → ((b : Bits) → G b ≡ F b) → HoldsForState o F s ↔ HoldsForState o G s
 member_alike o F G s e = ((λ (b, code, h). (b, code, e b ∙ h)), (λ (b, code, h). (b, code, sym (e b) ∙ h)))
 
 -- Sets that have the same states are judged alike.
@@ -55,10 +55,10 @@ module _ (task : TaskParts) (fits : Fits task) (I J : List ℕ → Type 0) (same
   pub meets_alike : MeetsGoal task I → MeetsGoal task J
   meets_alike (s, state, member, goal) = (s, state, (same s state).0 member, goal)
 
-  pub misses_alike : MissesGoal task I → MissesGoal task J
+  pub misses_alike : HasNoGoalState task I → HasNoGoalState task J
   misses_alike h s state member goal = h s state ((same s state).1 member) goal
 
-  pub judged_alike : (v : CertVerdict) → Judges task I v → Judges task J v
+  pub judged_alike : (v : CertVerdict) → JudgesCert task I v → JudgesCert task J v
   judged_alike Yes h = record { initial = begins_alike h.initial; closed = λ a. closed_alike a (h.closed a); goal = misses_alike h.goal }
   judged_alike (No Initial) (s, i, none) = (s, i, λ h. none ((same s i.state).1 h))
   judged_alike (No (Step op)) (begins, first) = (begins_alike begins, first_alike op first)
@@ -66,7 +66,7 @@ module _ (task : TaskParts) (fits : Fits task) (I J : List ℕ → Type 0) (same
 
 -- and the other way round
 pub judged_back : (task : TaskParts) → Fits task → (I J : List ℕ → Type 0)
-    → ((s : List ℕ) → IsState task s → I s ↔ J s) → (v : CertVerdict) → Judges task J v → Judges task I v
+    → ((s : List ℕ) → IsState task s → I s ↔ J s) → (v : CertVerdict) → JudgesCert task J v → JudgesCert task I v
 judged_back task fits I J same = judged_alike task fits J I (λ s state. (let h = same s state in (h.1, h.0)))
 
 not_false : (b : Bool) → not b ≡ true → b ≡ false
@@ -82,7 +82,7 @@ module _ (task : TaskParts) (o : Layout) (fits : Fits task) (order : IsOrderOf t
   module _ (op : ℕ) (places : List ℕ) (R F G H : Bits → Bool)
       (relates : Relates o places (λ s t. Leads task s op t) R) (set : IsSet o F)
       (names : Names o (Successor o places R F) G) (minus : (b : Bits) → H b ≡ (G b && not (F b))) where
-    pub leaves : (b : Bits) → H b ≡ true → LeavesBy task (HasMember o F) op
+    pub leaves : (b : Bits) → H b ≡ true → LeavesBy task (HoldsForState o F) op
     leaves b h =
         let parts = and_parts (G b) (not (F b)) (sym (minus b) ∙ h) in
         let out = not_false (F b) parts.1 in
@@ -98,7 +98,7 @@ module _ (task : TaskParts) (o : Layout) (fits : Fits task) (order : IsOrderOf t
           λ member. true≢false (sym ((set b).1 (t, x.1, x.2, member)) ∙ out),
         )
 
-    pub closed : ((b : Bits) → H b ≡ false) → ClosedBy task (HasMember o F) op
+    pub closed : ((b : Bits) → H b ≡ false) → ClosedBy task (HoldsForState o F) op
     closed none s t state member step =
         let next = step_state task s op t fits state step in
         let ss = state_of task o s order state in
@@ -115,14 +115,14 @@ module _ (task : TaskParts) (o : Layout) (fits : Fits task) (order : IsOrderOf t
   -- Where the goal holds.
   module _ (F A M : Bits → Bool) (set : IsSet o F) (goals : (s : List ℕ) (b : Bits) → IsState task s → IsCode o 0 s b
       → (A b ≡ true) ↔ All (Holds task s) task.goal) (both : (b : Bits) → M b ≡ (F b && A b)) where
-    pub meets : (b : Bits) → M b ≡ true → MeetsGoal task (HasMember o F)
+    pub meets : (b : Bits) → M b ≡ true → MeetsGoal task (HoldsForState o F)
     meets b h =
         let parts = and_parts (F b) (A b) (sym (both b) ∙ h) in
         let x = (set b).0 parts.0 in
         let state = of_state task o x.0 order x.1 in
         (x.0, state, x.3, (goals x.0 b state x.2).0 parts.1)
 
-    pub misses : ((b : Bits) → M b ≡ false) → MissesGoal task (HasMember o F)
+    pub misses : ((b : Bits) → M b ≡ false) → HasNoGoalState task (HoldsForState o F)
     misses none s state (b, code, h) goal = true≢false (sym (both b ∙ and_from (F b) (A b) h ((goals s b state code).1 goal)) ∙ none b)
 
   -- The members of a set, its states alone.
@@ -137,14 +137,15 @@ module _ (task : TaskParts) (o : Layout) (fits : Fits task) (order : IsOrderOf t
           both b ∙ and_from (V b) (S b) ((valid b).1 (s, state, code)) (alone b c (λ p lt. same_bits o s b c p order.layout code also lt) ∙ parts.1))),
     )
 
-    pub members_are : (s : List ℕ) → IsState task s → HasMember o M s ↔ HasMember o S s
+    pub members_are : (s : List ℕ) → IsState task s → HoldsForState o M s ↔ HoldsForState o S s
     members_are s state = (
       (λ (b, code, h). (b, code, (and_parts (V b) (S b) (sym (both b) ∙ h)).1)),
       (λ (b, code, h). (b, code, both b ∙ and_from (V b) (S b) ((valid b).1 (s, state_of task o s order state, code)) h)),
     )
 
   -- whether a set has a state, asked of all its bits or of some
-  pub has_is : (nodes : List Node) (set : ℕ) (s : List ℕ) → IsState task s → IsSetOfStates o nodes set → Has o nodes set s ↔ HasMember o (means nodes set) s
+  pub has_is : (nodes : List Node) (set : ℕ) (s : List ℕ) → IsState task s → IsSetOfStates o nodes set
+      → HasCodedState o nodes set s ↔ HoldsForState o (means nodes set) s
   has_is nodes set s state alone = (
     (λ h. (let c = some_code s state in (c.0, c.1, h c.0 c.1))),
     (λ (c, code, h) b also. alone b c (λ p lt. same_bits o s b c p order.layout also code lt) ∙ h),

@@ -4,13 +4,13 @@ use Rattle.std.proofs.lemmas.Option.{cond_some}
 use Rattle.std.proofs.lemmas.Bool.{and_parts, and_from}
 use Rattle.std.proofs.lemmas.Bool.Decides.{nat_tests}
 use Rattle.std.specs.Option.{option_map, option_and_then}
-use Rattle.line_fields.specs.Numbers.{IsNumber}
-use Rattle.line_fields.specs.Fields.{first_number, number_then, number_after}
-use Rattle.line_fields.proofs.Fronts.{first_is, first_again, number_follows, follows_number}
-use Rattle.line_fields.proofs.Alone.{alone_is, alone_again}
+use Rattle.line_grammar.specs.Numbers.{IsNumber}
+use Rattle.line_grammar.specs.Fields.{first_number, number_then, number_after}
+use Rattle.line_grammar.proofs.Fronts.{first_is, first_again, number_follows, follows_number}
+use Rattle.line_grammar.proofs.Alone.{alone_is, alone_again}
 use Rattle.certificates.specs.declared.node.CertNode.{CertNode}
 use Rattle.certificates.specs.Texts.{bit_of, IsNodeLine, IsNodeAfter}
-use Rattle.cert_check.specs.Reading.{with_hi, with_lo, three_in, may_follow, if_may_follow, node_in}
+use Rattle.cert_check.specs.Reading.{with_hi, with_low_child, three_in, may_follow, if_may_follow, node_in}
 
 -- Three numbers.
 
@@ -59,7 +59,7 @@ three_is line bit lo hi e = by_bit (first_number line) refl e
     by_lo p rest t None u e = cc
     by_lo p rest t (Some (q, rest2)) u e = by_hi p rest t q rest2 u (number_after (codes " ") rest2) refl e
 
-    by_bit : (o : Option (ℕ × List ℕ)) → first_number line ≡ o → option_and_then (λ x. with_lo x.0 x.1) o ≡ Some (bit, lo, hi) → Three line bit lo hi
+    by_bit : (o : Option (ℕ × List ℕ)) → first_number line ≡ o → option_and_then (λ x. with_low_child x.0 x.1) o ≡ Some (bit, lo, hi) → Three line bit lo hi
     by_bit None t e = cc
     by_bit (Some (p, rest)) t e = by_lo p rest t (number_then (codes " ") rest) refl e
 
@@ -71,7 +71,7 @@ three_again line bit lo hi t =
     let e1 : first_number line ≡ Some (bit, rest) = ap first_number (t.whole ∙ sym (regroup t.a t.b t.c)) ∙ first_again t.a rest bit t.is_a refl in
     let e2 : number_then (codes " ") rest ≡ Some (lo, last) = follows_number (codes " ") t.b lo last t.is_b refl in
     let e3 : number_after (codes " ") last ≡ Some hi = alone_again (codes " ") hi last (t.c, t.is_c, refl) in
-    ap (λ (o : Option (ℕ × List ℕ)). option_and_then (λ x. with_lo x.0 x.1) o) e1
+    ap (λ (o : Option (ℕ × List ℕ)). option_and_then (λ x. with_low_child x.0 x.1) o) e1
     ∙ ap (λ (o : Option (ℕ × List ℕ)). option_and_then (λ x. with_hi bit x.0 x.1) o) e2
     ∙ ap (λ (o : Option ℕ). option_map {U = ℕ × ℕ × ℕ} (λ hi. (bit, lo, hi)) o) e3
 

@@ -13,7 +13,7 @@ use Rattle.certificates.specs.declared.node.CertNode.{CertNode}
 use Rattle.certificates.specs.declared.node.Certificate.{Certificate}
 use Rattle.certificates.specs.Meaning.{node_says, with_node, says, holds}
 use Rattle.certificates.specs.Texts.{IsNodeAfter, AreNodesAfter, IsInOrder}
-use Rattle.cert_bits.specs.Places.{bits_at}
+use Rattle.certificates.specs.Places.{bits_at}
 
 -- Nodes in order.
 

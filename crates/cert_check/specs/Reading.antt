@@ -3,15 +3,15 @@ use Rattle.std.specs.Prelude.{ℕ, ◌+◌, ◌==◌, ◌&&◌, ◌||◌, nat_lt
 use Rattle.std.specs.Option.{option_map, option_and_then}
 use Rattle.std.specs.Str.{bytes_eq}
 use Rattle.line_grammar.specs.Reading.{Reading, row_at, many_at, both_at, made_at, after_at, before_at, counted_at, whole_at}
-use Rattle.line_fields.specs.Fields.{first_number, number_then, number_after, is_numbered}
+use Rattle.line_grammar.specs.Fields.{first_number, number_then, number_after, is_numbered}
 use Rattle.certificates.specs.declared.node.CertNode.{CertNode}
 use Rattle.certificates.specs.declared.node.Certificate.{Certificate}
 use Rattle.certificates.specs.Texts.{bit_of, nothing_follows}
 
 -- The tests of single lines.
 
-abbrev pub exactly : List ℕ → List ℕ → Option (Unit {0})
-exactly bytes line = if bytes_eq line bytes then Some tt else None
+abbrev pub exact_line : List ℕ → List ℕ → Option (Unit {0})
+exact_line bytes line = if bytes_eq line bytes then Some tt else None
 
 -- the line says that a state has so many bits
 abbrev pub bits_in : ℕ → List ℕ → Option (Unit {0})
@@ -27,12 +27,12 @@ count_in width line = option_and_then (if_may_count width) (number_after (codes 
 abbrev pub with_hi : ℕ → ℕ → List ℕ → Option (ℕ × ℕ × ℕ)
 with_hi bit lo rest = option_map (λ hi. (bit, lo, hi)) (number_after (codes " ") rest)
 
-abbrev pub with_lo : ℕ → List ℕ → Option (ℕ × ℕ × ℕ)
-with_lo bit rest = option_and_then (λ x. with_hi bit x.0 x.1) (number_then (codes " ") rest)
+abbrev pub with_low_child : ℕ → List ℕ → Option (ℕ × ℕ × ℕ)
+with_low_child bit rest = option_and_then (λ x. with_hi bit x.0 x.1) (number_then (codes " ") rest)
 
 -- three numbers, with a space between two of them
 unfoldable pub three_in : List ℕ → Option (ℕ × ℕ × ℕ)
-three_in line = option_and_then (λ x. with_lo x.0 x.1) (first_number line)
+three_in line = option_and_then (λ x. with_low_child x.0 x.1) (first_number line)
 
 -- whether a node of these numbers may follow the nodes
 abbrev pub may_follow : ℕ → List CertNode → ℕ → ℕ → ℕ → Bool
@@ -70,9 +70,9 @@ nodes_at width = counted_at tt (count_in width) (node_at width) and_one []
 abbrev pub cert_of : List CertNode × ℕ → Certificate
 cert_of parts = record { nodes = parts.0; root = parts.1 }
 
-unfoldable pub main_at : ℕ → Reading (Unit {0}) Certificate
-main_at width = after_at tt (exactly (codes "symk-cert 1")) (after_at tt (bits_in width) (made_at cert_of (both_at (nodes_at width) (λ nodes.
-    before_at (row_at tt (root_in (length nodes))) tt (exactly (codes "end"))))))
+unfoldable pub cert_main_at : ℕ → Reading (Unit {0}) Certificate
+cert_main_at width = after_at tt (exact_line (codes "symk-cert 1")) (after_at tt (bits_in width) (made_at cert_of (both_at (nodes_at width) (λ nodes.
+    before_at (row_at tt (root_in (length nodes))) tt (exact_line (codes "end"))))))
 
 abbrev pub text_at : ℕ → Reading (Unit {0}) Certificate
-text_at width = whole_at (main_at width) tt nothing_follows
+text_at width = whole_at (cert_main_at width) tt nothing_follows

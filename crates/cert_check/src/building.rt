@@ -5,12 +5,11 @@ ghost use Rattle.bdd_table.specs.Diagram.{Bits, means, Keeps, IsReduced};
 ghost use Rattle.var_order.specs.Layout.{bits, level_at};
 ghost use Rattle.certificates.specs.Meaning.{holds};
 ghost use Rattle.certificates.specs.Texts.{IsInOrder};
-ghost use Rattle.cert_bits.specs.Places.{bits_at};
+ghost use Rattle.certificates.specs.Places.{bits_at};
 
 use bdd_ops::Ops;
 use bdd_table::{FALSE, Id, TRUE};
-use cert_bits::choice;
-use certificates::{CertNode, Certificate};
+use certificates::{CertNode, Certificate, choice};
 use std::alloc::Global;
 use symk_task::Memory;
 use var_order::Order;

@@ -5,11 +5,11 @@ ghost use Rattle.symk_task.specs.Plans.{IsPlan};
 ghost use Rattle.symk_text.specs.Lines.{lines};
 ghost use Rattle.certificates.specs.declared.node.Certificate.{Certificate};
 ghost use Rattle.var_order.specs.Layout.{IsOrderOf, bits};
-ghost use Rattle.cert_bits.specs.Places.{places_of};
+ghost use Rattle.certificates.specs.Places.{places_of};
 ghost use Rattle.certificates.specs.Texts.{state_width, IsInOrder, IsCertOf};
 ghost use Rattle.certificates.specs.Meaning.{Named};
 ghost use Rattle.cert_check.specs.declared.judging.CertVerdict.TheVariants.{Yes};
-ghost use Rattle.cert_check.specs.Judging.{Judges};
+ghost use Rattle.cert_check.specs.Judging.{JudgesCert};
 ghost use Rattle.cert_check.specs.Refused.{CertRefusedAt};
 
 use crate::building::set_of;
@@ -19,8 +19,7 @@ use crate::reading::read_cert;
 use axiom_layers::compile;
 use bdd_ops::{CACHE, Ops};
 use bdd_table::Table;
-use cert_bits::places_of;
-use certificates::Certificate;
+use certificates::{Certificate, places_of};
 use std::alloc::Global;
 use symk_task::{Memory, Task};
 use var_order::Order;
@@ -37,7 +36,7 @@ fn judge_cert(
     requires places { places.now ≡ places_of task.now order.now }
     requires below { All (λ place. place < bits order.now) places.now }
     requires cert { IsInOrder (length places.now) cert.now }
-    ensures { IfOk result (Judges task.now (Named task.now cert.now)) }
+    ensures { IfOk result (JudgesCert task.now (Named task.now cert.now)) }
 {
     let _ = task.parts();
     let mut ops = Ops::new(Table::new(alloc)?, CACHE)?;
@@ -52,7 +51,7 @@ fn judge_cert(
 /// `CertFault::Offence` names the first line at which no certificate of the task's format can go on so.
 pub fn check_cert(alloc: Global, task: &Task, bytes: &[u8]) -> Result<CertVerdict, CertFault>
     ensures verdict { IfOk result (λ verdict. (cert : Certificate)
-        × IsCertOf (state_width task.now) (lines bytes.now) cert × Judges task.now (Named task.now cert) verdict) }
+        × IsCertOf (state_width task.now) (lines bytes.now) cert × JudgesCert task.now (Named task.now cert) verdict) }
     ensures offence { IfErr result (CertRefusedAt (state_width task.now) (lines bytes.now)) }
     ensures refutes { IfOk result (λ verdict. verdict ≡ Yes → (p : List ℕ) → ¬ IsPlan task.now p) }
 {

@@ -6,9 +6,9 @@ ghost use Rattle.symk_task.specs.Variables.{IsState};
 ghost use Rattle.var_order.specs.Layout.{IsOrderOf};
 ghost use Rattle.bdd_sets.specs.Sets.{IsSetOfStates};
 ghost use Rattle.axiom_layers.specs.Roots.{AreRoots};
-ghost use Rattle.transitions.specs.Relations.{IsSet, HasMember};
+ghost use Rattle.transitions.specs.Relations.{IsSet, HoldsForState};
 ghost use Rattle.certificates.specs.Inductive.{Begins, ClosedBy};
-ghost use Rattle.cert_check.specs.Judging.{LeavesBy, FirstLeaves, MeetsGoal, MissesGoal, Judges};
+ghost use Rattle.cert_check.specs.Judging.{LeavesBy, FirstLeaves, MeetsGoal, HasNoGoalState, JudgesCert};
 
 use crate::room::make_room;
 use axiom_layers::Derived;
@@ -56,8 +56,8 @@ fn leads_out(
     requires set { IsSet order.now (means ops.old members) }
     requires op { op < length task.now.operators }
     ensures says { IfOk result (λ out. MatchBool out
-        (LeavesBy task.now (HasMember order.now (means ops.old members)) op)
-        (ClosedBy task.now (HasMember order.now (means ops.old members)) op)) }
+        (LeavesBy task.now (HoldsForState order.now (means ops.old members)) op)
+        (ClosedBy task.now (HoldsForState order.now (means ops.old members)) op)) }
     ensures kept { Keeps ops.old ops.new }
     ensures reduced { IsReduced ops.new }
 {
@@ -83,8 +83,8 @@ fn first_leaving(
     requires members { members.old < length ops.old }
     requires set { IsSet order.now (means ops.old members.old) }
     ensures says { IfOk result (λ found. MatchOption found
-        ((a : ℕ) → ClosedBy task.now (HasMember order.now (means ops.old members.old)) a)
-        (FirstLeaves task.now (HasMember order.now (means ops.old members.old)))) }
+        ((a : ℕ) → ClosedBy task.now (HoldsForState order.now (means ops.old members.old)) a)
+        (FirstLeaves task.now (HoldsForState order.now (means ops.old members.old)))) }
     ensures known { OnOk result (members.new < length ops.new) }
     ensures same { OnOk result ((b : Bits) → means ops.new members.new b ≡ means ops.old members.old b) }
     ensures set { OnOk result (IsSet order.now (means ops.new members.new)) }
@@ -115,8 +115,8 @@ fn meets_goal(
     requires members { members < length ops.old }
     requires set { IsSet order.now (means ops.old members) }
     ensures says { IfOk result (λ met. MatchBool met
-        (MeetsGoal task.now (HasMember order.now (means ops.old members)))
-        (MissesGoal task.now (HasMember order.now (means ops.old members)))) }
+        (MeetsGoal task.now (HoldsForState order.now (means ops.old members)))
+        (HasNoGoalState task.now (HoldsForState order.now (means ops.old members)))) }
     ensures kept { Keeps ops.old ops.new }
     ensures reduced { IsReduced ops.new }
 {
@@ -138,8 +138,8 @@ fn judge_members(
     requires roots { AreRoots task.now order.now ops.old derived.old }
     requires members { members < length ops.old }
     requires set { IsSet order.now (means ops.old members) }
-    requires begins { Begins task.now (HasMember order.now (means ops.old members)) }
-    ensures { IfOk result (Judges task.now (HasMember order.now (means ops.old members))) }
+    requires begins { Begins task.now (HoldsForState order.now (means ops.old members)) }
+    ensures { IfOk result (JudgesCert task.now (HoldsForState order.now (means ops.old members))) }
 {
     let _ = task.parts();
     let mut members = members;
@@ -167,7 +167,7 @@ fn members_of(task: &Task, order: &Order, ops: &mut Ops, set: Id) -> Result<Id, 
     ensures known { IfOk result (λ members. members < length ops.new) }
     ensures set { IfOk result (λ members. IsSet order.now (means ops.new members)) }
     ensures same { IfOk result (λ members. (s : List ℕ) → IsState task.now s
-        → HasMember order.now (means ops.old set) s ↔ HasMember order.now (means ops.new members) s) }
+        → HoldsForState order.now (means ops.old set) s ↔ HoldsForState order.now (means ops.new members) s) }
     ensures kept { Keeps ops.old ops.new }
     ensures reduced { IsReduced ops.new }
 {
@@ -190,7 +190,7 @@ pub fn judge(
     requires roots { AreRoots task.now order.now ops.old derived.old }
     requires known { set < length ops.old }
     requires states { IsSetOfStates order.now ops.old set }
-    ensures { IfOk result (Judges task.now (HasMember order.now (means ops.old set))) }
+    ensures { IfOk result (JudgesCert task.now (HoldsForState order.now (means ops.old set))) }
 {
     let _ = task.parts();
     let start = task.start(alloc)?;

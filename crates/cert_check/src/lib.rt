@@ -1,10 +1,10 @@
 //! Certificates that a task has no plan, checked apart from any search.
 //!
-//! `check_cert` reads a certificate and says whether the states that it names are inductive, and else which part
-//! fails first (`specs/Judging.antt`). Where its text is none, it names the first line at which no certificate can go
-//! on so. Where it says yes, no list of operators is a plan, whoever wrote the certificate. It takes one image an
-//! operator, and no layer, search or table of a writer. It stands on `certificates` for what a certificate is, on
-//! `line_fields` and `line_grammar` for reading one, and on `transitions` for images.
+//! `check_cert` reads a certificate and says whether the states that it names are inductive, and else which part fails
+//! first (`specs/Judging.antt`). Where its text is none, it names the first line at which no certificate can go on so.
+//! Where it says yes, no list of operators is a plan, whoever wrote the certificate. It takes one image an operator,
+//! and no layer, search or table of a writer. It stands on `certificates` for what a certificate is, on `line_grammar`
+//! for reading one, and on `transitions` for images.
 #![tactic(auto)]
 
 mod building;

@@ -2,28 +2,27 @@
 
 ghost use Rattle.std.specs.Prelude.{◌≡◌, ℕ, ◌<◌, ◌^◌, List, [], IfOk, IfErr};
 ghost use Rattle.symk_text.specs.Lines.{lines};
-ghost use Rattle.line_grammar.specs.Reading.{Gives, tail_at};
+ghost use Rattle.line_grammar.specs.Reading.{GivesReading, tail_at};
 ghost use Rattle.certificates.specs.declared.node.Certificate.{Certificate};
 ghost use Rattle.certificates.specs.Texts.{IsCertOf, nothing_follows};
-ghost use Rattle.cert_check.specs.Reading.{main_at, text_at};
+ghost use Rattle.cert_check.specs.Reading.{cert_main_at, text_at};
 ghost use Rattle.cert_check.specs.Refused.{CertRefusedAt};
 
 use crate::fault::CertFault;
 use crate::rows::{bits_of, nodes_of, root_of, word_of};
 use certificates::Certificate;
-use line_fields::{Rest, first_line, offence};
-use line_grammar::Stopped;
+use line_grammar::{Rest, Stopped, first_line, stopped_at};
 use std::alloc::Global;
 use symk_text::lines_of;
 
 /// The rows of a certificate, and the lines after them.
-#[tactic(auto, unfolding(crate::specs::Reading::main_at))]
+#[tactic(auto, unfolding(crate::specs::Reading::cert_main_at))]
 fn main_of<'a>(
     alloc: Global,
     width: u32,
     lines: Rest<'a>,
 ) -> Result<(Certificate, Rest<'a>), Stopped<()>>
-    ensures { Gives (λ x. (x.0, x.1)) result (main_at width lines.entry) }
+    ensures { GivesReading (λ x. (x.0, x.1)) result (cert_main_at width lines.entry) }
 {
     let rest = word_of(b"symk-cert 1", lines)?;
     let rest = bits_of(width, rest)?;
@@ -36,18 +35,18 @@ fn main_of<'a>(
 /// No line.
 #[tactic(auto, unfolding(line_grammar::specs::Reading::tail_at))]
 fn nothing_of(lines: Rest<'_>) -> Result<(), Stopped<()>>
-    ensures { Gives (λ _. (tt, [])) result (tail_at tt nothing_follows lines.entry) }
+    ensures { GivesReading (λ _. (tt, [])) result (tail_at tt nothing_follows lines.entry) }
 {
     let left = lines.len();
     match first_line(lines) {
-        Some(_) => Err(offence((), left)),
+        Some(_) => Err(stopped_at((), left)),
         None => Ok(()),
     }
 }
 
 /// The certificate that the lines state, and no more.
 fn cert_of(alloc: Global, width: u32, lines: Rest<'_>) -> Result<Certificate, Stopped<()>>
-    ensures { Gives (λ x. (x, [])) result (text_at width lines.entry) }
+    ensures { GivesReading (λ x. (x, [])) result (text_at width lines.entry) }
 {
     let (cert, rest) = main_of(alloc, width, lines)?;
     nothing_of(rest)?;

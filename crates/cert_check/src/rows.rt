@@ -1,21 +1,20 @@
 //! The rows of a certificate, each read from the lines that are left.
 
 ghost use Rattle.std.specs.Prelude.{◌≡◌, ◌<◌, ◌^◌, ◌==◌, false, codes};
-ghost use Rattle.line_grammar.specs.Reading.{Gives, row_at};
+ghost use Rattle.line_grammar.specs.Reading.{GivesReading, row_at};
 ghost use Rattle.certificates.specs.Texts.{bit_of};
-ghost use Rattle.cert_check.specs.Reading.{exactly, bits_in, count_in, three_in, node_in, node_at, each_node_at, nodes_at, root_in};
+ghost use Rattle.cert_check.specs.Reading.{exact_line, bits_in, count_in, three_in, node_in, node_at, each_node_at, nodes_at, root_in};
 
 use certificates::CertNode;
-use line_fields::{
-    Rest, first_line, first_number, is_numbered, number_after, number_then, offence,
+use line_grammar::{
+    Rest, Stopped, first_line, first_number, is_numbered, number_after, number_then, stopped_at,
 };
-use line_grammar::Stopped;
 use std::alloc::Global;
 use symk_task::List;
 
 /// A line of exactly these bytes, and the lines after it.
 pub fn word_of<'a>(word: &[u8], lines: Rest<'a>) -> Result<Rest<'a>, Stopped<()>>
-    ensures { Gives (λ rest. (tt, rest)) result (row_at tt (exactly word.now) lines.entry) }
+    ensures { GivesReading (λ rest. (tt, rest)) result (row_at tt (exact_line word.now) lines.entry) }
 {
     let left = lines.len();
     match first_line(lines) {
@@ -23,16 +22,16 @@ pub fn word_of<'a>(word: &[u8], lines: Rest<'a>) -> Result<Rest<'a>, Stopped<()>
             if line == word {
                 Ok(rest)
             } else {
-                Err(offence((), left))
+                Err(stopped_at((), left))
             }
         }
-        None => Err(offence((), left)),
+        None => Err(stopped_at((), left)),
     }
 }
 
 /// The line that says how many bits a state has, and the lines after it.
 pub fn bits_of(width: u32, lines: Rest<'_>) -> Result<Rest<'_>, Stopped<()>>
-    ensures { Gives (λ rest. (tt, rest)) result (row_at tt (bits_in width) lines.entry) }
+    ensures { GivesReading (λ rest. (tt, rest)) result (row_at tt (bits_in width) lines.entry) }
 {
     let left = lines.len();
     match first_line(lines) {
@@ -40,10 +39,10 @@ pub fn bits_of(width: u32, lines: Rest<'_>) -> Result<Rest<'_>, Stopped<()>>
             if is_numbered(line, b"bits ", u64::from(width)) {
                 Ok(rest)
             } else {
-                Err(offence((), left))
+                Err(stopped_at((), left))
             }
         }
-        None => Err(offence((), left)),
+        None => Err(stopped_at((), left)),
     }
 }
 
@@ -65,15 +64,15 @@ fn count_in(width: u32, line: &[u8]) -> Option<u64>
 
 /// How many nodes there are, and the lines after that line.
 fn count_of(width: u32, lines: Rest<'_>) -> Result<(u64, Rest<'_>), Stopped<()>>
-    ensures { Gives (λ x. (x.0, x.1)) result (row_at tt (count_in width) lines.entry) }
+    ensures { GivesReading (λ x. (x.0, x.1)) result (row_at tt (count_in width) lines.entry) }
 {
     let left = lines.len();
     match first_line(lines) {
         Some((line, rest)) => match count_in(width, line) {
             Some(count) => Ok((count, rest)),
-            None => Err(offence((), left)),
+            None => Err(stopped_at((), left)),
         },
-        None => Err(offence((), left)),
+        None => Err(stopped_at((), left)),
     }
 }
 
@@ -130,15 +129,15 @@ fn node_of<'a>(
     nodes: &[CertNode],
     lines: Rest<'a>,
 ) -> Result<(CertNode, Rest<'a>), Stopped<()>>
-    ensures { Gives (λ x. (x.0, x.1)) result (node_at width nodes.now lines.entry) }
+    ensures { GivesReading (λ x. (x.0, x.1)) result (node_at width nodes.now lines.entry) }
 {
     let left = lines.len();
     match first_line(lines) {
         Some((line, rest)) => match node_in(width, nodes, line) {
             Some(node) => Ok((node, rest)),
-            None => Err(offence((), left)),
+            None => Err(stopped_at((), left)),
         },
-        None => Err(offence((), left)),
+        None => Err(stopped_at((), left)),
     }
 }
 
@@ -149,7 +148,7 @@ fn each_node(
     count: u64,
     lines: Rest<'_>,
 ) -> Result<(List<CertNode>, Rest<'_>), Stopped<()>>
-    ensures { Gives (λ x. (x.0, x.1)) result (each_node_at width count lines.entry) }
+    ensures { GivesReading (λ x. (x.0, x.1)) result (each_node_at width count lines.entry) }
 {
     let mut nodes = List::of(Vec::new(alloc));
     let mut rest = lines;
@@ -167,7 +166,7 @@ pub fn nodes_of(
     width: u32,
     lines: Rest<'_>,
 ) -> Result<(List<CertNode>, Rest<'_>), Stopped<()>>
-    ensures { Gives (λ x. (x.0, x.1)) result (nodes_at width lines.entry) }
+    ensures { GivesReading (λ x. (x.0, x.1)) result (nodes_at width lines.entry) }
 {
     let (count, rest) = count_of(width, lines)?;
     each_node(alloc, width, count, rest)
@@ -193,14 +192,14 @@ fn root_in(count: usize, line: &[u8]) -> Option<u64>
 /// The root, and the lines after it.
 pub fn root_of(count: usize, lines: Rest<'_>) -> Result<(u64, Rest<'_>), Stopped<()>>
     requires { count < 2 ^ 63 }
-    ensures { Gives (λ x. (x.0, x.1)) result (row_at tt (root_in count) lines.entry) }
+    ensures { GivesReading (λ x. (x.0, x.1)) result (row_at tt (root_in count) lines.entry) }
 {
     let left = lines.len();
     match first_line(lines) {
         Some((line, rest)) => match root_in(count, line) {
             Some(root) => Ok((root, rest)),
-            None => Err(offence((), left)),
+            None => Err(stopped_at((), left)),
         },
-        None => Err(offence((), left)),
+        None => Err(stopped_at((), left)),
     }
 }

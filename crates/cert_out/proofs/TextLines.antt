@@ -6,14 +6,14 @@ use Rattle.std.proofs.lemmas.List.{append-nil, length_push}
 use Rattle.symk_text.specs.Lines.{without_return, lines}
 use Rattle.line_grammar.specs.Rows.{Lines, Spells}
 use Rattle.line_grammar.proofs.Exact as grammar
-use Rattle.line_fields.proofs.Decimals.{decimal_number}
+use Rattle.line_grammar.proofs.Decimals.{decimal_number}
 use Rattle.sas_writer.specs.Spelling.{text_of}
 use Rattle.sas_writer.proofs.Numbers.{number_line}
 use Rattle.sas_writer.proofs.Pieces.{Unfed, Plain, Unfed-plain, AllByRecursion-append, without_return-plain, lines-text_of}
 use Rattle.certificates.specs.declared.node.CertNode.{CertNode}
 use Rattle.certificates.specs.declared.node.Certificate.{Certificate}
-use Rattle.certificates.specs.Texts.{Row, version, bits, count, node, root, «end», IsSpelled, cert_rows, AreNodesAfter, IsInOrder, IsCertOf}
-use Rattle.cert_out.specs.CertText.{numbered, node_line, head_lines, end_lines, cert_lines, cert_text}
+use Rattle.certificates.specs.Texts.{CertRow, version, bits, count, node, root, «end», IsCertRowSpelled, cert_rows, AreNodesAfter, IsInOrder, IsCertOf}
+use Rattle.cert_out.specs.CertText.{numbered_line, node_line, cert_head_lines, end_lines, cert_lines, cert_text}
 
 -- Lines with neither LF nor CR are those of their text.
 
@@ -50,23 +50,23 @@ decimal_plain : (n : ℕ) → n < 2 ^ 64 → Plain (decimal n)
 decimal_plain n lt = (number_line n lt).plain
 
 -- a line is plain, and spells its row
-record IsWritten (row : Row) (line : List ℕ) : Type 0 where
+record IsWritten (row : CertRow) (line : List ℕ) : Type 0 where
   plain : Plain line
-  spelled : IsSpelled row line
+  spelled : IsCertRowSpelled row line
 
-abbrev AreWritten : List Row → Lines → Type 0
+abbrev AreWritten : List CertRow → Lines → Type 0
 AreWritten = Spells IsWritten
 
-written_append : (rows more : List Row) (ls ms : Lines) → AreWritten rows ls → AreWritten more ms → AreWritten (rows ++ more) (ls ++ ms)
-written_append = grammar.spells_append {S = Unit {0}} (λ (row : Row). tt) IsWritten
+written_append : (rows more : List CertRow) (ls ms : Lines) → AreWritten rows ls → AreWritten more ms → AreWritten (rows ++ more) (ls ++ ms)
+written_append = grammar.spells_append {S = Unit {0}} (λ (row : CertRow). tt) IsWritten
 
-all_plain : (rows : List Row) (ls : Lines) → AreWritten rows ls → AllByRecursion Plain ls
+all_plain : (rows : List CertRow) (ls : Lines) → AreWritten rows ls → AllByRecursion Plain ls
 all_plain [] [] h = tt
 all_plain [] (l ∷ ls) h = absurd h
 all_plain (r ∷ rows) [] h = absurd h
 all_plain (r ∷ rows) (l ∷ ls) h = (h.0.plain, all_plain rows ls h.1)
 
-all_spelled : (rows : List Row) (ls : Lines) → AreWritten rows ls → Spells IsSpelled rows ls
+all_spelled : (rows : List CertRow) (ls : Lines) → AreWritten rows ls → Spells IsCertRowSpelled rows ls
 all_spelled [] [] h = tt
 all_spelled [] (l ∷ ls) h = absurd h
 all_spelled (r ∷ rows) [] h = absurd h
@@ -109,10 +109,10 @@ nodes_written : (xs : List CertNode) → AllByRecursion IsSmallNode xs → AreWr
 nodes_written [] h = tt
 nodes_written (x ∷ xs) h = (node_written x h.0, nodes_written xs h.1)
 
-numbered_plain : (word : List ℕ) (n : ℕ) → above word ≡ true → n < 2 ^ 64 → Plain (numbered word n)
+numbered_plain : (word : List ℕ) (n : ℕ) → above word ≡ true → n < 2 ^ 64 → Plain (numbered_line word n)
 numbered_plain word n e lt = plain_append word (decimal n) (plain_of word e) (decimal_plain n lt)
 
-head_written : (width many : ℕ) → width < 2 ^ 64 → many < 2 ^ 64 → AreWritten (version ∷ bits width ∷ count many ∷ []) (head_lines width many)
+head_written : (width many : ℕ) → width < 2 ^ 64 → many < 2 ^ 64 → AreWritten (version ∷ bits width ∷ count many ∷ []) (cert_head_lines width many)
 unfolding above
 head_written width many w m = (
   record { plain = plain_of (codes "symk-cert 1") refl; spelled = refl },
@@ -137,7 +137,7 @@ cert_written width cert w few order =
     let nodes = nodes_written cert.nodes (small_nodes width [] cert.nodes w (omega (arith, few)) order.nodes) in
     let ends = end_written cert.root (omega (arith, r, few)) in
     written_append (version ∷ bits width ∷ count (length cert.nodes) ∷ [])
-    (map node cert.nodes ++ (root cert.root ∷ «end» ∷ [])) (head_lines width (length cert.nodes))
+    (map node cert.nodes ++ (root cert.root ∷ «end» ∷ [])) (cert_head_lines width (length cert.nodes))
     (map node_line cert.nodes ++ end_lines cert.root)
     (head_written width (length cert.nodes) w (omega (arith, few)))
     (written_append (map node cert.nodes) (root cert.root ∷ «end» ∷ []) (map node_line cert.nodes) (end_lines cert.root) nodes ends)

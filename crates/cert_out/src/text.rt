@@ -2,7 +2,7 @@
 
 ghost use Rattle.std.specs.Prelude.{◌≡◌, ◌++◌, ◌∷◌, [], OnOk, IfOk, map};
 ghost use Rattle.sas_writer.specs.Spelling.{text_of};
-ghost use Rattle.cert_out.specs.CertText.{numbered, node_line, head_lines, end_lines, cert_text};
+ghost use Rattle.cert_out.specs.CertText.{numbered_line, node_line, cert_head_lines, end_lines, cert_text};
 
 use certificates::{CertNode, Certificate};
 use std::alloc::Global;
@@ -26,7 +26,7 @@ fn push_word(text: &mut Text, word: &[u8]) -> Result<(), Memory>
 
 /// Appends a line of these bytes and a number.
 fn push_numbered(text: &mut Text, word: &[u8], number: u64) -> Result<(), Memory>
-    ensures { OnOk result (text.new ≡ text.old ++ text_of (numbered word.now number ∷ [])) }
+    ensures { OnOk result (text.new ≡ text.old ++ text_of (numbered_line word.now number ∷ [])) }
 {
     push_bytes(text, word)?;
     push_number(text, number)?;
@@ -58,7 +58,7 @@ fn push_nodes(text: &mut Text, nodes: &[CertNode]) -> Result<(), Memory>
 
 /// Appends the lines before the nodes.
 fn push_head(text: &mut Text, width: u32, count: usize) -> Result<(), Memory>
-    ensures { OnOk result (text.new ≡ text.old ++ text_of (head_lines width count)) }
+    ensures { OnOk result (text.new ≡ text.old ++ text_of (cert_head_lines width count)) }
 {
     push_word(text, b"symk-cert 1")?;
     push_numbered(text, b"bits ", u64::from(width))?;

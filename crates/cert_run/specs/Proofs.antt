@@ -12,7 +12,7 @@ use Rattle.cert_check.specs.declared.judging.CertPart.{CertPart}
 use Rattle.cert_check.specs.declared.judging.CertPart.TheVariants.{Initial, Step, Goal}
 use Rattle.cert_check.specs.declared.judging.CertVerdict.{CertVerdict}
 use Rattle.cert_check.specs.declared.judging.CertVerdict.TheVariants.{Yes, No}
-use Rattle.cert_check.specs.Judging.{Judges}
+use Rattle.cert_check.specs.Judging.{JudgesCert}
 use Rattle.cert_check.specs.Refused.{CertRefusedAt}
 use Rattle.cert_out.specs.Written.{IsProof}
 use Rattle.run_status.specs.declared.status.Status.{Status}
@@ -57,7 +57,7 @@ cert_offence_text line = codes "cert line " ++ decimal line ++ codes "\n"
 
 -- the bytes are the text of a certificate, and the verdict is true of the states that it names
 abbrev pub IsJudged : TaskParts → Bytes → CertVerdict → Type 0
-IsJudged task bytes verdict = (cert : Certificate) × IsCertOf (state_width task) (lines bytes) cert × Judges task (Named task cert) verdict
+IsJudged task bytes verdict = (cert : Certificate) × IsCertOf (state_width task) (lines bytes) cert × JudgesCert task (Named task cert) verdict
 
 -- The states are not inductive, and the text names the first part that fails.
 pub record MissesPart (task : TaskParts) (bytes out : Bytes) : Type 0 where

@@ -1,7 +1,7 @@
 //! A certificate is written and put.
 
 ghost use Rattle.std.specs.Prelude.{◌≡◌};
-ghost use Rattle.run_status.specs.Ends.{HasCauses, OrFront, Puts};
+ghost use Rattle.run_status.specs.Ends.{HasCauses, OrFront, PutsOutWith};
 ghost use Rattle.cert_run.specs.Proofs.{Proves, has_plan_text};
 
 use cert_out::write_cert;
@@ -15,7 +15,7 @@ use symk_task::Task;
 /// `Status::Proved` comes only where the task has no plan, `Status::HasPlan` only where it has one, and no other
 /// status comes but `WriteFault` and `Memory`.
 pub fn prove<K: Sink>(alloc: Global, task: &Task, sink: &mut K) -> Status
-    ensures answer { Puts (OrFront (Proves task.now)) (K.view sink.old) (K.view sink.new) result }
+    ensures answer { PutsOutWith (OrFront (Proves task.now)) (K.view sink.old) (K.view sink.new) result }
     ensures causes { HasCauses result 0 0 (K.view sink.old).faults (K.view sink.new).faults }
 {
     match write_cert(alloc, task) {

@@ -1,7 +1,7 @@
 //! A certificate is checked, and what it shows is put.
 
 ghost use Rattle.std.specs.Prelude.{◌≡◌, ◌++◌, IfOk, OnOk};
-ghost use Rattle.run_status.specs.Ends.{HasCauses, OrFront, Puts};
+ghost use Rattle.run_status.specs.Ends.{HasCauses, OrFront, PutsOutWith};
 ghost use Rattle.cert_run.specs.Proofs.{IsUnsolvable, Refutes, cert_offence_text, no_plan_text, not_shown_text, part_text};
 
 use cert_check::{CertFault, CertPart, CertVerdict, check_cert};
@@ -18,7 +18,7 @@ use symk_text::{Text, push_bytes, push_number};
 /// the first line that offends. No other status comes but `WriteFault` and `Memory`. Where `Refuted` comes no list of
 /// operators is a plan.
 pub fn refute<K: Sink>(alloc: Global, task: &Task, cert: &[u8], sink: &mut K) -> Status
-    ensures answer { Puts (OrFront (Refutes task.now cert.now)) (K.view sink.old) (K.view sink.new) result }
+    ensures answer { PutsOutWith (OrFront (Refutes task.now cert.now)) (K.view sink.old) (K.view sink.new) result }
     ensures causes { HasCauses result 0 0 (K.view sink.old).faults (K.view sink.new).faults }
     ensures no_plan { result ≡ Status.Refuted → IsUnsolvable task.now }
 {

@@ -4,7 +4,7 @@ use Rattle.std.specs.Option.{option_map_or}
 use Rattle.symk_task.specs.declared.parts.TaskParts.{TaskParts}
 use Rattle.symk_task.specs.Fits.{bits_of}
 use Rattle.line_grammar.specs.Rows.{TextOf}
-use Rattle.line_fields.specs.Numbers.{IsNumber, IsNumbered}
+use Rattle.line_grammar.specs.Numbers.{IsNumber, IsNumbered}
 use Rattle.certificates.specs.declared.node.CertNode.{CertNode}
 use Rattle.certificates.specs.declared.node.Certificate.{Certificate}
 
@@ -15,29 +15,29 @@ state_width task = sum_by bits_of task.variables
 -- Rows.
 
 -- A row of a certificate: the name and version of the format, how many bits a state has, how many nodes there are, one node, the root, or the end.
-pub data Row : Type 0 where
-  version : Row
-  bits : ℕ → Row
-  count : ℕ → Row
-  node : CertNode → Row
-  root : ℕ → Row
-  «end» : Row
+pub data CertRow : Type 0 where
+  version : CertRow
+  bits : ℕ → CertRow
+  count : ℕ → CertRow
+  node : CertNode → CertRow
+  root : ℕ → CertRow
+  «end» : CertRow
 
 -- the line is the bit and the children of the node, with a space between two numbers
 abbrev pub IsNodeLine : CertNode → List ℕ → Type 0
 IsNodeLine x line = (bit : List ℕ) × (lo : List ℕ) × (hi : List ℕ) × IsNumber bit x.bit × IsNumber lo x.lo × IsNumber hi x.hi × (line ≡ bit ++ codes " " ++ lo ++ codes " " ++ hi)
 
 -- the line spells the row
-abbrev pub IsSpelled : Row → List ℕ → Type 0
-IsSpelled version line = line ≡ codes "symk-cert 1"
-IsSpelled (bits n) line = IsNumbered (codes "bits ") n line
-IsSpelled (count n) line = IsNumbered (codes "nodes ") n line
-IsSpelled (node x) line = IsNodeLine x line
-IsSpelled (root n) line = IsNumbered (codes "root ") n line
-IsSpelled «end» line = line ≡ codes "end"
+abbrev pub IsCertRowSpelled : CertRow → List ℕ → Type 0
+IsCertRowSpelled version line = line ≡ codes "symk-cert 1"
+IsCertRowSpelled (bits n) line = IsNumbered (codes "bits ") n line
+IsCertRowSpelled (count n) line = IsNumbered (codes "nodes ") n line
+IsCertRowSpelled (node x) line = IsNodeLine x line
+IsCertRowSpelled (root n) line = IsNumbered (codes "root ") n line
+IsCertRowSpelled «end» line = line ≡ codes "end"
 
 -- the rows of a certificate of a task whose states have so many bits
-abbrev pub cert_rows : ℕ → Certificate → List Row
+abbrev pub cert_rows : ℕ → Certificate → List CertRow
 cert_rows width cert = version ∷ bits width ∷ count (length cert.nodes) ∷ map node cert.nodes ++ (root cert.root ∷ «end» ∷ [])
 
 -- Side conditions.
@@ -71,4 +71,4 @@ nothing_follows line = false
 
 -- The lines are those of a text of this certificate, of a task whose states have so many bits.
 abbrev pub IsCertOf : ℕ → List (List ℕ) → Certificate → Type 0
-IsCertOf width = TextOf IsSpelled (cert_rows width) (IsInOrder width) nothing_follows
+IsCertOf width = TextOf IsCertRowSpelled (cert_rows width) (IsInOrder width) nothing_follows

@@ -3,3 +3,13 @@ pub mod Holding
 pub mod Adding
 pub mod Putting
 pub mod Empty
+pub mod Moving
+pub mod PartsBack
+pub mod Ringing
+pub mod Growing
+pub mod Seeding
+pub mod Making
+pub mod Counting
+pub mod Trying
+pub mod Spreading
+pub mod ClosingIn

@@ -1,2 +1,10 @@
 pub mod Rings
 pub mod Layers
+pub mod Arcs
+pub mod Parts
+pub mod Rooms
+pub mod Closed
+pub mod Gathered
+pub mod Opening
+pub mod Leaving
+pub mod Reach

@@ -5,7 +5,7 @@ ghost use Rattle.task_system.specs.System.{State};
 ghost use Rattle.space_api.specs.View.{View, Valid, Has};
 ghost use Rattle.space_api.specs.Frames.{Stays};
 ghost use Rattle.run_graph.specs.Layering.{InLayer};
-ghost use Rattle.cost_layers.specs.Layers.{whole_at, Held, Stands};
+ghost use Rattle.cost_layers.specs.Layers.{union_at, Held, Stands};
 ghost use Rattle.cost_search.specs.Meeting.{IsFirstFrom, IsLayerMeeting};
 
 use cost_layers::Layers;
@@ -15,8 +15,8 @@ use space_api::{Space, SpaceFault, meets};
 ///
 /// Public, so that who walks the layers of a search, as both its sides together do, need not prove it again.
 pub fn cost_after<T: Copy>(layers: &Layers<T>, cost: u64) -> Option<u64>
-    ensures { MatchOption result ((c : ℕ) → cost < c → c < 2 ^ 64 → whole_at layers.now c ≡ None)
-        (λ n. (cost < n) × (n < 2 ^ 64) × ((c : ℕ) → cost < c → c < n → whole_at layers.now c ≡ None)) }
+    ensures { MatchOption result ((c : ℕ) → cost < c → c < 2 ^ 64 → union_at layers.now c ≡ None)
+        (λ n. (cost < n) × (n < 2 ^ 64) × ((c : ℕ) → cost < c → c < n → union_at layers.now c ≡ None)) }
 {
     if cost == u64::MAX {
         None

@@ -4,7 +4,7 @@ ghost use Rattle.std.specs.Prelude.{◌≡◌, ◌<◌, ◌≤◌, ◌^◌, ◌�
 ghost use Rattle.space_api.specs.View.{View, Valid};
 ghost use Rattle.space_api.specs.Frames.{Forgot};
 ghost use Rattle.space_api.specs.Owned.{Trades};
-ghost use Rattle.cost_layers.specs.Layers.{rings_at, whole_at, Held, Keeps, IsRing, IsWhole};
+ghost use Rattle.cost_layers.specs.Layers.{rings_at, union_at, Held, KeepsSet, IsRing, IsWhole};
 ghost use Rattle.cost_search.specs.Giving.{IsKeptAt, AreOnce, AreInRange};
 
 use crate::costs::cost_after;
@@ -35,9 +35,9 @@ fn give_back_rings<S: Space>(space: &mut S, layers: &Layers<S::Set>, cost: u64)
 
 /// Gives the union of one cost back, where it is no ring.
 fn give_back_whole<S: Space>(space: &mut S, layers: &Layers<S::Set>, cost: u64)
-    requires { (a : S.Set) → IsWhole (rings_at layers.now) (whole_at layers.now) cost a → Valid (S.view space.old) a }
+    requires { (a : S.Set) → IsWhole (rings_at layers.now) (union_at layers.now) cost a → Valid (S.view space.old) a }
     ensures { Trades (S.view space.old) (S.view space.new)
-        (IsWhole (rings_at layers.now) (whole_at layers.now) cost) (λ a. ⊥) }
+        (IsWhole (rings_at layers.now) (union_at layers.now) cost) (λ a. ⊥) }
 {
     if layers.rings(cost) > 1
         && let Some(whole) = layers.layer(cost)
@@ -60,7 +60,7 @@ fn give_back_layer<S: Space>(space: &mut S, layers: &Layers<S::Set>, cost: u64)
 pub(crate) fn give_back_layers<S: Space>(space: &mut S, layers: &Layers<S::Set>)
     requires held { Held (S.view space.old) layers.now }
     requires range { AreInRange layers.now }
-    ensures { Trades (S.view space.old) (S.view space.new) (Keeps layers.now) (λ a. ⊥) }
+    ensures { Trades (S.view space.old) (S.view space.new) (KeepsSet layers.now) (λ a. ⊥) }
 {
     let mut next = layers.next_cost(0);
     'costs: while let Some(cost) = next {

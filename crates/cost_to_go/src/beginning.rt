@@ -6,12 +6,11 @@ ghost use Rattle.run_graph.specs.Reached.{ReachedAt};
 ghost use Rattle.space_api.specs.View.{View, Valid, Has};
 ghost use Rattle.space_api.specs.Frames.{Stays};
 ghost use Rattle.space_api.specs.Owned.{Trades};
-ghost use Rattle.cost_to_go.specs.Standing.{IsCostToGo, IsOwn, HasUseful, within_of, ranks_of};
+ghost use Rattle.cost_to_go.specs.Standing.{IsCostToGo, IsOwnToGo, HasUseful, to_go_within, to_go_ranks};
 
 use crate::search::CostToGo;
 use crate::spells::Spells;
-use goal_ranks::{GoalRanks, Rings};
-use least_costs::{LeastCosts, Side};
+use goal_ranks::{GoalRanks, LeastCosts, Rings, Side};
 use space_api::{Space, SpaceFault};
 use std::alloc::Global;
 
@@ -28,9 +27,10 @@ fn begin<S: Space>(
     requires all { (c : ℕ) (s : State) → ReachedAt (S.view space.old).system c s → Has (S.view space.old) everywhere s }
     requires two { within ≢ everywhere }
     ensures stands { IfOk result (IsCostToGo (S.view space.new)) }
-    ensures within { IfOk result (λ f. within_of f ≡ within) }
-    ensures fresh { IfOk result (λ f. ranks_of f ≡ 0) }
-    ensures trades { IfOk result (λ f. Trades (S.view space.old) (S.view space.new) (λ a. a ≡ everywhere) (IsOwn f)) }
+    ensures within { IfOk result (λ f. to_go_within f ≡ within) }
+    ensures fresh { IfOk result (λ f. to_go_ranks f ≡ 0) }
+    ensures trades { IfOk result (λ f. Trades (S.view space.old) (S.view space.new) (λ a. a ≡ everywhere)
+        (IsOwnToGo f)) }
     ensures err { OnErr result (Stays (S.view space.old) (S.view space.new)) }
 {
     let ahead = LeastCosts::new(alloc, space, Side::Ahead, everywhere)?;
@@ -68,9 +68,9 @@ impl<T: Copy> CostToGo<T> {
         requires within { Valid (S.view space.old) within }
         requires wide { HasUseful (S.view space.old) within }
         ensures stands { IfOk result (IsCostToGo (S.view space.new)) }
-        ensures within { IfOk result (λ f. within_of f ≡ within) }
-        ensures fresh { IfOk result (λ f. ranks_of f ≡ 0) }
-        ensures trades { IfOk result (λ f. Trades (S.view space.old) (S.view space.new) (λ a. ⊥) (IsOwn f)) }
+        ensures within { IfOk result (λ f. to_go_within f ≡ within) }
+        ensures fresh { IfOk result (λ f. to_go_ranks f ≡ 0) }
+        ensures trades { IfOk result (λ f. Trades (S.view space.old) (S.view space.new) (λ a. ⊥) (IsOwnToGo f)) }
         ensures err { OnErr result (Stays (S.view space.old) (S.view space.new)) }
     {
         let everywhere = space.all()?;

@@ -1,8 +1,7 @@
 //! A search from both ends, and how it is given back.
 
 use crate::spells::Spells;
-use goal_ranks::{GoalRanks, Rings};
-use least_costs::LeastCosts;
+use goal_ranks::{GoalRanks, LeastCosts, Rings};
 
 /// What is left from states to the goal, as far as ranks back from there and a search ahead tell it.
 #[derive(Drop)]
@@ -22,7 +21,7 @@ pub struct CostToGo<T: Copy> {
 }
 
 ghost use Rattle.space_api.specs.Owned.{Trades};
-ghost use Rattle.cost_to_go.specs.Standing.{IsCostToGo, IsOwn};
+ghost use Rattle.cost_to_go.specs.Standing.{IsCostToGo, IsOwnToGo};
 
 use space_api::Space;
 
@@ -30,7 +29,7 @@ impl<T: Copy> CostToGo<T> {
     /// Gives each set that it made back. `within` stays.
     pub fn give_back<S: Space<Set = T>>(self, space: &mut S)
         requires { IsCostToGo (S.view space.old) self }
-        ensures { Trades (S.view space.old) (S.view space.new) (IsOwn self) (λ a. ⊥) }
+        ensures { Trades (S.view space.old) (S.view space.new) (IsOwnToGo self) (λ a. ⊥) }
     {
         self.ranks.give_back(space);
         self.ahead.give_back(space);

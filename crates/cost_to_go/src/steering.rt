@@ -3,13 +3,12 @@
 ghost use Rattle.std.specs.Prelude.{◌<◌, ◌^◌, IsTrue};
 ghost use Rattle.space_api.specs.View.{View, Valid};
 ghost use Rattle.space_api.specs.Frames.{Stays};
-ghost use Rattle.least_costs.specs.Least.{next_of};
+ghost use Rattle.goal_ranks.specs.Least.{next_of};
 ghost use Rattle.cost_to_go.specs.Standing.{IsCostToGo, ahead_in};
 
 use crate::search::CostToGo;
 use crate::spells::Reach;
-use goal_ranks::{Turn, bound_ahead};
-use least_costs::Step;
+use goal_ranks::{Step, Turn, bound_ahead};
 use space_api::{Space, SpaceFault, meets};
 
 /// How much work a step was: by what the space counts before and after it, and one for each cost of operators that the step

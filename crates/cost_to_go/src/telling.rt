@@ -4,8 +4,8 @@ ghost use Rattle.std.specs.Prelude.{◌≡◌, ◌<◌, ◌≤◌, ℕ, MatchOpt
 ghost use Rattle.task_system.specs.System.{State};
 ghost use Rattle.space_api.specs.View.{View};
 ghost use Rattle.run_graph.specs.Reached.{ToGoalAt};
-ghost use Rattle.single_states.specs.States.{IsReached};
-ghost use Rattle.cost_to_go.specs.Standing.{IsCostToGo, HasRank, HasWay, ranks_of, beyond_of, next_key_of};
+ghost use Rattle.space_api.specs.States.{IsReached};
+ghost use Rattle.cost_to_go.specs.Standing.{IsCostToGo, HasRankToGo, HasWayToGo, to_go_ranks, to_go_beyond, next_key_of};
 ghost use Rattle.cost_to_go.specs.Telling.{CostsAtLeast, TellsOutside};
 
 use crate::search::CostToGo;
@@ -28,24 +28,24 @@ impl<T: Copy> CostToGo<T> {
     /// operators to the goal, and no list from a reached state costs less; and unless it is a goal state and costs nothing,
     /// an operator leads from it to a state of a rank before, at the cost between them.
     pub fn ranks(&self) -> usize
-        ensures many { result ≡ ranks_of self.now }
+        ensures many { result ≡ to_go_ranks self.now }
         ensures few { (v : View T) → IsCostToGo v self.now → result ≤ length v.system.states }
-        ensures under { (v : View T) → (i x : ℕ) (s : State) → HasRank v self.now i x s → i < result }
-        ensures leads { (v : View T) → IsCostToGo v self.now → (i x : ℕ) (s : State) → HasRank v self.now i x s
+        ensures under { (v : View T) → (i x : ℕ) (s : State) → HasRankToGo v self.now i x s → i < result }
+        ensures leads { (v : View T) → IsCostToGo v self.now → (i x : ℕ) (s : State) → HasRankToGo v self.now i x s
             → ToGoalAt v.system x s }
-        ensures least { (v : View T) → IsCostToGo v self.now → (i x : ℕ) (s : State) → HasRank v self.now i x s
+        ensures least { (v : View T) → IsCostToGo v self.now → (i x : ℕ) (s : State) → HasRankToGo v self.now i x s
             → IsReached v.system s → CostsAtLeast v.system s x }
-        ensures once { (v : View T) → IsCostToGo v self.now → (i j x d : ℕ) (s : State) → HasRank v self.now i x s
-            → HasRank v self.now j d s → (i ≡ j) × (x ≡ d) }
-        ensures way { (v : View T) → IsCostToGo v self.now → (i x : ℕ) (s : State) → HasRank v self.now i x s
-            → HasWay v self.now i x s }
+        ensures once { (v : View T) → IsCostToGo v self.now → (i j x d : ℕ) (s : State) → HasRankToGo v self.now i x s
+            → HasRankToGo v self.now j d s → (i ≡ j) × (x ≡ d) }
+        ensures way { (v : View T) → IsCostToGo v self.now → (i x : ℕ) (s : State) → HasRankToGo v self.now i x s
+            → HasWayToGo v self.now i x s }
     {
         self.ranks.ranks()
     }
 
     /// Whether what costs more than 64 bits hold was left out.
     pub fn beyond(&self) -> bool
-        ensures { result ≡ beyond_of self.now }
+        ensures { result ≡ to_go_beyond self.now }
     {
         self.ranks.beyond()
     }
@@ -61,8 +61,8 @@ impl<T: Copy> CostToGo<T> {
     ) -> Option<Rank>
         requires stands { IsCostToGo (S.view space.now) self.now }
         requires state { IsReached (S.view space.now).system state.now }
-        ensures { MatchOption result ((i x : ℕ) → first ≤ i → low ≤ x → ¬ HasRank (S.view space.now) self.now i x
-            state.now) (λ rank. HasRank (S.view space.now) self.now rank.number rank.cost state.now) }
+        ensures { MatchOption result ((i x : ℕ) → first ≤ i → low ≤ x → ¬ HasRankToGo (S.view space.now) self.now i x
+            state.now) (λ rank. HasRankToGo (S.view space.now) self.now rank.number rank.cost state.now) }
     {
         self.ranks.rank_from(space, state, first, low)
     }

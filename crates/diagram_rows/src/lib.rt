@@ -2,9 +2,8 @@
 //! states, axioms as sets, and transition relations: those of single operators, those of one cost joined, and all of
 //! a task.
 //!
-//! There is no call: tests stand apart from the crates of which they are, so that those are proved once. It
-//! stands on `bdd_table`, `bdd_ops`, `var_order`, `bdd_sets`, `axiom_layers`, `transitions`, `trans_merge`,
-//! `operator_relations` and `small_tasks`.
+//! There is no call: tests stand apart from the crates of which they are, so that those are proved once. It stands on
+//! `bdd_table`, `bdd_ops`, `var_order`, `bdd_sets`, `axiom_layers`, `transitions`, `trans_merge` and `small_tasks`.
 #![tactic(auto)]
 
 #[cfg(test)]

@@ -5,18 +5,18 @@ ghost use Rattle.std.specs.Prelude.{◌≡◌, ◌<◌, length, IfOk, OnOk};
 ghost use Rattle.bdd_table.specs.Diagram.{means, Keeps};
 ghost use Rattle.var_order.specs.Layout.{IsOrderOf};
 ghost use Rattle.transitions.specs.Relations.{IsSet};
-ghost use Rattle.operator_relations.specs.Relations.{AreRelationsOf};
+ghost use Rattle.trans_merge.specs.Relations.{AreRelationsOf};
 
 use crate::states::{no_diagrams, states, task_of};
 use axiom_layers::compile;
 use bdd_ops::Ops;
 use bdd_table::{FALSE, Id, TableFault};
-use operator_relations::OperatorRelations;
 use small_tasks::{Draft, EffectDraft, OperatorDraft, VariableDraft};
 use std::alloc::Global;
 use std::process::Abort;
 use std::test::Fail;
 use symk_task::{Memory, Task};
+use trans_merge::OperatorRelations;
 use var_order::Order;
 
 /// The operators of cost 1 lead to the next value, and that of cost 2 from the last to the first.

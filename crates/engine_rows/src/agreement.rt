@@ -1,8 +1,10 @@
 //! Lists of tasks that seeds draw.
 
+use crate::choice::{BACKWARD, FORWARD, LIGHTER, LOWER};
+use crate::engines::{Engine, Request, Sets, listed};
 use crate::following::{Firsts, Priced, follows, give_alike};
 use crate::widening::wide_task;
-use plan_listing::{BACKWARD, Choice, Engine, FORWARD, LIGHTER, LOWER, Request, Sets, listed};
+use bidirectional::Choice;
 use std::alloc::Global;
 use std::test::Fail;
 use symk_task::{Memory, Mode, Task};

@@ -1,7 +1,8 @@
 //! What follows from a long list of all plans for the lists of a mode.
 
+use crate::costs::costs_of;
+use crate::listing::{Ending, Listing};
 use lazy_plans::Stop;
-use plan_listing::{Ending, Listing, costs_of};
 use std::alloc::Global;
 use symk_task::{Memory, Mode, Plan, Task, same};
 

@@ -1,7 +1,9 @@
 //! Rows.
 
+use crate::engines::{Engine, Request, Sets, listed, lists};
+use crate::listing::Ending;
+use crate::stops::stops_well;
 use lazy_plans::Stop;
-use plan_listing::{Ending, Engine, Request, Sets, listed, lists, stops_well};
 use small_tasks::{
     conditional_effects, later_effect_reaches, later_effect_undoes, no_plan, past_64_bits,
     switch_and_back, zero_costs,

@@ -1,9 +1,12 @@
 //! Rows.
 
+use crate::choice::CHOICES;
+use crate::engines::{Engine, Request, Sets, listed, lists};
+use crate::first::{First, first_plan};
+use crate::listing::Ending;
+use crate::stops::stops_well;
+use bidirectional::Choice;
 use lazy_plans::Stop;
-use plan_listing::{
-    CHOICES, Choice, Ending, Engine, First, Request, Sets, first_plan, listed, lists, stops_well,
-};
 use small_tasks::{
     axioms, conditional_effects, goal_at_start, near_and_far, no_operator, no_plan, one_switch,
     past_64_bits, same_name_twice, switch_and_back, two_switches, zero_costs,

@@ -12,9 +12,9 @@ use Rattle.symk_task.proofs.Places.{within_some}
 use Rattle.task_system.specs.System.{State}
 use Rattle.space_api.specs.View.{FactIn}
 use Rattle.space_api.proofs.Facts.{base_holds}
-use Rattle.explicit_space.specs.Members.{States, has_state, AreStates, HasThose}
-use Rattle.explicit_space.specs.Explicit.{Explicit, set_at}
-use Rattle.explicit_space.specs.Seen.{seen}
+use Rattle.explicit_space.specs.Members.{States, has_explicit_state, AreStates, HasThoseStates}
+use Rattle.explicit_space.specs.Explicit.{Explicit, explicit_set_at}
+use Rattle.explicit_space.specs.Seen.{explicit_view}
 use Rattle.explicit_space.proofs.Gathering.{has_as}
 use Rattle.explicit_space.proofs.Meaning.{has_is}
 
@@ -44,12 +44,14 @@ fact_says task s fact at r base e says =
     )
 
 -- as the space tells them
-module _ (e : Explicit) (fits : Fits e.task) (fact : Fact) (a : ℕ) (members : States) (is : set_at e.sets a ≡ Some members) (states : AreStates e.task members) where
-  pub fact_means : (set : States) → HasThose set (λ s. IsTrue (has_state members s) × Holds e.task s fact) → HasThose set (FactIn (seen e) fact a)
+module _ (e : Explicit) (fits : Fits e.task) (fact : Fact) (a : ℕ) (members : States)
+    (is : explicit_set_at e.sets a ≡ Some members) (states : AreStates e.task members) where
+  pub fact_means : (set : States) → HasThoseStates set (λ s. IsTrue (has_explicit_state members s)
+      × Holds e.task s fact) → HasThoseStates set (FactIn (explicit_view e) fact a)
   fact_means set = has_as set _ _ (λ s. (
     (λ h. ((has_is e fits a members is states s).0 h.0, h.1)),
     (λ h. ((has_is e fits a members is states s).1 h.0, h.1)),
   ))
 
-  pub fact_are : (set : States) → HasThose set (λ s. IsTrue (has_state members s) × Holds e.task s fact) → AreStates e.task set
+  pub fact_are : (set : States) → HasThoseStates set (λ s. IsTrue (has_explicit_state members s) × Holds e.task s fact) → AreStates e.task set
   fact_are set h s k = states s ((h s).0 k).0

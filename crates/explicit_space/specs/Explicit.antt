@@ -9,30 +9,30 @@ use Rattle.task_run.specs.declared.counting.Counting.{Counting}
 use Rattle.task_run.specs.Counted.{AreRulesOf}
 use Rattle.task_system.specs.Computed.{system_of}
 use Rattle.space_api.specs.Costs.{costs_of}
-use Rattle.explicit_space.specs.Members.{has_state}
+use Rattle.explicit_space.specs.Members.{has_explicit_state}
 
 pub record Explicit : Type 0 where
   pub task : TaskParts
   pub sets : List (Option (BTreeSet (List ℕ)))
 
 -- the set of this number, if it is there
-abbrev pub set_at : List (Option (BTreeSet (List ℕ))) → ℕ → Option (BTreeSet (List ℕ))
-set_at sets a = slice_index_or sets a None
+abbrev pub explicit_set_at : List (Option (BTreeSet (List ℕ))) → ℕ → Option (BTreeSet (List ℕ))
+explicit_set_at sets a = slice_index_or sets a None
 
 abbrev pub is_there : Option (BTreeSet (List ℕ)) → Bool
 is_there None = false
 is_there (Some members) = true
 
-abbrev pub in_set : Option (BTreeSet (List ℕ)) → List ℕ → Bool
-in_set None s = false
-in_set (Some members) s = has_state members s
+abbrev pub in_explicit_set : Option (BTreeSet (List ℕ)) → List ℕ → Bool
+in_explicit_set None s = false
+in_explicit_set (Some members) s = has_explicit_state members s
 
 -- each member of each set is a state
 abbrev pub AllStates : TaskParts → List (Option (BTreeSet (List ℕ))) → Type 0
-AllStates task sets = (a : ℕ) (s : List ℕ) → IsTrue (in_set (set_at sets a) s) → IsState task s
+AllStates task sets = (a : ℕ) (s : List ℕ) → IsTrue (in_explicit_set (explicit_set_at sets a) s) → IsState task s
 
 -- what an explicit space keeps true
-pub record Keeps (task : TaskParts) (counting : List Counting) (start listed : List ℕ) (sets : List (Option (BTreeSet (List ℕ)))) : Type 0 where
+pub record KeepsExplicit (task : TaskParts) (counting : List Counting) (start listed : List ℕ) (sets : List (Option (BTreeSet (List ℕ)))) : Type 0 where
   pub fits : Fits task
   pub rules : AreRulesOf task counting
   pub initial : IsInitial task start

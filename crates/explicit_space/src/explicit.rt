@@ -18,13 +18,13 @@ pub struct ExplicitSpace<'a> {
 }
 
 impl<'a> Model for ExplicitSpace<'a> {
-    ghost use Rattle.explicit_space.specs.Explicit.{Explicit, Keeps};
+    ghost use Rattle.explicit_space.specs.Explicit.{Explicit, KeepsExplicit};
 
     ghost Value = { Explicit };
 
     ghost view = { λ a. record { task = a.task.now; sets = a.sets.items } };
 
-    ghost invariant = { λ a. Keeps a.task.now a.rules a.initial a.costs.items a.sets.items };
+    ghost invariant = { λ a. KeepsExplicit a.task.now a.rules a.initial a.costs.items a.sets.items };
 }
 
 ghost use Rattle.std.specs.Prelude.{◌≡◌, ◌<◌, ◌↔◌, ◌⊎◌, ℕ, [], Some, length, slice_index, IsTrue, IsFalse, IfOk, OnErr, refl};
@@ -36,9 +36,9 @@ ghost use Rattle.space_api.specs.Frames.{MakesSet, Forgot};
 ghost use Rattle.space_api.specs.Listing.{ListsReached};
 ghost use Rattle.space_api.specs.Costs.{costs_of};
 ghost use Rattle.space_api.specs.Operators.{LeadInto, LeadFrom};
-ghost use Rattle.explicit_space.specs.Members.{has_state, AreStates, HasThose};
-ghost use Rattle.explicit_space.specs.Explicit.{set_at};
-ghost use Rattle.explicit_space.specs.Seen.{seen};
+ghost use Rattle.explicit_space.specs.Members.{has_explicit_state, AreStates, HasThoseStates};
+ghost use Rattle.explicit_space.specs.Explicit.{explicit_set_at};
+ghost use Rattle.explicit_space.specs.Seen.{explicit_view};
 
 use crate::facts::fact_states;
 use crate::members::{difference, intersection, is_subset, single, union};
@@ -67,8 +67,8 @@ impl<'a> ExplicitSpace<'a> {
 
     /// The members of a valid set.
     fn members(&self, a: usize) -> &BTreeSet<State>
-        requires { Valid (seen self.now) a }
-        ensures set { set_at self.now.sets a ≡ Some result.now }
+        requires { Valid (explicit_view self.now) a }
+        ensures set { explicit_set_at self.now.sets a ≡ Some result.now }
         ensures states { AreStates self.now.task result.now }
     {
         match &self.sets[a] {
@@ -80,7 +80,8 @@ impl<'a> ExplicitSpace<'a> {
     /// A new set of these members.
     fn add(&mut self, members: BTreeSet<State>) -> Result<usize, Memory>
         requires { AreStates self.old.task members }
-        ensures { MakesSet (seen self.old) (seen self.new) (λ s. IsTrue (has_state members s)) result }
+        ensures { MakesSet (explicit_view self.old) (explicit_view self.new)
+            (λ s. IsTrue (has_explicit_state members s)) result }
     {
         let at = self.sets.len();
         self.sets.push(Some(members))?;
@@ -89,86 +90,86 @@ impl<'a> ExplicitSpace<'a> {
 
     fn every_state(&self) -> Result<BTreeSet<State>, Memory>
         ensures states { IfOk result (AreStates self.now.task) }
-        ensures ok { IfOk result (λ set. HasThose set (Listed (seen self.now).system.states)) }
-        ensures reached { ListsReached (seen self.now).system }
+        ensures ok { IfOk result (λ set. HasThoseStates set (Listed (explicit_view self.now).system.states)) }
+        ensures reached { ListsReached (explicit_view self.now).system }
     {
         all_states(self.alloc, self.task.parts().variables.as_slice())
     }
 
     fn initial_state(&self) -> Result<BTreeSet<State>, Memory>
         ensures states { IfOk result (AreStates self.now.task) }
-        ensures ok { IfOk result (λ set. HasThose set (λ s. s ≡ (seen self.now).system.initial)) }
+        ensures ok { IfOk result (λ set. HasThoseStates set (λ s. s ≡ (explicit_view self.now).system.initial)) }
     {
         single(self.alloc, self.initial.copy(self.alloc)?)
     }
 
     fn goal_members(&self, a: usize) -> Result<BTreeSet<State>, Memory>
-        requires { Valid (seen self.now) a }
+        requires { Valid (explicit_view self.now) a }
         ensures states { IfOk result (AreStates self.now.task) }
-        ensures ok { IfOk result (λ set. HasThose set (GoalIn (seen self.now) a)) }
+        ensures ok { IfOk result (λ set. HasThoseStates set (GoalIn (explicit_view self.now) a)) }
     {
         goal_states(self.alloc, self.task, &self.rules, self.members(a))
     }
 
     fn fact_members(&self, fact: Fact, a: usize) -> Result<BTreeSet<State>, Memory>
         requires fact { IsBase self.now.task fact.var }
-        requires a { Valid (seen self.now) a }
+        requires a { Valid (explicit_view self.now) a }
         ensures states { IfOk result (AreStates self.now.task) }
-        ensures ok { IfOk result (λ set. HasThose set (FactIn (seen self.now) fact a)) }
+        ensures ok { IfOk result (λ set. HasThoseStates set (FactIn (explicit_view self.now) fact a)) }
     {
         fact_states(self.alloc, self.task, fact, self.members(a))
     }
 
     fn union_of(&self, a: usize, b: usize) -> Result<BTreeSet<State>, Memory>
-        requires a { Valid (seen self.now) a }
-        requires b { Valid (seen self.now) b }
+        requires a { Valid (explicit_view self.now) a }
+        requires b { Valid (explicit_view self.now) b }
         ensures states { IfOk result (AreStates self.now.task) }
-        ensures ok { IfOk result (λ set. HasThose set (Unites (seen self.now) a b)) }
+        ensures ok { IfOk result (λ set. HasThoseStates set (Unites (explicit_view self.now) a b)) }
     {
         union(self.alloc, self.members(a), self.members(b))
     }
 
     fn intersection_of(&self, a: usize, b: usize) -> Result<BTreeSet<State>, Memory>
-        requires a { Valid (seen self.now) a }
-        requires b { Valid (seen self.now) b }
+        requires a { Valid (explicit_view self.now) a }
+        requires b { Valid (explicit_view self.now) b }
         ensures states { IfOk result (AreStates self.now.task) }
-        ensures ok { IfOk result (λ set. HasThose set (Meets (seen self.now) a b)) }
+        ensures ok { IfOk result (λ set. HasThoseStates set (Meets (explicit_view self.now) a b)) }
     {
         intersection(self.alloc, self.members(a), self.members(b))
     }
 
     fn difference_of(&self, a: usize, b: usize) -> Result<BTreeSet<State>, Memory>
-        requires a { Valid (seen self.now) a }
-        requires b { Valid (seen self.now) b }
+        requires a { Valid (explicit_view self.now) a }
+        requires b { Valid (explicit_view self.now) b }
         ensures states { IfOk result (AreStates self.now.task) }
-        ensures ok { IfOk result (λ set. HasThose set (Lacks (seen self.now) a b)) }
+        ensures ok { IfOk result (λ set. HasThoseStates set (Lacks (explicit_view self.now) a b)) }
     {
         difference(self.alloc, self.members(a), self.members(b))
     }
 
     fn image_of(&self, op: u32, a: usize) -> Result<BTreeSet<State>, Memory>
-        requires a { Valid (seen self.now) a }
-        requires op { op < (seen self.now).system.operators }
+        requires a { Valid (explicit_view self.now) a }
+        requires op { op < (explicit_view self.now).system.operators }
         ensures states { IfOk result (AreStates self.now.task) }
-        ensures ok { IfOk result (λ set. HasThose set (Image (seen self.now) op a)) }
+        ensures ok { IfOk result (λ set. HasThoseStates set (Image (explicit_view self.now) op a)) }
     {
         image(self.alloc, self.task, &self.rules, op, self.members(a))
     }
 
     fn cost_image_of(&self, cost: u64, a: usize) -> Result<BTreeSet<State>, Memory>
-        requires { Valid (seen self.now) a }
+        requires { Valid (explicit_view self.now) a }
         ensures states { IfOk result (AreStates self.now.task) }
-        ensures ok { IfOk result (λ set. HasThose set (CostImage (seen self.now) cost a)) }
+        ensures ok { IfOk result (λ set. HasThoseStates set (CostImage (explicit_view self.now) cost a)) }
     {
         cost_image(self.alloc, self.task, &self.rules, cost, self.members(a))
     }
 
     fn preimage_of(&self, op: u32, a: usize, within: usize) -> Result<BTreeSet<State>, Memory>
-        requires a { Valid (seen self.now) a }
-        requires within { Valid (seen self.now) within }
-        requires op { op < (seen self.now).system.operators }
+        requires a { Valid (explicit_view self.now) a }
+        requires within { Valid (explicit_view self.now) within }
+        requires op { op < (explicit_view self.now).system.operators }
         ensures states { IfOk result (AreStates self.now.task) }
-        ensures ok { IfOk result (λ set. HasThose set (Preimage (seen self.now) op a within)) }
+        ensures ok { IfOk result (λ set. HasThoseStates set (Preimage (explicit_view self.now) op a within)) }
     {
         preimage(
             self.alloc,
@@ -186,10 +187,10 @@ impl<'a> ExplicitSpace<'a> {
         a: usize,
         within: usize,
     ) -> Result<BTreeSet<State>, Memory>
-        requires a { Valid (seen self.now) a }
-        requires within { Valid (seen self.now) within }
+        requires a { Valid (explicit_view self.now) a }
+        requires within { Valid (explicit_view self.now) within }
         ensures states { IfOk result (AreStates self.now.task) }
-        ensures ok { IfOk result (λ set. HasThose set (CostPreimage (seen self.now) cost a within)) }
+        ensures ok { IfOk result (λ set. HasThoseStates set (CostPreimage (explicit_view self.now) cost a within)) }
     {
         cost_preimage(
             self.alloc,
@@ -205,7 +206,7 @@ impl<'a> ExplicitSpace<'a> {
 impl<'a> Space for ExplicitSpace<'a> {
     type Set = usize;
 
-    ghost view = { seen };
+    ghost view = { explicit_view };
 
     ghost needs = { λ _ n. n ≡ 0 };
 

@@ -3,7 +3,7 @@
 ghost use Rattle.std.specs.Prelude.{◌≡◌, ◌<◌, ◌≤◌, ◌↔◌, count_by, take, length, slice_index, IsTrue, IfOk};
 ghost use Rattle.symk_task.specs.Variables.{is_base, IsBase};
 ghost use Rattle.symk_task.specs.Steps.{Holds};
-ghost use Rattle.explicit_space.specs.Members.{has_state, AreStates, HasThose};
+ghost use Rattle.explicit_space.specs.Members.{has_explicit_state, AreStates, HasThoseStates};
 
 use crate::members::insert_if;
 use std::alloc::Global;
@@ -41,7 +41,8 @@ pub(crate) fn fact_states(
 ) -> Result<BTreeSet<State>, Memory>
     requires fact { IsBase task.now fact.var }
     requires states { AreStates task.now members.now }
-    ensures { IfOk result (λ set. HasThose set (λ s. IsTrue (has_state members.now s) × Holds task.now s fact)) }
+    ensures { IfOk result (λ set. HasThoseStates set (λ s. IsTrue (has_explicit_state members.now s)
+        × Holds task.now s fact)) }
 {
     let place = place_of(task.parts().variables.as_slice(), fact.var);
     let mut set = BTreeSet::new(alloc);

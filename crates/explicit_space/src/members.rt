@@ -2,7 +2,7 @@
 
 ghost use Rattle.std.specs.Prelude.{◌≡◌, ◌<◌, ◌↔◌, ◌∷◌, ℕ, IsTrue, IsFalse, IfOk, OnOk};
 ghost use Rattle.task_system.specs.System.{State as state};
-ghost use Rattle.explicit_space.specs.Members.{has_state, HasThose, GrowsBy, FromMember, IsIf};
+ghost use Rattle.explicit_space.specs.Members.{has_explicit_state, HasThoseStates, GrowsBy, FromMember, IsIf};
 
 use std::alloc::Global;
 use std::collections::BTreeSet;
@@ -29,7 +29,7 @@ pub(crate) fn insert_all(
     members: &BTreeSet<State>,
     set: &mut BTreeSet<State>,
 ) -> Result<(), Memory>
-    ensures { OnOk result (GrowsBy set.old set.new (λ s. IsTrue (has_state members.now s))) }
+    ensures { OnOk result (GrowsBy set.old set.new (λ s. IsTrue (has_explicit_state members.now s))) }
 {
     for member in members {
         insert_if(alloc, member, true, set)?;
@@ -43,7 +43,7 @@ pub(crate) fn union(
     a: &BTreeSet<State>,
     b: &BTreeSet<State>,
 ) -> Result<BTreeSet<State>, Memory>
-    ensures { IfOk result (λ set. GrowsBy a.now set (λ s. IsTrue (has_state b.now s))) }
+    ensures { IfOk result (λ set. GrowsBy a.now set (λ s. IsTrue (has_explicit_state b.now s))) }
 {
     let mut set = BTreeSet::new(alloc);
     insert_all(alloc, a, &mut set)?;
@@ -57,7 +57,8 @@ pub(crate) fn intersection(
     a: &BTreeSet<State>,
     b: &BTreeSet<State>,
 ) -> Result<BTreeSet<State>, Memory>
-    ensures { IfOk result (λ set. HasThose set (λ s. IsTrue (has_state a.now s) × IsTrue (has_state b.now s))) }
+    ensures { IfOk result (λ set. HasThoseStates set (λ s. IsTrue (has_explicit_state a.now s)
+        × IsTrue (has_explicit_state b.now s))) }
 {
     let mut set = BTreeSet::new(alloc);
     for member in a {
@@ -72,7 +73,8 @@ pub(crate) fn difference(
     a: &BTreeSet<State>,
     b: &BTreeSet<State>,
 ) -> Result<BTreeSet<State>, Memory>
-    ensures { IfOk result (λ set. HasThose set (λ s. IsTrue (has_state a.now s) × IsFalse (has_state b.now s))) }
+    ensures { IfOk result (λ set. HasThoseStates set (λ s. IsTrue (has_explicit_state a.now s)
+        × IsFalse (has_explicit_state b.now s))) }
 {
     let mut set = BTreeSet::new(alloc);
     for member in a {
@@ -83,7 +85,8 @@ pub(crate) fn difference(
 
 /// Whether each member of `a` is one of `b`.
 pub(crate) fn is_subset(a: &BTreeSet<State>, b: &BTreeSet<State>) -> bool
-    ensures { IsTrue result ↔ ((s : state) → IsTrue (has_state a.now s) → IsTrue (has_state b.now s)) }
+    ensures { IsTrue result ↔ ((s : state) → IsTrue (has_explicit_state a.now s)
+        → IsTrue (has_explicit_state b.now s)) }
 {
     for member in a {
         if !b.contains(member) {
@@ -95,7 +98,7 @@ pub(crate) fn is_subset(a: &BTreeSet<State>, b: &BTreeSet<State>) -> bool
 
 /// The set of one state.
 pub(crate) fn single(alloc: Global, state: State) -> Result<BTreeSet<State>, Memory>
-    ensures { IfOk result (λ set. HasThose set (λ s. s ≡ state)) }
+    ensures { IfOk result (λ set. HasThoseStates set (λ s. s ≡ state)) }
 {
     let mut set = BTreeSet::new(alloc);
     set.insert(state)?;

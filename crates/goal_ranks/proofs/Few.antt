@@ -3,8 +3,8 @@ use Rattle.std.proofs.Common.{◌≡◌, ℕ, suc, ◌≤◌, Bool, IsTrue, List
 use Rattle.task_system.specs.System.{State}
 use Rattle.space_api.specs.View.{View}
 use Rattle.space_api.specs.Owned.{Amid}
-use Rattle.least_costs.proofs.Counting.{without, without_lt, without_has}
-use Rattle.least_costs.proofs.Ending.{listed_amid}
+use Rattle.goal_ranks.proofs.Counting.{without, without_lt, without_has}
+use Rattle.goal_ranks.proofs.Ending.{listed_amid}
 use Rattle.goal_ranks.specs.declared.parts.Ranked.{Ranked}
 use Rattle.goal_ranks.specs.declared.search.GoalRanks.{GoalRanks}
 use Rattle.goal_ranks.specs.Ranks.{IsGoalRanks, ranks_of, items_of}

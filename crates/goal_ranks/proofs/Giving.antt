@@ -9,7 +9,7 @@ use Rattle.space_api.proofs.Trading.{trades_as, trades_both, trades_forgot, trad
 use Rattle.goal_ranks.specs.declared.parts.Ranked.{Ranked}
 use Rattle.goal_ranks.specs.declared.parts.Waiting.{Waiting}
 use Rattle.goal_ranks.specs.Giving.{RankSet, SlotSet, InSlot, AllOf, OnceEach}
-use Rattle.goal_ranks.specs.Ranks.{AreSets, Seat, Rest, OfRank, OfSlot, SetAt}
+use Rattle.goal_ranks.specs.Ranks.{AreRankSets, Seat, Rest, OfRank, OfSlot, SetAt}
 
 -- a has a number below n
 abbrev pub Below : {Set : Type 0} → (ℕ → Set → Type 0) → ℕ → Set → Type 0
@@ -78,7 +78,7 @@ pub slot_low : {Set : Type 0} (slots : List (Option (Waiting Set))) (i : ℕ) (a
 slot_low slots i a h = slice_get_within slots i (Some h.0) h.1
 
 module _ {Set : Type 0} (v u w x : View Set) (within left : Set) (ranks : List (Ranked Set))
-    (slots : List (Option (Waiting Set))) (z : AreSets v within left ranks slots) where
+    (slots : List (Option (Waiting Set))) (z : AreRankSets v within left ranks slots) where
   pub rank_valid : (i : ℕ) (a : Set) → RankSet ranks i a → Valid v a
   rank_valid i a h = z.valid (OfRank i) a h
 

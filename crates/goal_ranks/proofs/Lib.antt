@@ -18,3 +18,8 @@ pub mod Uniting
 pub mod Firsts
 pub mod Few
 pub mod Settling
+pub mod LeastSettling
+pub mod Leading
+pub mod Counting
+pub mod Ending
+pub mod Standing

@@ -5,35 +5,36 @@ use Rattle.space_api.specs.View.{View, Has}
 use Rattle.space_api.proofs.Trading.{valid_clash}
 use Rattle.run_graph.specs.Layering.{InLayer}
 use Rattle.run_graph.specs.Reached.{ReachedAt}
-use Rattle.cost_layers.specs.Layers.{rings_at, whole_at, Stands, Held}
+use Rattle.cost_layers.specs.Layers.{rings_at, union_at, Stands, Held}
 use Rattle.cost_layers.specs.declared.layers.Layers.{Layers}
 use Rattle.cost_layers.proofs.Holding.{layer_at}
 use Rattle.cost_search.specs.Search.{layers_of}
 use Rattle.cost_search.proofs.Coming.{bound_of as next_bound, ComesAfter, next_past}
 use Rattle.cost_search.proofs.Meeting.{no_stand}
-use Rattle.least_costs.specs.Least.{search_of}
-use Rattle.least_costs.specs.declared.search.LeastCosts.{LeastCosts}
+use Rattle.goal_ranks.specs.Least.{least_search}
+use Rattle.goal_ranks.specs.declared.least.LeastCosts.{LeastCosts}
 use Rattle.goal_ranks.specs.Ahead.{IsAhead, bound_of}
 use Rattle.goal_ranks.proofs.Keys.{stands_below}
 
 module _ {Set : Type 0} (v : View Set) (l : Layers Set) (held : Held v l) (s : State) where
-  pub none_in : (c : ℕ) → whole_at l c ≡ None → InLayer (Stands v l) c s → ⊥
+  pub none_in : (c : ℕ) → union_at l c ≡ None → InLayer (Stands v l) c s → ⊥
   none_in c e (i, h) = no_stand v l c i s held e h
 
-  pub whole_has : (c : ℕ) (whole : Set) → whole_at l c ≡ Some whole → Has v whole s ↔ InLayer (Stands v l) c s
-  whole_has c whole e = (layer_at v (rings_at l c) (whole_at l c) whole e (held.each c)).parts s
+  pub whole_has : (c : ℕ) (whole : Set) → union_at l c ≡ Some whole → Has v whole s ↔ InLayer (Stands v l) c s
+  whole_has c whole e = (layer_at v (rings_at l c) (union_at l c) whole e (held.each c)).parts s
 
   -- no layer before one has the state, nor that one: none before the next has it
   pub none_past : (c : ℕ) (o : Option ℕ) → ((d : ℕ) → d < c → ¬ InLayer (Stands v l) d s) → ¬ InLayer (Stands v l) c s
-      → ComesAfter (whole_at l) c o → (d : ℕ) → d < next_bound o → ¬ InLayer (Stands v l) d s
-  none_past c o below here after = next_past (whole_at l) (λ d. ¬ InLayer (Stands v l) d s) none_in c o below here after
+      → ComesAfter (union_at l) c o → (d : ℕ) → d < next_bound o → ¬ InLayer (Stands v l) d s
+  none_past c o below here after = next_past (union_at l) (λ d. ¬ InLayer (Stands v l) d s) none_in c o below here after
 
 below_or : (m n : ℕ) → (m < n) ⊎ (n ≤ m)
 below_or m n = grind arith
 
 module _ {Set : Type 0} (v : View Set) (f : LeastCosts Set) (z : IsAhead v f) (s : State) where
   -- where no layer below n has the state, runs to it cost n
-  pub none_less : (n : ℕ) → n ≤ bound_of f → ((d : ℕ) → d < n → ¬ InLayer (Stands v (layers_of (search_of f))) d s) → (a : ℕ) → ReachedAt v.system a s → n ≤ a
+  pub none_less : (n : ℕ) → n ≤ bound_of f → ((d : ℕ) → d < n → ¬ InLayer (Stands v (layers_of (least_search f))) d s)
+      → (a : ℕ) → ReachedAt v.system a s → n ≤ a
   none_less n few none a run = elim (below_or a n) [
     | inr ge ↦ ge
     | inl lt ↦
@@ -49,7 +50,7 @@ not_true b P same lacks p = valid_clash (same.1 p) lacks
 
 -- no layer before the first has the state
 pub none_first : {Set : Type 0} (v : View Set) (l : Layers Set) → Held v l → (s : State) (o : Option ℕ)
-    → MatchOption o ((d : ℕ) → 0 ≤ d → whole_at l d ≡ None) (λ n. (d : ℕ) → 0 ≤ d → d < n → whole_at l d ≡ None)
+    → MatchOption o ((d : ℕ) → 0 ≤ d → union_at l d ≡ None) (λ n. (d : ℕ) → 0 ≤ d → d < n → union_at l d ≡ None)
     → (d : ℕ) → d < next_bound o → ¬ InLayer (Stands v l) d s
 none_first v l held s None m d lt = none_in v l held s d (m d (omega arith))
 none_first v l held s (Some n) m d lt = none_in v l held s d (m d (omega arith) lt)

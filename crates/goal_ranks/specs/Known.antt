@@ -23,8 +23,8 @@ pub record LeadsLower {Set : Type 0} (v : View Set) (g : GoalRanks Set) (i x : �
   pub lower : number < i
 
 -- s is a goal state and costs nothing, or an operator leads to a lower rank
-abbrev pub HasWay : {Set : Type 0} → View Set → GoalRanks Set → ℕ → ℕ → State → Type 0
-HasWay v g i x s = ((x ≡ 0) × IsTrue (v.system.goal s)) ⊎ LeadsLower v g i x s
+abbrev pub HasWayDown : {Set : Type 0} → View Set → GoalRanks Set → ℕ → ℕ → State → Type 0
+HasWayDown v g i x s = ((x ≡ 0) × IsTrue (v.system.goal s)) ⊎ LeadsLower v g i x s
 
 -- what the last set with a rank costs, or None where no set has one
 abbrev pub IsNewest : {Set : Type 0} → List (Ranked Set) → Option ℕ → Type 0

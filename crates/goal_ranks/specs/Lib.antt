@@ -12,3 +12,5 @@ pub mod Nearing
 pub mod Known
 pub mod Giving
 pub mod Unions
+pub mod Least
+pub mod Ending

@@ -8,7 +8,7 @@ pub(crate) struct Least {
 }
 
 ghost use Rattle.std.specs.Prelude.{◌≡◌, ◌↔◌, ℕ, IsTrue, Option, Some};
-ghost use Rattle.goal_ranks.specs.Lists.{FirstOf, present_key, slot_key, arcs_key};
+ghost use Rattle.goal_ranks.specs.Lists.{LesserOf, present_key, slot_key, arcs_key};
 
 use crate::parts::{Ranked, Waiting};
 
@@ -96,7 +96,7 @@ pub(crate) enum First {
 
 /// The lesser of two least keys, and of the same one the arcs'.
 pub(crate) fn first_of(slot: Option<Least>, arcs: Option<Least>) -> First
-    ensures { FirstOf slot arcs result }
+    ensures { LesserOf slot arcs result }
 {
     match (slot, arcs) {
         (None, None) => First::Nothing,

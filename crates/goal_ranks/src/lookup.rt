@@ -10,20 +10,19 @@ pub struct Rank {
 ghost use Rattle.std.specs.Prelude.{◌≡◌, ◌+◌, ◌<◌, ◌≤◌, ◌^◌, ℕ, ◌↔◌, IsTrue, IsFalse, IfSome, IfNone, MatchOption, length};
 ghost use Rattle.task_system.specs.System.{State};
 ghost use Rattle.space_api.specs.View.{View, Valid, Has};
-ghost use Rattle.single_states.specs.States.{IsReached};
+ghost use Rattle.space_api.specs.States.{IsReached};
 ghost use Rattle.run_graph.specs.Reached.{ReachedAt, AtCost, ReachedInside};
 ghost use Rattle.run_graph.specs.declared.Side.TheVariants.{Back};
-ghost use Rattle.rank_laws.specs.Inside.{InsideAt};
-ghost use Rattle.rank_laws.specs.Ranks.{NoneBelow};
+ghost use Rattle.run_graph.specs.Inside.{InsideAt};
+ghost use Rattle.run_graph.specs.Ranks.{NoneBelow};
 ghost use Rattle.goal_ranks.specs.Lists.{IsNextKey, IsFirstWaiting};
-ghost use Rattle.goal_ranks.specs.Ranks.{IsGoalRanks, HasRank, WaitsIn, within_of, ranks_of, beyond_of, left_of, items_of, slots_of};
-ghost use Rattle.goal_ranks.specs.Known.{HasWay, IsOutside, IsNewest};
+ghost use Rattle.goal_ranks.specs.Ranks.{IsGoalRanks, HasRank, WaitsIn, rank_within, ranks_of, rank_beyond, unranked_of, items_of, slots_of};
+ghost use Rattle.goal_ranks.specs.Known.{HasWayDown, IsOutside, IsNewest};
 
 use crate::lists::First;
 use crate::parts::{Ranked, Waiting};
 use crate::search::GoalRanks;
-use single_states::has_state;
-use space_api::Space;
+use space_api::{Space, has_state};
 use symk_task::State;
 
 /// Whether the ranked set has the state, and costs so much at least.
@@ -93,7 +92,7 @@ impl<T: Copy> GoalRanks<T> {
 
     /// The states that may have a rank and have none. The set stays its owner's, until a turn.
     pub fn left(&self) -> T
-        ensures { result ≡ left_of self.now }
+        ensures { result ≡ unranked_of self.now }
     {
         self.left
     }
@@ -115,11 +114,11 @@ impl<T: Copy> GoalRanks<T> {
         ensures many { result ≡ ranks_of self.now }
         ensures few { (v : View T) → IsGoalRanks v self.now → result ≤ length v.system.states }
         ensures least { (v : View T) → IsGoalRanks v self.now → (i x : ℕ) (s : State) → HasRank v self.now i x s
-            → AtCost Back v.system x s × ((d : ℕ) → InsideAt Back v.system (Has v (within_of self.now)) d s → x ≤ d) }
+            → AtCost Back v.system x s × ((d : ℕ) → InsideAt Back v.system (Has v (rank_within self.now)) d s → x ≤ d) }
         ensures once { (v : View T) → IsGoalRanks v self.now → (i j x d : ℕ) (s : State) → HasRank v self.now i x s
             → HasRank v self.now j d s → (i ≡ j) × (x ≡ d) }
         ensures way { (v : View T) → IsGoalRanks v self.now → (i x : ℕ) (s : State) → HasRank v self.now i x s
-            → HasWay v self.now i x s }
+            → HasWayDown v self.now i x s }
     {
         self.ranks.len()
     }
@@ -132,9 +131,10 @@ impl<T: Copy> GoalRanks<T> {
             (NoneBelow (WaitsIn v self.now)) }
         ensures bound { (v : View T) → IsGoalRanks v self.now → IfSome result (λ n. (s : State)
             → IsOutside v self.now s → (a d : ℕ) → ReachedAt v.system a s
-            → InsideAt Back v.system (Has v (within_of self.now)) d s → d < 2 ^ 64 → n ≤ a + d) }
+            → InsideAt Back v.system (Has v (rank_within self.now)) d s → d < 2 ^ 64 → n ≤ a + d) }
         ensures closed { (v : View T) → IsGoalRanks v self.now → IfNone result ((s : State)
-            → IsOutside v self.now s → (d : ℕ) → InsideAt Back v.system (Has v (within_of self.now)) d s → 2 ^ 64 ≤ d) }
+            → IsOutside v self.now s → (d : ℕ) → InsideAt Back v.system (Has v (rank_within self.now)) d s
+            → 2 ^ 64 ≤ d) }
     {
         match self.first() {
             First::Nothing => None,
@@ -146,10 +146,11 @@ impl<T: Copy> GoalRanks<T> {
     /// Whether arcs were left out that cost more than 64 bits hold. Where none were and nothing waits, each state has a
     /// rank from which a run inside `within` leads to the goal.
     pub fn beyond(&self) -> bool
-        ensures value { result ≡ beyond_of self.now }
+        ensures value { result ≡ rank_beyond self.now }
         ensures all { (v : View T) → IsGoalRanks v self.now → IsFalse result
             → ((k x : ℕ) (s : State) → ¬ WaitsIn v self.now k x s) → (s : State)
-            → ReachedInside Back v.system (Has v (within_of self.now)) s → (i : ℕ) × (x : ℕ) × HasRank v self.now i x s }
+            → ReachedInside Back v.system (Has v (rank_within self.now)) s → (i : ℕ) × (x : ℕ)
+            × HasRank v self.now i x s }
     {
         self.beyond
     }

@@ -2,18 +2,17 @@
 
 ghost use Rattle.std.specs.Prelude.{◌≡◌, ◌<◌, ◌≤◌, ◌↔◌, ℕ, IsTrue};
 ghost use Rattle.space_api.specs.View.{View};
-ghost use Rattle.single_states.specs.States.{IsReached};
+ghost use Rattle.space_api.specs.States.{IsReached};
 ghost use Rattle.run_graph.specs.Layering.{InLayer};
 ghost use Rattle.run_graph.specs.Reached.{ReachedAt};
 ghost use Rattle.cost_layers.specs.Layers.{Held, Stands};
 ghost use Rattle.goal_ranks.specs.Ahead.{IsAhead, bound_of};
 
+use crate::least::LeastCosts;
 use crate::telling::bound_ahead;
 use cost_layers::Layers;
 use cost_search::cost_after;
-use least_costs::LeastCosts;
-use single_states::has_state;
-use space_api::Space;
+use space_api::{Space, has_state};
 use symk_task::State;
 
 /// Whether the layer of this cost has the state.

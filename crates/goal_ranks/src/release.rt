@@ -3,7 +3,7 @@
 ghost use Rattle.std.specs.Prelude.{ℕ};
 ghost use Rattle.space_api.specs.View.{View, Valid};
 ghost use Rattle.space_api.specs.Owned.{Trades};
-ghost use Rattle.goal_ranks.specs.Ranks.{IsGoalRanks, IsOwn};
+ghost use Rattle.goal_ranks.specs.Ranks.{IsGoalRanks, IsOwnSetOfRanks};
 ghost use Rattle.goal_ranks.specs.Giving.{RankSet, SlotSet, InSlot, AllOf, OnceEach};
 
 use crate::parts::{Ranked, Waiting};
@@ -49,7 +49,7 @@ impl<T: Copy> GoalRanks<T> {
     /// Gives each set that it made back. `within` stays.
     pub fn give_back<S: Space<Set = T>>(self, space: &mut S)
         requires { IsGoalRanks (S.view space.old) self }
-        ensures { Trades (S.view space.old) (S.view space.new) (IsOwn self) (λ a. ⊥) }
+        ensures { Trades (S.view space.old) (S.view space.new) (IsOwnSetOfRanks self) (λ a. ⊥) }
     {
         forget_ranks(space, &self.ranks);
         forget_slots(space, &self.slots);

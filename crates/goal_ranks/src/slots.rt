@@ -5,7 +5,7 @@ ghost use Rattle.std.specs.List.{sum_by};
 ghost use Rattle.goal_ranks.specs.Agenda.{entries_of};
 ghost use Rattle.goal_ranks.specs.Entries.{AreEntries};
 ghost use Rattle.goal_ranks.specs.Lists.{slot_key};
-ghost use Rattle.goal_ranks.specs.Slots.{Fills, PutsIn};
+ghost use Rattle.goal_ranks.specs.Slots.{FillsSlot, PutsInSlot};
 ghost use Rattle.goal_ranks.specs.Nearing.{slot_work};
 
 use crate::agenda::Agenda;
@@ -25,7 +25,7 @@ fn fill<T: Copy>(
     free: &mut Vec<usize>,
     waiting: Waiting<T>,
 ) -> Result<usize, Memory>
-    ensures ok { IfOk result (Fills slots.old.items slots.new.items waiting) }
+    ensures ok { IfOk result (FillsSlot slots.old.items slots.new.items waiting) }
     ensures work { OnOk result (sum_by slot_work slots.new.items ≡ sum_by slot_work slots.old.items
         + slot_work (Some waiting)) }
     ensures err { OnErr result (slots.new.items ≡ slots.old.items) }
@@ -49,7 +49,7 @@ pub(crate) fn put<T: Copy>(
     waiting: Waiting<T>,
 ) -> Result<(), Memory>
     requires { AreEntries slot_key slots.old.items (entries_of keys.old) }
-    ensures ok { OnOk result (PutsIn slots.old.items slots.new.items waiting) }
+    ensures ok { OnOk result (PutsInSlot slots.old.items slots.new.items waiting) }
     ensures work { OnOk result (sum_by slot_work slots.new.items ≡ sum_by slot_work slots.old.items
         + slot_work (Some waiting)) }
     ensures err { OnErr result (slots.new.items ≡ slots.old.items) }

@@ -29,13 +29,13 @@ ghost use Rattle.space_api.specs.Frames.{Kept, NoMore, Gives, Stays};
 ghost use Rattle.cost_layers.specs.Layers.{Held, Stands};
 ghost use Rattle.cost_search.specs.Meeting.{IsLayerMeeting};
 ghost use Rattle.run_graph.specs.Layering.{InLayer};
-ghost use Rattle.goal_ranks.specs.Ahead.{IsAhead, bound_of, IsKeyOf, Tells, Divides};
+ghost use Rattle.goal_ranks.specs.Ahead.{IsAhead, bound_of, IsKeyOf, RingsTell, Divides};
 ghost use Rattle.goal_ranks.specs.Unions.{AreAllRings};
 
+use crate::least::LeastCosts;
 use crate::parts::Waiting;
 use crate::rings::Rings;
 use cost_layers::Layers;
-use least_costs::LeastCosts;
 use space_api::{Space, SpaceFault, meets};
 
 /// What a key leaves beyond a cost, where 64 bits hold it.
@@ -101,7 +101,7 @@ fn tell_by_rings<S: Space>(
     requires key { IsKeyOf (S.view space.old).system (Has (S.view space.old) set) cost key }
     requires low { key < cost + bound_of ahead.now }
     ensures stays { Stays (S.view space.old) (S.view space.new) }
-    ensures ok { IfOk result (Tells (S.view space.old) ahead.now set cost key) }
+    ensures ok { IfOk result (RingsTell (S.view space.old) ahead.now set cost key) }
 {
     let cost = cost as u128;
     match rings.first(space, set)? {
@@ -129,7 +129,7 @@ fn tell<S: Space>(
     requires set { Valid (S.view space.old) set }
     requires key { IsKeyOf (S.view space.old).system (Has (S.view space.old) set) cost key }
     ensures stays { Stays (S.view space.old) (S.view space.new) }
-    ensures ok { IfOk result (Tells (S.view space.old) ahead.now set cost key) }
+    ensures ok { IfOk result (RingsTell (S.view space.old) ahead.now set cost key) }
 {
     let bound = bound_ahead(ahead);
     if cost as u128 + bound <= key {

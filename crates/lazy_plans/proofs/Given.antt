@@ -2,29 +2,29 @@
 use Rattle.std.proofs.Common.{ℕ, List, Option, Some, None, Result, Ok, Err}
 use Rattle.symk_task.specs.declared.parts.Mode.{Mode}
 use Rattle.task_system.specs.System.{System}
-use Rattle.lazy_plans.specs.Law.{Stays, Stops, NoneLeft, Turned, Ended, last_of}
+use Rattle.lazy_plans.specs.Law.{PendsAlike, MayStop, NoneLeft, Turned, Ended, last_of}
 use Rattle.lazy_plans.specs.declared.stop.Stop.{Stop}
 use Rattle.lazy_plans.specs.declared.stop.Stop.TheVariants.{Memory, CostRange}
 
 -- the law seen from an earlier value of which the same pends
-pub stays_trans : (a b c : List ℕ → Type 0) → Stays a b → Stays b c → Stays a c
+pub stays_trans : (a b c : List ℕ → Type 0) → PendsAlike a b → PendsAlike b c → PendsAlike a c
 stays_trans a b c s t q = ((λ h. (s q).0 ((t q).0 h)), (λ h. (t q).1 ((s q).1 h)))
 
 none_from : (y : System) (most : Option ℕ) (a b : List ℕ → Type 0) → ((q : List ℕ) → b q → a q) → NoneLeft y most a → NoneLeft y most b
 none_from y None a b s n = λ q h. n q (s q h)
 none_from y (Some c) a b s n = λ q h. n q (s q h)
 
-stops_from : (y : System) (most : Option ℕ) (a b : List ℕ → Type 0) (stop : Stop) → Stays a b → Stops y most a stop → Stops y most b stop
+stops_from : (y : System) (most : Option ℕ) (a b : List ℕ → Type 0) (stop : Stop) → PendsAlike a b → MayStop y most a stop → MayStop y most b stop
 stops_from y None a b Memory s h = tt
 stops_from y (Some c) a b Memory s h = tt
 stops_from y None a b CostRange s h = ((h.0.0, (s h.0.0).1 h.0.1), (λ q k. h.1 q ((s q).0 k)))
 stops_from y (Some c) a b CostRange s h = absurd h
 
-stays_back : (a b : List ℕ → Type 0) → Stays a b → Stays b a
+stays_back : (a b : List ℕ → Type 0) → PendsAlike a b → PendsAlike b a
 stays_back a b s q = ((s q).1, (s q).0)
 
 pub turned_from : (y : System) (m : Mode) (most : Option ℕ) (a b c : List ℕ → Type 0)
-    (r : Result (Option (List ℕ)) Stop) → Stays a b → Turned y m most b c r → Turned y m most a c r
+    (r : Result (Option (List ℕ)) Stop) → PendsAlike a b → Turned y m most b c r → Turned y m most a c r
 turned_from y m most a b c (Ok (Some p)) s g = record {
   pended = (s p).0 g.pended;
   fits = g.fits;

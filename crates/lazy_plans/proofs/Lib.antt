@@ -1,3 +1,13 @@
 pub mod Given
 pub mod ListLaw
 pub mod Told
+pub mod Rearranged
+pub mod Keyed
+pub mod Draws
+pub mod Splits
+pub mod Traces
+pub mod Once
+pub mod Growing
+pub mod Turns
+pub mod Falls
+pub mod Owed

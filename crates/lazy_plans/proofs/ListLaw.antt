@@ -7,10 +7,10 @@ use Rattle.std.proofs.lemmas.List.{get_or_append_left, length_push}
 use Rattle.std.proofs.lemmas.List.Quantifiers.{Any-push}
 use Rattle.symk_task.specs.declared.parts.Mode.{Mode}
 use Rattle.symk_task.specs.Plans.{Same, IsListed}
-use Rattle.task_system.specs.System.{System, IsPlanOf, IsRight, AllListed, AllInRange, HasDearer, same, cost_of}
+use Rattle.task_system.specs.System.{System, IsSystemPlanOf, IsRightOfSystem, AllSystemPlansListed, AllSystemPlansInRange, HasDearerSystemPlan, same, cost_in_system}
 use Rattle.task_system.proofs.SameLaw.{same_law}
 use Rattle.task_system.proofs.GrowLaw.{grow_law}
-use Rattle.lazy_plans.specs.Law.{Gave, Stays, Stops, Fair, Dear, NoneLeft}
+use Rattle.lazy_plans.specs.Law.{Gave, PendsAlike, MayStop, Fair, Dear, NoneLeft}
 use Rattle.lazy_plans.specs.Rest.{Rest, IsGood, EndsBy, IsMissing}
 use Rattle.lazy_plans.specs.declared.stop.Stop.TheVariants.{CostRange}
 
@@ -63,7 +63,7 @@ unmatched true d n = absurd (n (d.0 refl))
 unmatched false d n = refl
 
 pub rest_first : (system : System) (mode : Mode) (most : Option ℕ) (pends : List ℕ → Type 0)
-    → Fair system mode most pends → ((p : List ℕ) → IsPlanOf system mode p → pends p) → Rest system mode [] pends
+    → Fair system mode most pends → ((p : List ℕ) → IsSystemPlanOf system mode p → pends p) → Rest system mode [] pends
 rest_first system mode most pends fair whole q = (λ h. (fair.members q h, any_none (Same mode q)), λ h. whole q h.0)
 
 pub rest_without : (system : System) (mode : Mode) (plans : List (List ℕ)) (whole pends : List ℕ → Type 0)
@@ -75,34 +75,35 @@ rest_without system mode plans whole pends rest is q = (
 )
 
 module _ (system : System) (mode : Mode) (plans : List (List ℕ)) (before : List ℕ → Type 0) (rest : Rest system mode plans before) where
-  listed : (q : List ℕ) → IsPlanOf system mode q → ¬ before q → IsListed mode plans q
+  listed : (q : List ℕ) → IsSystemPlanOf system mode q → ¬ before q → IsListed mode plans q
   listed q plan off = elim (listed_or mode plans q) [ inl a ↦ a | inr n ↦ absurd (off ((rest q).1 (plan, n))) ]
 
   -- a plan that costs less than all that pend is listed
-  below : (c : ℕ) → ((q : List ℕ) → before q → c ≤ cost_of system q) → (q : List ℕ) → IsPlanOf system mode q → cost_of system q < c → IsListed mode plans q
-  below c least q plan lt = listed q plan (λ b. not_less c (cost_of system q) (least q b) lt)
+  below : (c : ℕ) → ((q : List ℕ) → before q → c ≤ cost_in_system system q) → (q : List ℕ)
+      → IsSystemPlanOf system mode q → cost_in_system system q < c → IsListed mode plans q
+  below c least q plan lt = listed q plan (λ b. not_less c (cost_in_system system q) (least q b) lt)
 
-  pub rest_stays : (after : List ℕ → Type 0) → Stays before after → Rest system mode plans after
+  pub rest_stays : (after : List ℕ → Type 0) → PendsAlike before after → Rest system mode plans after
   rest_stays after s q = ((λ a. (rest q).0 ((s q).0 a)), (λ h. (s q).1 ((rest q).1 h)))
 
-  pub exhausted : NoneLeft system None before → AllListed system mode plans
+  pub exhausted : NoneLeft system None before → AllSystemPlansListed system mode plans
   exhausted none q plan = listed q plan (none q)
 
   -- no plan up to this cost is left
-  pub all_up_to : (c : ℕ) → Dear system c before → (q : List ℕ) → IsPlanOf system mode q → cost_of system q ≤ c → IsListed mode plans q
+  pub all_up_to : (c : ℕ) → Dear system c before → (q : List ℕ) → IsSystemPlanOf system mode q → cost_in_system system q ≤ c → IsListed mode plans q
   all_up_to c dear q plan le = listed q plan (λ b. not_less _ _ le (dear q b))
 
-  pub out_of_range : Stops system None before CostRange → AllInRange system mode plans × HasDearer system mode
+  pub out_of_range : MayStop system None before CostRange → AllSystemPlansInRange system mode plans × HasDearerSystemPlan system mode
   out_of_range h = (
     (λ q plan lt. all_up_to (2 ^ 64 - 1) h.1 q plan (omega (arith, lt))),
     (h.0.0, ((rest h.0.0).0 h.0.1).0, omega (arith, h.1 h.0.0 h.0.1)),
   )
 
   module _ (most : Option ℕ) (after : List ℕ → Type 0) (p : List ℕ) (gave : Gave system mode most before after p) where
-    pub right_more : IsRight system mode plans → IsRight system mode (plans ++ p ∷ [])
+    pub right_more : IsRightOfSystem system mode plans → IsRightOfSystem system mode (plans ++ p ∷ [])
     right_more right =
         let h = (rest p).0 gave.pended in
-        grow_law system mode plans p right h.0 h.1 (below (cost_of system p) gave.least)
+        grow_law system mode plans p right h.0 h.1 (below (cost_in_system system p) gave.least)
 
     pub rest_more : Rest system mode (plans ++ p ∷ []) after
     rest_more q = (
@@ -116,7 +117,7 @@ module _ (system : System) (mode : Mode) (plans : List (List ℕ)) (before : Lis
       )),
     )
 
-    pub missing : IsSomeAnd (slice_get plans (length plans - 1)) (λ last. cost_of system p < cost_of system last) → IsMissing system mode plans p
+    pub missing : IsSomeAnd (slice_get plans (length plans - 1)) (λ last. cost_in_system system p < cost_in_system system last) → IsMissing system mode plans p
     missing cheaper = record {
       plan = ((rest p).0 gave.pended).0;
       unlisted = ((rest p).0 gave.pended).1;
@@ -125,7 +126,8 @@ module _ (system : System) (mode : Mode) (plans : List (List ℕ)) (before : Lis
     }
 
   -- a list that ends by a cost below which no plan pends is right
-  pub right_up_to : IsGood system mode plans → (c : ℕ) → ((q : List ℕ) → before q → c ≤ cost_of system q) → EndsBy system plans c → IsRight system mode plans
+  pub right_up_to : IsGood system mode plans → (c : ℕ) → ((q : List ℕ) → before q → c ≤ cost_in_system system q)
+      → EndsBy system plans c → IsRightOfSystem system mode plans
   right_up_to good c least ends = record {
     each = good.each;
     different = good.different;
@@ -133,13 +135,13 @@ module _ (system : System) (mode : Mode) (plans : List (List ℕ)) (before : Lis
     cheapest = cheapest (slice_get plans (length plans - 1)) ends;
   }
     where
-      cheapest : (o : Option (List ℕ)) → IfSome o (λ last. cost_of system last ≤ c)
-          → IfSome o (λ last. (q : List ℕ) → IsPlanOf system mode q → cost_of system q < cost_of system last
+      cheapest : (o : Option (List ℕ)) → IfSome o (λ last. cost_in_system system last ≤ c)
+          → IfSome o (λ last. (q : List ℕ) → IsSystemPlanOf system mode q → cost_in_system system q < cost_in_system system last
           → IsListed mode plans q)
       cheapest None e = tt
       cheapest (Some last) e = λ q plan lt. below c least q plan (omega (arith, lt, e))
 
-  pub right_all : IsGood system mode plans → AllListed system mode plans → IsRight system mode plans
+  pub right_all : IsGood system mode plans → AllSystemPlansListed system mode plans → IsRightOfSystem system mode plans
   right_all good all = record {
     each = good.each;
     different = good.different;
@@ -147,7 +149,7 @@ module _ (system : System) (mode : Mode) (plans : List (List ℕ)) (before : Lis
     cheapest = cheapest (slice_get plans (length plans - 1));
   }
     where
-      cheapest : (o : Option (List ℕ)) → IfSome o (λ last. (q : List ℕ) → IsPlanOf system mode q → cost_of system q
-          < cost_of system last → IsListed mode plans q)
+      cheapest : (o : Option (List ℕ)) → IfSome o (λ last. (q : List ℕ) → IsSystemPlanOf system mode q → cost_in_system system q
+          < cost_in_system system last → IsListed mode plans q)
       cheapest None = tt
       cheapest (Some last) = λ q plan lt. all q plan

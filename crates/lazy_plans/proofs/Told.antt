@@ -4,10 +4,10 @@ use Rattle.std.specs.Bool.{Decides}
 use Rattle.std.specs.List.{All, AllByRecursion}
 use Rattle.std.proofs.lemmas.List.Elements.{All-from_recursion, recursion_from_All}
 use Rattle.std.proofs.lemmas.Bool.Decides.{nat_tests, Decides-and, Decides-or, Decides-not, Decides-ltb, Decides-like}
-use Rattle.task_system.specs.System.{State, System, Listed, Runs}
-use Rattle.task_system.specs.System.{IsPlanOf, trace, are_equal}
+use Rattle.task_system.specs.System.{State, System, Listed, RunsInSystem}
+use Rattle.task_system.specs.System.{IsSystemPlanOf, trace, are_equal}
 use Rattle.symk_task.specs.Plans.{AllDifferent}
-use Rattle.lazy_plans.specs.Told.{on_step, leads_to_goal, is_listed, all_different, is_in}
+use Rattle.lazy_plans.specs.Told.{on_step, leads_to_goal, is_listed, all_different, is_plan_in}
 use Rattle.symk_task.specs.declared.parts.Mode.{Mode}
 use Rattle.symk_task.specs.declared.parts.Mode.TheVariants.{TopK, Loopless, Unordered}
 
@@ -67,16 +67,16 @@ step_told : (o : Option State) (f : State → Bool) (P : State → Type 0) → (
 step_told None f P d = ((λ e. cc), (λ h. absurd (none_some h.0 h.1)))
 step_told (Some t) f P d = ((λ e. (t, refl, (d t).0 e)), (λ h. (d t).1 (subst P (sym (some_is t h.0 h.1)) h.2)))
 
-goal_told : (y : System) (p : List ℕ) (s : State) → Decides (leads_to_goal y s p) ((t : State) × Runs y s p t × IsTrue (y.goal t))
+goal_told : (y : System) (p : List ℕ) (s : State) → Decides (leads_to_goal y s p) ((t : State) × RunsInSystem y s p t × IsTrue (y.goal t))
 goal_told y [] s = ((λ e. (s, refl, e)), (λ h. subst (λ (x : State). y.goal x ≡ true) (sym h.1) h.2))
 goal_told y (op ∷ p) s =
-    let next = step_told (y.step op s) (λ t. leads_to_goal y t p) (λ m. (t : State) × Runs y m p t × IsTrue (y.goal t)) (goal_told y p) in
+    let next = step_told (y.step op s) (λ t. leads_to_goal y t p) (λ m. (t : State) × RunsInSystem y m p t × IsTrue (y.goal t)) (goal_told y p) in
     Decides-like (leads_to_goal y s (op ∷ p))
     (λ h. (h.1.2.0, (h.1.0, record { number = h.0; step = h.1.1 }, h.1.2.1), h.1.2.2))
     (λ h. (h.1.1.number, (h.1.0, h.1.1.step, (h.0, h.1.2, h.2))))
     (Decides-and (nat_lt op y.operators) (on_step (y.step op s) (λ t. leads_to_goal y t p)) (Decides-ltb op y.operators) next)
 
-pub in_told : (y : System) (m : Mode) (p : List ℕ) → Decides (is_in y m p) (IsPlanOf y m p)
+pub in_told : (y : System) (m : Mode) (p : List ℕ) → Decides (is_plan_in y m p) (IsSystemPlanOf y m p)
 in_told y TopK p = goal_told y p y.initial
 in_told y Unordered p = goal_told y p y.initial
 in_told y Loopless p = Decides-and (leads_to_goal y y.initial p) (all_different (trace y y.initial p))

@@ -79,10 +79,10 @@ whole_at main shape may_follow lines = do
   Ok (value.0, tail.1)
 
 -- What a function returned, seen by view, is what reading gives, unless memory ran out.
-abbrev pub Fails : {S Y : Type 0} → Stopped S → Result Y (Offence S) → Type 0
-Fails stopped.Memory read = Unit {0}
-Fails (stopped.Offence o) read = read ≡ Err o
+abbrev pub FailsReading : {S Y : Type 0} → Stopped S → Result Y (Offence S) → Type 0
+FailsReading stopped.Memory read = Unit {0}
+FailsReading (stopped.Offence o) read = read ≡ Err o
 
-abbrev pub Gives : {S X Y : Type 0} → (X → Y) → Result X (Stopped S) → Result Y (Offence S) → Type 0
-Gives view (Ok x) read = read ≡ Ok (view x)
-Gives view (Err e) read = Fails e read
+abbrev pub GivesReading : {S X Y : Type 0} → (X → Y) → Result X (Stopped S) → Result Y (Offence S) → Type 0
+GivesReading view (Ok x) read = read ≡ Ok (view x)
+GivesReading view (Err e) read = FailsReading e read

@@ -10,13 +10,13 @@ use Rattle.lazy_plans.specs.declared.stop.Stop.TheVariants.{Memory}
 use Rattle.lazy_plans.proofs.Given.{ended_by}
 use Rattle.cost_search.specs.Directed.{Backward}
 use Rattle.cost_search.proofs.Directing.{directed_kept}
-use Rattle.prefix_laws.specs.Queue.{Right, Pending}
+use Rattle.lazy_plans.specs.Queue.{Right, Pending}
 use Rattle.loopless.specs.declared.front.Front.{Front}
 use Rattle.loopless.specs.Front.{prefixes_of}
-use Rattle.loopless.specs.Standing.{IsReady}
-use Rattle.prefix_laws.specs.Owing.{Owes, IsHeld}
-use Rattle.prefix_laws.proofs.Owed.{owed_law, held_law, held_fine}
-use Rattle.loopless.specs.Sound.{IsTidy, IsSound, Answered}
+use Rattle.loopless.specs.Standing.{IsLooplessReady}
+use Rattle.lazy_plans.specs.PrefixesOwe.{OwesByPrefix, IsHeld}
+use Rattle.lazy_plans.proofs.Owed.{owed_law, held_law, held_fine}
+use Rattle.loopless.specs.Sound.{IsTidyLooplessSpace, IsLooplessSound, AnsweredLoopless}
 use Rattle.loopless.proofs.Moving.{moved_stays}
 use Rattle.loopless.proofs.Readying.{ready_moved}
 
@@ -27,48 +27,48 @@ none_some : ◌≡◌ {A = Last} None (Some None) → ⊥
 none_some e = cc
 
 -- the space was tidied, or that was refused
-pub ready_stays : {Set : Type 0} (v w : View Set) (b : Backward Set) (f : Front) → SetsStay v w → IsReady v b f → IsReady w b f
+pub ready_stays : {Set : Type 0} (v w : View Set) (b : Backward Set) (f : Front) → SetsStay v w → IsLooplessReady v b f → IsLooplessReady w b f
 ready_stays v w b f s z =
     ready_moved v w b b f f.rests z.kept (directed_kept v w b s.kept z.alone.backward) (moved_stays v w b z.alone.backward s) z
 
 -- after the turns of a call, and after the space was tidied
 module _ {Set : Type 0} (v w : View Set) (b : Backward Set) (f h : Front) (most : Option ℕ)
-    (system : w.system ≡ v.system) (ready : IsReady w b h) (right : Right v.system Loopless most (prefixes_of h)) where
+    (system : w.system ≡ v.system) (ready : IsLooplessReady w b h) (right : Right v.system Loopless most (prefixes_of h)) where
   abbrev Before : List ℕ → Type 0
-  Before = Owes v.system Loopless (prefixes_of f) None
+  Before = OwesByPrefix v.system Loopless (prefixes_of f) None
 
   abbrev After : System → Option (List ℕ) → List ℕ → Type 0
-  After y held = Owes y Loopless (prefixes_of h) held
+  After y held = OwesByPrefix y Loopless (prefixes_of h) held
 
   abbrev Law : Result (Option (List ℕ)) Stop → Type 0
   Law r = Turned v.system Loopless most (Pending v.system Loopless (prefixes_of f)) (Pending v.system Loopless (prefixes_of h)) r
 
   -- what one call gives that ends so
   abbrev Gives : Option (List ℕ) → Last → Result (Option (List ℕ)) Stop → Type 0
-  Gives held ended r = Answered v w most Before (After w.system held) (IsSound w b h most held ended) ended r
+  Gives held ended r = AnsweredLoopless v w most Before (After w.system held) (IsLooplessSound w b h most held ended) ended r
 
   law_on : (r : Result (Option (List ℕ)) Stop) → Law r → Turned v.system Loopless most Before (After w.system None) r
   law_on r l = subst (λ (y : System). Turned v.system Loopless most Before (After y None) r) (sym system)
       (owed_law v.system Loopless most (prefixes_of f) (prefixes_of h) r l)
 
   given : (held : Option (List ℕ)) (ended : Last) (r : Result (Option (List ℕ)) Stop) → IsHeld w.system Loopless held ended →
-      Turned v.system Loopless most Before (After w.system held) r → ended ≡ last_of r → (ended ≡ Some None → IsTidy w) →
-      IfOk r (λ o. IsTidy w) → Gives held ended r
+      Turned v.system Loopless most Before (After w.system held) r → ended ≡ last_of r → (ended ≡ Some None → IsTidyLooplessSpace w) →
+      IfOk r (λ o. IsTidyLooplessSpace w) → Gives held ended r
   given held ended r holds law last tidy room =
       let stays = subst (λ (y : System). Right y Loopless most (prefixes_of h)) (sym system) right in
       let by = ended_by v.system Loopless most Before (After w.system held) r law in
       let said = subst (λ (y : System). Ended y most (After w.system held) ended) (sym system)
       (subst (λ (l : Last). Ended v.system most (After w.system held) l) (sym last) by) in
-      let engine : IsSound w b h most held ended = record { ready = ready; right = stays; holds = holds; said = said; room = tidy } in
+      let engine : IsLooplessSound w b h most held ended = record { ready = ready; right = stays; holds = holds; said = said; room = tidy } in
       record { engine = engine; system = system; law = law; last = last; room = room }
 
   pub stopped : (stop : Stop) → Law (Err stop) → Gives None (Some (Some stop)) (Err stop)
   stopped stop l = given None (Some (Some stop)) (Err stop) tt (law_on (Err stop) l) refl (λ e. absurd (none_left stop e)) tt
 
-  pub tidied_none : IsTidy w → Law (Ok None) → Gives None (Some None) (Ok None)
+  pub tidied_none : IsTidyLooplessSpace w → Law (Ok None) → Gives None (Some None) (Ok None)
   tidied_none few l = given None (Some None) (Ok None) tt (law_on (Ok None) l) refl (λ e. few) few
 
-  pub tidied_some : (p : List ℕ) → IsTidy w → Law (Ok (Some p)) → Gives None None (Ok (Some p))
+  pub tidied_some : (p : List ℕ) → IsTidyLooplessSpace w → Law (Ok (Some p)) → Gives None None (Ok (Some p))
   tidied_some p few l = given None None (Ok (Some p)) tt (law_on (Ok (Some p)) l) refl (λ e. absurd (none_some e)) few
 
   -- what is owed, and the plan that is held, are what was owed

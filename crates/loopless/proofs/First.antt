@@ -5,26 +5,26 @@ use Rattle.std.specs.List.{AllByRecursion}
 use Rattle.std.specs.List.Sorted.{IsPermutation}
 use Rattle.std.proofs.lemmas.List.Sorted.{length_permutation, All-permutation}
 use Rattle.std.proofs.lemmas.List.Elements.{recursion_from_All, All-from_recursion}
-use Rattle.task_system.specs.System.{State, System, Listed, IsPlan, IsPlanOf, cost_of}
+use Rattle.task_system.specs.System.{State, System, Listed, IsSystemPlan, IsSystemPlanOf, cost_in_system}
 use Rattle.symk_task.specs.declared.parts.Mode.TheVariants.{Loopless}
 use Rattle.space_api.specs.View.{View}
 use Rattle.lazy_plans.specs.Law.{Last}
 use Rattle.cost_search.specs.Directed.{Backward}
-use Rattle.prefix_laws.specs.Queue.{Good, Right, Pending}
-use Rattle.prefix_laws.proofs.Traces.{good_first, plan_by}
-use Rattle.prefix_laws.proofs.Turns.{first_right, first_pends}
-use Rattle.prefix_tree.specs.StateGraph.{states_of, state_at, IsStateGraph}
+use Rattle.lazy_plans.specs.Queue.{Good, Right, Pending}
+use Rattle.lazy_plans.proofs.Traces.{good_first, plan_by}
+use Rattle.lazy_plans.proofs.Turns.{first_right, first_pends}
+use Rattle.prefix_tree.specs.StateGraph.{states_of, numbered_state, IsStateGraph}
 use Rattle.loopless.specs.declared.front.Front.{Front}
-use Rattle.loopless.specs.Rests.{IsKept}
-use Rattle.prefix_tree.specs.Tree.{IsTree, IsNode, path_at, number_at}
+use Rattle.loopless.specs.Rests.{AreKeptRests}
+use Rattle.prefix_tree.specs.Tree.{IsTree, IsNode, path_at, state_number_at}
 use Rattle.prefix_tree.specs.declared.tree.Node.{Node}
 use Rattle.prefix_tree.specs.declared.entry.Entry.{Entry}
 use Rattle.prefix_tree.specs.Entries.{prefixes}
 use Rattle.loopless.specs.Children.{IsEntry}
 use Rattle.loopless.specs.Front.{waiting, prefixes_of}
 use Rattle.loopless.specs.Standing.{IsAlone}
-use Rattle.prefix_laws.specs.Owing.{Owes}
-use Rattle.loopless.specs.Sound.{IsSound}
+use Rattle.lazy_plans.specs.PrefixesOwe.{OwesByPrefix}
+use Rattle.loopless.specs.Sound.{IsLooplessSound}
 
 -- a permutation of one element is it
 only : (e : Entry) (es : List Entry) → IsPermutation (e ∷ []) es → es ≡ e ∷ []
@@ -40,9 +40,9 @@ only e (x ∷ y ∷ es) p = absurd (omega (arith, length_permutation (e ∷ []) 
 -- the empty prefix alone may go on: its node is n, its entry e
 pub record Starts (y : System) (f : Front) (n : Node) (e : Entry) : Type 0 where
   pub graph : IsStateGraph y f.graph
-  pub kept : IsKept y (states_of f.graph) f.rests
+  pub kept : AreKeptRests y (states_of f.graph) f.rests
   pub within : n.state < length (states_of f.graph)
-  pub starts : state_at (states_of f.graph) n.state ≡ y.initial
+  pub starts : numbered_state (states_of f.graph) n.state ≡ y.initial
   pub tree : f.tree.items ≡ n ∷ []
   pub put : IsPermutation (e ∷ []) (waiting f)
   pub bound : e.bound.0 ≡ 0
@@ -65,7 +65,7 @@ module _ {Set : Type 0} (v : View Set) (b : Backward Set) (f : Front) (n : Node)
     some = omega arith;
     linked = λ i d lt. inl (omega (arith, lt), first_path i (omega (arith, lt)));
     each = λ i lt. let z : i ≡ 0 = omega (arith, lt) in
-        subst (λ (j : ℕ). IsNode v.system Loopless (states_of f.graph) j (path_at (n ∷ []) j) (number_at (n ∷ []) j)) (sym z) node;
+        subst (λ (j : ℕ). IsNode v.system Loopless (states_of f.graph) j (path_at (n ∷ []) j) (state_number_at (n ∷ []) j)) (sym z) node;
   }
 
   path : path_at (n ∷ []) e.node ≡ []
@@ -74,12 +74,12 @@ module _ {Set : Type 0} (v : View Set) (b : Backward Set) (f : Front) (n : Node)
   entry : IsEntry v.system (n ∷ []) e
   entry = record {
     inside = omega (arith, s.place);
-    cost = subst (λ (p : List ℕ). e.cost ≡ cost_of v.system p) (sym path) s.cost;
+    cost = subst (λ (p : List ℕ). e.cost ≡ cost_in_system v.system p) (sym path) s.cost;
     roomy = omega (arith, s.cost);
     least = omega (arith, s.cost);
     span = omega (arith, s.bound);
     bounds = λ p plan on. omega (arith, s.bound);
-    plan = subst (λ (p : List ℕ). Decides e.at_goal (IsPlan v.system p)) (sym path) (plan_by v.system [] good.end good.runs e.at_goal
+    plan = subst (λ (p : List ℕ). Decides e.at_goal (IsSystemPlan v.system p)) (sym path) (plan_by v.system [] good.end good.runs e.at_goal
         (subst (λ (t : State). Decides e.at_goal (IsTrue (v.system.goal t))) good.runs s.goal));
   }
 
@@ -90,7 +90,7 @@ module _ {Set : Type 0} (v : View Set) (b : Backward Set) (f : Front) (n : Node)
   prefix = subst (λ (nodes : List Node). prefixes nodes (waiting f) ≡ [] ∷ []) (sym s.tree)
       (subst (λ (l : List Entry). prefixes (n ∷ []) l ≡ [] ∷ []) (sym single) (ap (λ (p : List ℕ). p ∷ []) path))
 
-  begun_in : (most : Option ℕ) → IsSound v b f most None None
+  begun_in : (most : Option ℕ) → IsLooplessSound v b f most None None
   begun_in most = record {
     ready = record {
       alone = alone;
@@ -109,7 +109,7 @@ module _ {Set : Type 0} (v : View Set) (b : Backward Set) (f : Front) (n : Node)
       none_some : ◌≡◌ {A = Last} None (Some None) → ⊥
       none_some e = cc
 
-  all_in : (p : List ℕ) → IsPlanOf v.system Loopless p → Owes v.system Loopless (prefixes_of f) None p
+  all_in : (p : List ℕ) → IsSystemPlanOf v.system Loopless p → OwesByPrefix v.system Loopless (prefixes_of f) None p
   all_in p i = inl (subst (λ (ps : List (List ℕ)). Pending v.system Loopless ps p) (sym prefix) (first_pends v.system Loopless p i))
 
 -- so, where what comes before the search is known of the system as it was
@@ -118,8 +118,8 @@ module _ {Set : Type 0} (y : System) (v : View Set) (b : Backward Set) (f : Fron
   now : Starts v.system f n e
   now = subst (λ (z : System). Starts z f n e) (sym same) s
 
-  pub begun : (most : Option ℕ) → IsSound v b f most None None
+  pub begun : (most : Option ℕ) → IsLooplessSound v b f most None None
   begun most = begun_in v b f n e alone now most
 
-  pub begun_all : (p : List ℕ) → IsPlanOf y Loopless p → Owes v.system Loopless (prefixes_of f) None p
-  begun_all p i = all_in v b f n e alone now p (subst (λ (z : System). IsPlanOf z Loopless p) (sym same) i)
+  pub begun_all : (p : List ℕ) → IsSystemPlanOf y Loopless p → OwesByPrefix v.system Loopless (prefixes_of f) None p
+  begun_all p i = all_in v b f n e alone now p (subst (λ (z : System). IsSystemPlanOf z Loopless p) (sym same) i)

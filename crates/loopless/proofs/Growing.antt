@@ -3,13 +3,13 @@ use Rattle.std.proofs.Common.{◌≡◌, ℕ, ◌+◌, ◌-◌, ◌<◌, ◌≤�
 use Rattle.std.specs.Bool.{Decides}
 use Rattle.std.specs.List.{AllByRecursion}
 use Rattle.std.proofs.lemmas.List.{length-append}
-use Rattle.task_system.specs.System.{State, System, IsPlan, cost_of}
-use Rattle.prefix_laws.specs.Queue.{Bounds, ChildrenBelow}
-use Rattle.prefix_laws.proofs.Growing as growing
-use Rattle.prefix_laws.proofs.Splits.{cost_join, prefix_join, prefix_front}
-use Rattle.prefix_laws.proofs.Traces.{bounds_by, plan_by, runs_join}
-use Rattle.prefix_tree.specs.StateGraph.{IsMove}
-use Rattle.prefix_tree.specs.Tree.{IsTree, Grows, path_at, end_at}
+use Rattle.task_system.specs.System.{State, System, IsSystemPlan, cost_in_system}
+use Rattle.lazy_plans.specs.Queue.{Bounds, ChildrenBelow}
+use Rattle.lazy_plans.proofs.Growing as growing
+use Rattle.lazy_plans.proofs.Splits.{cost_join, prefix_join, prefix_front}
+use Rattle.lazy_plans.proofs.Traces.{bounds_by, plan_by, runs_join}
+use Rattle.prefix_tree.specs.StateGraph.{IsGraphMove}
+use Rattle.prefix_tree.specs.Tree.{IsTree, GrowsTree, path_at, end_at}
 use Rattle.prefix_tree.specs.declared.state_graph.Move.{Move}
 use Rattle.prefix_tree.specs.declared.tree.Node.{Node}
 use Rattle.prefix_tree.specs.declared.entry.Entry.{Entry}
@@ -20,7 +20,7 @@ use Rattle.prefix_tree.specs.Entries.{prefixes}
 use Rattle.symk_task.specs.declared.parts.Mode.TheVariants.{Loopless}
 use Rattle.loopless.specs.Left.{EndsAtLeast}
 use Rattle.loopless.specs.Reach.{IsLonger}
-use Rattle.loopless.specs.Children.{IsEntry, Added, AreChildren}
+use Rattle.loopless.specs.Children.{IsEntry, AddsLooplessChild, AreChildren}
 use Rattle.loopless.specs.declared.reach.Reached.{Reached}
 
 -- an entry stands where its place has the same prefix
@@ -30,12 +30,12 @@ entry_like y a c e longer same z =
     let path = sym (same e.node z.inside) in
     record {
       inside = omega (arith, z.inside, longer);
-      cost = subst (λ (p : List ℕ). e.cost ≡ cost_of y p) path z.cost;
+      cost = subst (λ (p : List ℕ). e.cost ≡ cost_in_system y p) path z.cost;
       roomy = z.roomy;
       least = z.least;
       span = z.span;
       bounds = subst (λ (p : List ℕ). Bounds y p e.bound.0) path z.bounds;
-      plan = subst (λ (p : List ℕ). Decides e.at_goal (IsPlan y p)) path z.plan;
+      plan = subst (λ (p : List ℕ). Decides e.at_goal (IsSystemPlan y p)) path z.plan;
     }
 
 pub each_like : (y : System) (a c : List Node) (es : List Entry) → length a ≤ length c
@@ -46,14 +46,14 @@ each_like y a c (e ∷ es) longer same z = (entry_like y a c e longer same z.0, 
 
 -- one prefix more, at the end of the tree: that of e, longer by the move m
 module _ (y : System) (ss : List State) (nodes : List Node) (e : Entry) (m : Move) (z : IsTree y Loopless ss nodes) (old : IsEntry y nodes e)
-    (step : IsMove y ss (end_at ss nodes e.node) m) (r : Reached) (longer : IsLonger y (path_at nodes e.node ++ m.op ∷ []) r) where
+    (step : IsGraphMove y ss (end_at ss nodes e.node) m) (r : Reached) (longer : IsLonger y (path_at nodes e.node ++ m.op ∷ []) r) where
   abbrev path : List ℕ
   path = path_at nodes e.node ++ m.op ∷ []
 
   abbrev more : List Node
   more = nodes ++ record { parent = e.node; op = m.op; state = m.to } ∷ []
 
-  pub grows_push : Grows y Loopless ss nodes more
+  pub grows_push : GrowsTree y Loopless ss nodes more
   grows_push =
       let run = next_run y Loopless ss nodes e.node z old.inside m step in
       grows_more y Loopless ss nodes (record { parent = e.node; op = m.op; state = m.to }) z old.inside longer.good step.within run
@@ -64,18 +64,18 @@ module _ (y : System) (ss : List State) (nodes : List Node) (e : Entry) (m : Mov
   entry_push k place cost bound goal small =
       let n : Node = record { parent = e.node; op = m.op; state = m.to } in
       let is : path_at more k.node ≡ path = path_last nodes n k.node z.some place in
-      let total : k.cost ≡ cost_of y path = omega (arith, cost, old.cost, cost_join y (path_at nodes e.node) (m.op ∷ [])) in
+      let total : k.cost ≡ cost_in_system y path = omega (arith, cost, old.cost, cost_join y (path_at nodes e.node) (m.op ∷ [])) in
       let low = bounds_by y path longer.good.end longer.good.runs r.left.cost longer.left in
-      let b : k.bound.0 ≡ cost_of y path + r.left.cost = omega (arith, bound, total) in
+      let b : k.bound.0 ≡ cost_in_system y path + r.left.cost = omega (arith, bound, total) in
       let plan = plan_by y path longer.good.end longer.good.runs r.at_goal longer.goal in (
         record {
           inside = omega (arith, place, length-append nodes (n ∷ []));
-          cost = subst (λ (q : List ℕ). k.cost ≡ cost_of y q) (sym is) total;
+          cost = subst (λ (q : List ℕ). k.cost ≡ cost_in_system y q) (sym is) total;
           roomy = omega (arith, cost, old.roomy, old.inside, place, small);
           least = omega (arith, bound);
           span = omega (arith, bound, longer.small);
           bounds = subst (λ (q : List ℕ). Bounds y q k.bound.0) (sym is) (subst (Bounds y path) (sym b) low);
-          plan = subst (λ (q : List ℕ). Decides k.at_goal (IsPlan y q)) (sym is) (subst (λ (x : Bool). Decides x (IsPlan y path)) (sym goal) plan);
+          plan = subst (λ (q : List ℕ). Decides k.at_goal (IsSystemPlan y q)) (sym is) (subst (λ (x : Bool). Decides x (IsSystemPlan y path)) (sym goal) plan);
         },
         is,
       )
@@ -114,7 +114,7 @@ children_like y a c e n kids longer same g =
     }
 
 pub children_next : (y : System) (nodes : List Node) (e : List ℕ) (n : ℕ) (kids new : List Entry)
-    → AreChildren y nodes e n kids → Added y nodes e n kids new → AreChildren y nodes e (n + 1) new
+    → AreChildren y nodes e n kids → AddsLooplessChild y nodes e n kids new → AreChildren y nodes e (n + 1) new
 children_next y nodes e n kids new g (inl (same, lost)) = rw same (record {
   each = g.each;
   longer = g.longer;

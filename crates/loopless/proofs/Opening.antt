@@ -7,19 +7,19 @@ use Rattle.task_system.specs.System.{System}
 use Rattle.space_api.specs.View.{View}
 use Rattle.space_api.proofs.Trading.{valid_clash}
 use Rattle.cost_search.specs.Directed.{Backward}
-use Rattle.prefix_laws.specs.Queue.{Good}
+use Rattle.lazy_plans.specs.Queue.{Good}
 use Rattle.prefix_tree.specs.StateGraph.{states_of}
 use Rattle.loopless.specs.declared.front.Front.{Front}
 use Rattle.prefix_tree.specs.Tree.{path_at}
 use Rattle.prefix_tree.specs.declared.tree.Node.{Node}
 use Rattle.prefix_tree.specs.declared.entry.Entry.{Entry}
-use Rattle.prefix_tree.specs.Entries.{entries_of, prefixes}
+use Rattle.prefix_tree.specs.Entries.{queued_entries, prefixes}
 use Rattle.prefix_tree.specs.declared.queue.Queue.{Queue}
-use Rattle.prefix_laws.specs.Weight.{AreLonger}
+use Rattle.lazy_plans.specs.Weight.{AreLonger}
 use Rattle.prefix_tree.proofs.Entries.{prefixes_length, prefixes_like, first_is, each_new}
 use Rattle.loopless.specs.Children.{IsEntry, AreChildren}
-use Rattle.loopless.specs.Front.{waiting, prefixes_of, IsFirst}
-use Rattle.loopless.specs.Standing.{IsReady, IsGrown, GivesFirst, Opens, IsPlanAt}
+use Rattle.loopless.specs.Front.{waiting, prefixes_of, IsLooplessFirst}
+use Rattle.loopless.specs.Standing.{IsLooplessReady, IsGrown, GivesFirst, OpensLoopless, IsLooplessEntryPlan}
 use Rattle.loopless.proofs.Growing.{each_like}
 use Rattle.loopless.proofs.Turning.{goes, gives}
 use Rattle.loopless.proofs.Readying.{good_at}
@@ -32,11 +32,11 @@ on_err (Ok x) p = tt
 on_err (Err e) p = p
 
 -- prefixes were added
-module _ {Set : Type 0} (v : View Set) (b : Backward Set) (f h : Front) (g : IsGrown v.system f h) (z : IsReady v b f) where
+module _ {Set : Type 0} (v : View Set) (b : Backward Set) (f h : Front) (g : IsGrown v.system f h) (z : IsLooplessReady v b f) where
   each_old : AllByRecursion (IsEntry v.system h.tree.items) (waiting f)
   each_old = each_like v.system f.tree.items h.tree.items (waiting f) g.tree.longer g.tree.paths z.each
 
-  pub ready_grown : IsReady v b h
+  pub ready_grown : IsLooplessReady v b h
   ready_grown = record {
     alone = z.alone;
     graph = g.graph;
@@ -53,19 +53,19 @@ module _ {Set : Type 0} (v : View Set) (b : Backward Set) (f h : Front) (g : IsG
   prefixes_grown = ap (prefixes h.tree.items) g.queue ∙ same
 
   -- children came to the tree, and the first entry gave way to them in the queue
-  module _ (q : Queue) (kids : List Entry) (e : Entry) (first : IsFirst f e)
+  module _ (q : Queue) (kids : List Entry) (e : Entry) (first : IsLooplessFirst f e)
       (children : AreChildren v.system h.tree.items (path_at f.tree.items e.node) v.system.operators kids)
-      (perm : IsPermutation (waiting f ++ kids) (e ∷ entries_of q)) where
+      (perm : IsPermutation (waiting f ++ kids) (e ∷ queued_entries q)) where
     abbrev new : Front
     new = record h { queue = q }
 
-    pub open_ready : IsReady v b new
+    pub open_ready : IsLooplessReady v b new
     open_ready = record {
       alone = z.alone;
       graph = g.graph;
       kept = g.kept;
       tree = g.tree.tree;
-      each = each_new (waiting f) kids (entries_of q) e perm (IsEntry v.system h.tree.items) each_old children.each;
+      each = each_new (waiting f) kids (queued_entries q) e perm (IsEntry v.system h.tree.items) each_old children.each;
     }
 
     entry : IsEntry v.system h.tree.items e
@@ -80,7 +80,7 @@ module _ {Set : Type 0} (v : View Set) (b : Backward Set) (f h : Front) (g : IsG
     all_children : AreChildren v.system h.tree.items (path_at h.tree.items e.node) v.system.operators kids
     all_children = subst (λ (p : List ℕ). AreChildren v.system h.tree.items p v.system.operators kids) (sym path) children
 
-    pub open_opens : (o : Option (List ℕ)) → IsPlanAt f.tree.items e o → Opens v.system f new e o
+    pub open_opens : (o : Option (List ℕ)) → IsLooplessEntryPlan f.tree.items e o → OpensLoopless v.system f new e o
     open_opens None off =
         goes v.system f new kids e same perm first good all_children.counted
         (longer v.system h.tree.items (path_at h.tree.items e.node) kids all_children) children.each (λ p. valid_clash (entry.plan.1 p) off)

@@ -3,7 +3,7 @@ use Rattle.std.proofs.Common.{ℕ, ◌≤◌, ◌<◌, length, get_or, List, ari
 use Rattle.space_api.proofs.Rising.{IsPast}
 use Rattle.symk_task.specs.declared.parts.Mode.TheVariants.{Loopless}
 use Rattle.task_system.specs.System.{State, System}
-use Rattle.prefix_tree.specs.StateGraph.{ops_of, AreMoves}
+use Rattle.prefix_tree.specs.StateGraph.{move_operators, AreGraphMoves}
 use Rattle.prefix_tree.specs.Tree.{IsTree, path_at, end_at}
 use Rattle.prefix_tree.specs.Entries.{prefixes}
 use Rattle.prefix_tree.specs.declared.state_graph.Move.{Move}
@@ -16,7 +16,7 @@ use Rattle.loopless.specs.Children.{AreChildren}
 pub record AllFrom (y : System) (ss : List State) (nodes : List Node) (i : ℕ) (moves : List Move) : Type 0 where
   pub tree : IsTree y Loopless ss nodes
   pub inside : i < length nodes
-  pub all : AreMoves y ss (end_at ss nodes i) moves
+  pub all : AreGraphMoves y ss (end_at ss nodes i) moves
 
 -- none of the numbers lies between m and x: those before place k are below m, and from there on none is below x
 pub record AreSkipped (xs : List ℕ) (k m x : ℕ) : Type 0 where
@@ -26,7 +26,7 @@ pub record AreSkipped (xs : List ℕ) (k m x : ℕ) : Type 0 where
 
 -- the children by the operators below m are those by the operators below x, where none between is listed
 pub skip_to : {y : System} {ss : List State} {nodes : List Node} {i : ℕ} {moves : List Move} {k m x : ℕ} (c : List Node) (kids : List Entry) →
-    AllFrom y ss nodes i moves → AreSkipped (ops_of moves) k m x → AreChildren y c (path_at nodes i) m kids → AreChildren y c (path_at nodes i) x kids
+    AllFrom y ss nodes i moves → AreSkipped (move_operators moves) k m x → AreChildren y c (path_at nodes i) m kids → AreChildren y c (path_at nodes i) x kids
 skip_to {y} {ss} {nodes} {i} {moves} {k} {m} {x} c kids z s w = record {
   each = w.each;
   longer = w.longer;

@@ -4,21 +4,21 @@ use Rattle.std.specs.List.{AllByRecursion}
 use Rattle.symk_task.specs.declared.parts.Mode.TheVariants.{Loopless}
 use Rattle.task_system.specs.System.{System}
 use Rattle.space_api.specs.View.{View}
-use Rattle.lazy_plans.specs.Law.{Stops, NoneLeft, top}
+use Rattle.lazy_plans.specs.Law.{MayStop, NoneLeft, top}
 use Rattle.lazy_plans.specs.declared.stop.Stop.TheVariants.{CostRange}
 use Rattle.cost_search.specs.Directed.{Backward}
-use Rattle.prefix_laws.specs.Queue.{Right, Pending}
-use Rattle.prefix_laws.proofs.Splits.{prefix_refl}
-use Rattle.prefix_laws.proofs.Traces.{plan_in}
-use Rattle.prefix_laws.proofs.Turns as turns
+use Rattle.lazy_plans.specs.Queue.{Right, Pending}
+use Rattle.lazy_plans.proofs.Splits.{prefix_refl}
+use Rattle.lazy_plans.proofs.Traces.{plan_in}
+use Rattle.lazy_plans.proofs.Turns as turns
 use Rattle.prefix_tree.specs.StateGraph.{states_of}
 use Rattle.loopless.specs.declared.front.Front.{Front}
 use Rattle.prefix_tree.specs.Tree.{path_at}
 use Rattle.prefix_tree.specs.declared.entry.Entry.{Entry}
 use Rattle.prefix_tree.proofs.Entries.{first_is, first_in}
 use Rattle.loopless.specs.Children.{IsEntry}
-use Rattle.loopless.specs.Front.{waiting, prefixes_of, IsFirst}
-use Rattle.loopless.specs.Standing.{IsReady}
+use Rattle.loopless.specs.Front.{waiting, prefixes_of, IsLooplessFirst}
+use Rattle.loopless.specs.Standing.{IsLooplessReady}
 use Rattle.loopless.specs.Turned.{IsPast, IsOut}
 use Rattle.loopless.proofs.Turning.{bounds_all}
 use Rattle.loopless.proofs.Readying.{good_at}
@@ -36,9 +36,9 @@ past_turn y None f e past each least = absurd past
 past_turn y (Some m) f e past each least =
     turns.past y Loopless m e.bound.0 (prefixes_of f) (bounds_all y f.tree.items e.bound.0 (waiting f) each least) past
 
-pub out_turn : {Set : Type 0} (v : View Set) (b : Backward Set) (f : Front) (most : Option ℕ) (e : Entry) → IsOut most e → IsReady v b f →
-    Right v.system Loopless most (prefixes_of f) → IsFirst f e → AllByRecursion (λ (k : Entry). e.bound.0 ≤ k.bound.0) (waiting f) →
-    Stops v.system most (Pending v.system Loopless (prefixes_of f)) CostRange
+pub out_turn : {Set : Type 0} (v : View Set) (b : Backward Set) (f : Front) (most : Option ℕ) (e : Entry) → IsOut most e → IsLooplessReady v b f →
+    Right v.system Loopless most (prefixes_of f) → IsLooplessFirst f e → AllByRecursion (λ (k : Entry). e.bound.0 ≤ k.bound.0) (waiting f) →
+    MayStop v.system most (Pending v.system Loopless (prefixes_of f)) CostRange
 out_turn v b f (Some m) e out z right first least = absurd out
 out_turn v b f None e out z right first least =
     let nodes = f.tree.items in

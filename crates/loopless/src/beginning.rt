@@ -3,8 +3,8 @@
 ghost use Rattle.std.specs.Prelude.{◌≡◌, IfOk, IfSome, List, None, Some};
 ghost use Rattle.space_api.specs.View.{View, Valid};
 ghost use Rattle.task_system.specs.System.{State, System};
-ghost use Rattle.loopless.specs.Rests.{IsKept};
-ghost use Rattle.loopless.specs.Engine.{system_of, most_of, ended_of, IsEngine, HasNone, HasAlone, HasUseful, OwesAll};
+ghost use Rattle.loopless.specs.Rests.{AreKeptRests};
+ghost use Rattle.loopless.specs.Engine.{loopless_system, loopless_most, loopless_ended, IsLooplessEngine, HasNone, HasAlone, HasEachUseful, OwesAll};
 
 use crate::engine::LooplessPlans;
 use crate::few_states::find_rests;
@@ -13,15 +13,14 @@ use crate::racing::keep_to_reached;
 use crate::rests::Rests;
 use backward_search::{Backward, Kind};
 use prefix_tree::{Entry, Node, Queue, StateGraph, number_of_start};
-use single_states::goal_at;
-use space_api::Space;
+use space_api::{Space, goal_at};
 use std::alloc::Global;
 use std::cmp::Reverse;
 use symk_task::Memory;
 
 /// What was found, or nothing.
 fn found_or_none(alloc: Global, found: Option<Rests>) -> Rests
-    ensures { (y : System) (states : List State) → IfSome found (IsKept y states) → IsKept y states result }
+    ensures { (y : System) (states : List State) → IfSome found (AreKeptRests y states) → AreKeptRests y states result }
 {
     match found {
         Some(rests) => rests,
@@ -43,12 +42,12 @@ impl<S: Space + Drop> LooplessPlans<S> {
     ) -> Result<LooplessPlans<S>, Memory>
         requires within { Valid (S.view space) within }
         requires alone { HasAlone (S.view space) within }
-        requires wide { HasUseful (S.view space) within }
-        ensures lawful { IfOk result (λ x. IsEngine S.view x) }
-        ensures system { IfOk result (λ x. system_of S.view x ≡ (S.view space).system) }
+        requires wide { HasEachUseful (S.view space) within }
+        ensures lawful { IfOk result (λ x. IsLooplessEngine S.view x) }
+        ensures system { IfOk result (λ x. loopless_system S.view x ≡ (S.view space).system) }
         ensures all { IfOk result (λ x. OwesAll S.view (S.view space).system x) }
-        ensures most { IfOk result (λ x. most_of x ≡ most) }
-        ensures last { IfOk result (λ x. ended_of x ≡ None) }
+        ensures most { IfOk result (λ x. loopless_most x ≡ most) }
+        ensures last { IfOk result (λ x. loopless_ended x ≡ None) }
     {
         let mut space = space;
         let mut graph = StateGraph::new(alloc);
@@ -96,12 +95,12 @@ impl<S: Space + Drop> LooplessPlans<S> {
     pub fn new_within(alloc: Global, space: S, within: S::Set) -> Result<LooplessPlans<S>, Memory>
         requires within { Valid (S.view space) within }
         requires alone { HasAlone (S.view space) within }
-        requires wide { HasUseful (S.view space) within }
-        ensures lawful { IfOk result (λ x. IsEngine S.view x) }
-        ensures system { IfOk result (λ x. system_of S.view x ≡ (S.view space).system) }
+        requires wide { HasEachUseful (S.view space) within }
+        ensures lawful { IfOk result (λ x. IsLooplessEngine S.view x) }
+        ensures system { IfOk result (λ x. loopless_system S.view x ≡ (S.view space).system) }
         ensures all { IfOk result (λ x. OwesAll S.view (S.view space).system x) }
-        ensures most { IfOk result (λ x. most_of x ≡ None) }
-        ensures last { IfOk result (λ x. ended_of x ≡ None) }
+        ensures most { IfOk result (λ x. loopless_most x ≡ None) }
+        ensures last { IfOk result (λ x. loopless_ended x ≡ None) }
     {
         LooplessPlans::begin(alloc, space, None, within)
     }
@@ -115,12 +114,12 @@ impl<S: Space + Drop> LooplessPlans<S> {
     ) -> Result<LooplessPlans<S>, Memory>
         requires within { Valid (S.view space) within }
         requires alone { HasAlone (S.view space) within }
-        requires wide { HasUseful (S.view space) within }
-        ensures lawful { IfOk result (λ x. IsEngine S.view x) }
-        ensures system { IfOk result (λ x. system_of S.view x ≡ (S.view space).system) }
+        requires wide { HasEachUseful (S.view space) within }
+        ensures lawful { IfOk result (λ x. IsLooplessEngine S.view x) }
+        ensures system { IfOk result (λ x. loopless_system S.view x ≡ (S.view space).system) }
         ensures all { IfOk result (λ x. OwesAll S.view (S.view space).system x) }
-        ensures most { IfOk result (λ x. most_of x ≡ Some most) }
-        ensures last { IfOk result (λ x. ended_of x ≡ None) }
+        ensures most { IfOk result (λ x. loopless_most x ≡ Some most) }
+        ensures last { IfOk result (λ x. loopless_ended x ≡ None) }
     {
         LooplessPlans::begin(alloc, space, Some(most), within)
     }
@@ -132,11 +131,11 @@ impl<S: Space + Drop> LooplessPlans<S> {
         most: Option<u64>,
     ) -> Result<LooplessPlans<S>, Memory>
         requires { HasNone (S.view space) }
-        ensures lawful { IfOk result (λ x. IsEngine S.view x) }
-        ensures system { IfOk result (λ x. system_of S.view x ≡ (S.view space).system) }
+        ensures lawful { IfOk result (λ x. IsLooplessEngine S.view x) }
+        ensures system { IfOk result (λ x. loopless_system S.view x ≡ (S.view space).system) }
         ensures all { IfOk result (λ x. OwesAll S.view (S.view space).system x) }
-        ensures most { IfOk result (λ x. most_of x ≡ most) }
-        ensures last { IfOk result (λ x. ended_of x ≡ None) }
+        ensures most { IfOk result (λ x. loopless_most x ≡ most) }
+        ensures last { IfOk result (λ x. loopless_ended x ≡ None) }
     {
         let mut space = space;
         let within = space.all()?;
@@ -148,11 +147,11 @@ impl<S: Space + Drop> LooplessPlans<S> {
     /// The caller knows that no set of the space is valid yet.
     pub fn new(alloc: Global, space: S) -> Result<LooplessPlans<S>, Memory>
         requires { HasNone (S.view space) }
-        ensures lawful { IfOk result (λ x. IsEngine S.view x) }
-        ensures system { IfOk result (λ x. system_of S.view x ≡ (S.view space).system) }
+        ensures lawful { IfOk result (λ x. IsLooplessEngine S.view x) }
+        ensures system { IfOk result (λ x. loopless_system S.view x ≡ (S.view space).system) }
         ensures all { IfOk result (λ x. OwesAll S.view (S.view space).system x) }
-        ensures most { IfOk result (λ x. most_of x ≡ None) }
-        ensures last { IfOk result (λ x. ended_of x ≡ None) }
+        ensures most { IfOk result (λ x. loopless_most x ≡ None) }
+        ensures last { IfOk result (λ x. loopless_ended x ≡ None) }
     {
         LooplessPlans::begin_anywhere(alloc, space, None)
     }
@@ -160,11 +159,11 @@ impl<S: Space + Drop> LooplessPlans<S> {
     /// The same, with the greatest cost that is wanted.
     pub fn within(alloc: Global, space: S, most: u64) -> Result<LooplessPlans<S>, Memory>
         requires { HasNone (S.view space) }
-        ensures lawful { IfOk result (λ x. IsEngine S.view x) }
-        ensures system { IfOk result (λ x. system_of S.view x ≡ (S.view space).system) }
+        ensures lawful { IfOk result (λ x. IsLooplessEngine S.view x) }
+        ensures system { IfOk result (λ x. loopless_system S.view x ≡ (S.view space).system) }
         ensures all { IfOk result (λ x. OwesAll S.view (S.view space).system x) }
-        ensures most { IfOk result (λ x. most_of x ≡ Some most) }
-        ensures last { IfOk result (λ x. ended_of x ≡ None) }
+        ensures most { IfOk result (λ x. loopless_most x ≡ Some most) }
+        ensures last { IfOk result (λ x. loopless_ended x ≡ None) }
     {
         LooplessPlans::begin_anywhere(alloc, space, Some(most))
     }

@@ -2,7 +2,7 @@
 
 use crate::front::Front;
 use backward_search::Backward;
-use lazy_plans::Stop;
+use lazy_plans::{LazyPlans, Steps, Stop};
 use space_api::Space;
 use symk_task::Plan;
 
@@ -24,12 +24,11 @@ pub struct LooplessPlans<S: Space> {
 ghost use Rattle.std.specs.Prelude.{◌≡◌, ◌≢◌, None, IfOk};
 ghost use Rattle.symk_task.specs.declared.parts.Mode.TheVariants.{Loopless};
 ghost use Rattle.lazy_plans.specs.Law.{Turned, last_of};
-ghost use Rattle.prefix_laws.proofs.Owed.{owed_fair, owed_told};
+ghost use Rattle.lazy_plans.proofs.Owed.{owed_fair, owed_told};
 ghost use Rattle.loopless.specs.Front.{prefixes_of};
-ghost use Rattle.loopless.specs.Engine.{system_of, most_of, ended_of, Pends, tells, IsEngine, KeepsAll, HasRoom, Answers};
+ghost use Rattle.loopless.specs.Engine.{loopless_system, loopless_most, loopless_ended, PendsLoopless, loopless_tells, IsLooplessEngine, KeepsAllLoopless, HasLooplessRoom, AnswersLoopless};
 
 use crate::walk::walk;
-use lazy_plans::{LazyPlans, Steps};
 use std::alloc::Global;
 use std::sync::ledger::Ledger;
 
@@ -37,10 +36,10 @@ impl<S: Space> LooplessPlans<S> {
     /// Asks for the next plan, and tidies the space before it is handed out. Where that is refused the plan is
     /// held, and the engine stops.
     fn ask<L: Ledger>(&mut self, alloc: Global, steps: &mut Steps<L>) -> Result<Option<Plan>, Stop>
-        requires engine { IsEngine S.view self.old }
-        requires goes_on { ended_of self.old ≡ None }
-        ensures answers { Answers S.view self.old self.new result }
-        ensures most { most_of self.new ≡ most_of self.old }
+        requires engine { IsLooplessEngine S.view self.old }
+        requires goes_on { loopless_ended self.old ≡ None }
+        ensures answers { AnswersLoopless S.view self.old self.new result }
+        ensures most { loopless_most self.new ≡ loopless_most self.old }
     {
         match walk(
             alloc,
@@ -73,19 +72,19 @@ impl<S: Space> LooplessPlans<S> {
 }
 
 impl<S: Space> LazyPlans for LooplessPlans<S> {
-    ghost system = { λ x. system_of S.view x };
+    ghost system = { λ x. loopless_system S.view x };
 
     ghost mode = { λ x. Loopless };
 
-    ghost most = { λ x. most_of x };
+    ghost most = { λ x. loopless_most x };
 
-    ghost pends = { λ x. Pends S.view x };
+    ghost pends = { λ x. PendsLoopless S.view x };
 
-    ghost tells = { λ x. tells S.view x };
+    ghost tells = { λ x. loopless_tells S.view x };
 
-    ghost lawful = { λ x. IsEngine S.view x };
+    ghost lawful = { λ x. IsLooplessEngine S.view x };
 
-    ghost last = { λ x. ended_of x };
+    ghost last = { λ x. loopless_ended x };
 
     /// The next plan. One turn is one step. After each call, also one that is refused, every valid set is one
     /// of the search back, or the one that it is kept to. After a plan or None the space is tidy.
@@ -94,17 +93,18 @@ impl<S: Space> LazyPlans for LooplessPlans<S> {
         alloc: Global,
         steps: &mut Steps<L>,
     ) -> Result<Option<Plan>, Stop>
-        requires { IsEngine S.view self.old }
-        ensures lawful { IsEngine S.view self.new }
-        ensures system { system_of S.view self.new ≡ system_of S.view self.old }
+        requires { IsLooplessEngine S.view self.old }
+        ensures lawful { IsLooplessEngine S.view self.new }
+        ensures system { loopless_system S.view self.new ≡ loopless_system S.view self.old }
         ensures mode { Loopless ≡ Loopless }
-        ensures most { most_of self.new ≡ most_of self.old }
-        ensures law { Turned (system_of S.view self.old) Loopless (most_of self.old) (Pends S.view self.old)
-            (Pends S.view self.new) result }
-        ensures last { ended_of self.new ≡ last_of result }
-        ensures again { ended_of self.old ≢ None → ended_of self.new ≡ ended_of self.old }
-        ensures keeps { KeepsAll S.view self.new }
-        ensures tidy { IfOk result (λ o. HasRoom S.view self.new) }
+        ensures most { loopless_most self.new ≡ loopless_most self.old }
+        ensures law { Turned (loopless_system S.view self.old) Loopless (loopless_most self.old)
+            (PendsLoopless S.view self.old)
+            (PendsLoopless S.view self.new) result }
+        ensures last { loopless_ended self.new ≡ last_of result }
+        ensures again { loopless_ended self.old ≢ None → loopless_ended self.new ≡ loopless_ended self.old }
+        ensures keeps { KeepsAllLoopless S.view self.new }
+        ensures tidy { IfOk result (λ o. HasLooplessRoom S.view self.new) }
     {
         match self.ended {
             None => self.ask(alloc, steps),

@@ -2,13 +2,13 @@
 
 ghost use Rattle.std.specs.Prelude.{◌≡◌, ℕ, ◌+◌, ◌<◌, ◌≤◌, ◌*◌, ◌-◌, ◌^◌, [], IfOk, OnOk, length};
 ghost use Rattle.space_api.specs.View.{View};
-ghost use Rattle.prefix_tree.specs.Tree.{IsTree, Grows, path_at, end_at};
-ghost use Rattle.prefix_tree.specs.StateGraph.{states_of, IsMove, AreMoves};
-ghost use Rattle.prefix_tree.specs.Entries.{HasRoom};
+ghost use Rattle.prefix_tree.specs.Tree.{IsTree, GrowsTree, path_at, end_at};
+ghost use Rattle.prefix_tree.specs.StateGraph.{states_of, IsGraphMove, AreGraphMoves};
+ghost use Rattle.prefix_tree.specs.Entries.{HasQueueRoom};
 ghost use Rattle.symk_task.specs.declared.parts.Mode.TheVariants.{Loopless};
 ghost use Rattle.loopless.specs.Told.{Informs};
-ghost use Rattle.loopless.specs.Children.{IsEntry, Added, AreChildren};
-ghost use Rattle.loopless.specs.Standing.{IsReady, IsGrown};
+ghost use Rattle.loopless.specs.Children.{IsEntry, AddsLooplessChild, AreChildren};
+ghost use Rattle.loopless.specs.Standing.{IsLooplessReady, IsGrown};
 
 use crate::front::Front;
 use crate::left::{Heuristic, left_after};
@@ -54,12 +54,12 @@ fn add_child<S: Space>(
     requires tree { IsTree (S.view heuristic.now.space.now).system Loopless (states_of heuristic.now.graph.now)
         tree.old.items }
     requires entry { IsEntry (S.view heuristic.now.space.now).system tree.old.items entry }
-    requires step { IsMove (S.view heuristic.now.space.now).system (states_of heuristic.now.graph.now)
+    requires step { IsGraphMove (S.view heuristic.now.space.now).system (states_of heuristic.now.graph.now)
         (end_at (states_of heuristic.now.graph.now) tree.old.items entry.node) step }
     ensures informed { Informs S.view heuristic.now rests.new }
-    ensures grows { Grows (S.view heuristic.now.space.now).system Loopless (states_of heuristic.now.graph.now)
+    ensures grows { GrowsTree (S.view heuristic.now.space.now).system Loopless (states_of heuristic.now.graph.now)
         tree.old.items tree.new.items }
-    ensures added { OnOk result (Added (S.view heuristic.now.space.now).system tree.new.items
+    ensures added { OnOk result (AddsLooplessChild (S.view heuristic.now.space.now).system tree.new.items
         (path_at tree.old.items entry.node) step.op children.old.items children.new.items) }
 {
     let cost = entry.cost + heuristic.space.cost_of(step.op) as u128;
@@ -89,11 +89,11 @@ fn add_all<S: Space>(
     requires tree { IsTree (S.view heuristic.now.space.now).system Loopless (states_of heuristic.now.graph.now)
         tree.old.items }
     requires entry { IsEntry (S.view heuristic.now.space.now).system tree.old.items entry }
-    requires moves { AreMoves (S.view heuristic.now.space.now).system (states_of heuristic.now.graph.now)
+    requires moves { AreGraphMoves (S.view heuristic.now.space.now).system (states_of heuristic.now.graph.now)
         (end_at (states_of heuristic.now.graph.now) tree.old.items entry.node) moves.now }
     requires none { children.old.items ≡ [] }
     ensures informed { Informs S.view heuristic.now rests.new }
-    ensures grows { Grows (S.view heuristic.now.space.now).system Loopless (states_of heuristic.now.graph.now)
+    ensures grows { GrowsTree (S.view heuristic.now.space.now).system Loopless (states_of heuristic.now.graph.now)
         tree.old.items tree.new.items }
     ensures children { OnOk result (AreChildren (S.view heuristic.now.space.now).system tree.new.items
         (path_at tree.old.items entry.node) (S.view heuristic.now.space.now).system.operators children.new.items) }
@@ -112,10 +112,10 @@ pub(crate) fn expand<S: Space>(
     front: &mut Front,
     entry: Entry,
 ) -> Result<Vec<Entry>, SpaceFault>
-    requires ready { IsReady (S.view space.now) backward.now front.old }
+    requires ready { IsLooplessReady (S.view space.now) backward.now front.old }
     requires entry { IsEntry (S.view space.now).system front.old.tree.items entry }
     ensures grown { IsGrown (S.view space.now).system front.old front.new }
-    ensures room { IfOk result (λ kids. HasRoom front.new.queue (length kids.items)) }
+    ensures room { IfOk result (λ kids. HasQueueRoom front.new.queue (length kids.items)) }
     ensures children { IfOk result (λ kids. AreChildren (S.view space.now).system front.new.tree.items
         (path_at front.old.tree.items entry.node) (S.view space.now).system.operators kids.items) }
 {

@@ -4,19 +4,18 @@ ghost use Rattle.std.specs.Prelude.{◌<◌, ◌++◌, ◌∷◌, [], IsTrue, If
 ghost use Rattle.std.specs.Bool.{Decides};
 ghost use Rattle.task_system.specs.System.{State, Leads};
 ghost use Rattle.space_api.specs.View.{View};
-ghost use Rattle.single_states.specs.States.{IsReached};
-ghost use Rattle.prefix_tree.specs.StateGraph.{states_of, IsMove};
+ghost use Rattle.space_api.specs.States.{IsReached};
+ghost use Rattle.prefix_tree.specs.StateGraph.{states_of, IsGraphMove};
 ghost use Rattle.prefix_tree.specs.Tree.{IsTree, path_at, end_at};
 ghost use Rattle.symk_task.specs.declared.parts.Mode.TheVariants.{Loopless};
-ghost use Rattle.loopless.specs.Left.{CostsAtLeast, EndsAtLeast};
+ghost use Rattle.loopless.specs.Left.{RestCostsAtLeast, EndsAtLeast};
 ghost use Rattle.loopless.specs.Told.{Informs};
 ghost use Rattle.loopless.specs.Reach.{IsReach};
 
 use crate::left::{Heuristic, Left, left_from};
 use crate::rests::Rests;
 use prefix_tree::{Move, Node, passes};
-use single_states::goal_at;
-use space_api::{Space, SpaceFault};
+use space_api::{Space, SpaceFault, goal_at};
 use std::alloc::Global;
 use symk_task::State;
 
@@ -35,7 +34,7 @@ fn goal_after<S: Space>(
     left: Left,
 ) -> Result<bool, SpaceFault>
     requires reached { IsReached (S.view space.now).system state.now }
-    requires left { CostsAtLeast (S.view space.now).system state.now left.cost }
+    requires left { RestCostsAtLeast (S.view space.now).system state.now left.cost }
     ensures { IfOk result (λ holds. Decides holds (IsTrue ((S.view space.now).system.goal state.now))) }
 {
     if left.cost > 0 {
@@ -58,7 +57,7 @@ pub(crate) fn reach<S: Space>(
     requires informed { Informs S.view heuristic.now rests.old }
     requires tree { IsTree (S.view heuristic.now.space.now).system Loopless (states_of heuristic.now.graph.now) tree.now }
     requires node { node < length tree.now }
-    requires step { IsMove (S.view heuristic.now.space.now).system (states_of heuristic.now.graph.now)
+    requires step { IsGraphMove (S.view heuristic.now.space.now).system (states_of heuristic.now.graph.now)
         (end_at (states_of heuristic.now.graph.now) tree.now node) step }
     requires low { EndsAtLeast (S.view heuristic.now.space.now).system (path_at tree.now node ++ step.op ∷ []) low }
     ensures informed { Informs S.view heuristic.now rests.new }

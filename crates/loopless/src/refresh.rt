@@ -6,10 +6,10 @@ ghost use Rattle.cost_search.specs.Directed.{IsBackward};
 ghost use Rattle.prefix_tree.specs.StateGraph.{states_of};
 ghost use Rattle.prefix_tree.specs.Tree.{IsTree};
 ghost use Rattle.symk_task.specs.declared.parts.Mode.TheVariants.{Loopless};
-ghost use Rattle.loopless.specs.Rests.{IsKept};
+ghost use Rattle.loopless.specs.Rests.{AreKeptRests};
 ghost use Rattle.loopless.specs.Told.{IsInformed, Informs};
 ghost use Rattle.loopless.specs.Children.{IsEntry};
-ghost use Rattle.loopless.specs.Standing.{Moved, IsBetter, stale};
+ghost use Rattle.loopless.specs.Standing.{MovedBackward, IsBetter, stale};
 
 use crate::left::{Heuristic, Left, left_after, left_from};
 use crate::rests::Rests;
@@ -30,7 +30,7 @@ fn look_further<S: Space>(
     requires backward { IsBackward (S.view space.old) backward.old }
     requires least { entry.cost ≤ entry.bound.0 }
     ensures backward { IsBackward (S.view space.new) backward.new }
-    ensures moved { Moved (S.view space.old) (S.view space.new) backward.old backward.new }
+    ensures moved { MovedBackward (S.view space.old) (S.view space.new) backward.old backward.new }
 {
     if is_known || entry.bound.0 - entry.cost < backward.layers().known_below() {
         return Ok(());
@@ -121,8 +121,8 @@ pub(crate) fn refresh<S: Space>(
     requires entry { IsEntry (S.view space.old).system tree.now entry }
     requires open { IsFalse entry.settled }
     ensures backward { IsBackward (S.view space.new) backward.new }
-    ensures moved { Moved (S.view space.old) (S.view space.new) backward.old backward.new }
-    ensures kept { IsKept (S.view space.old).system (states_of graph.now) rests.new }
+    ensures moved { MovedBackward (S.view space.old) (S.view space.new) backward.old backward.new }
+    ensures kept { AreKeptRests (S.view space.old).system (states_of graph.now) rests.new }
     ensures better { IfOk result (IsBetter (S.view space.old).system tree.now entry) }
 {
     let here = node_at(tree, entry.node);

@@ -3,8 +3,8 @@
 ghost use Rattle.std.specs.Prelude.{◌≡◌, ◌+◌, ◌<◌, IsFalse, IfOk, OnOk, OnErr, length};
 ghost use Rattle.space_api.specs.View.{View};
 ghost use Rattle.prefix_tree.specs.Tree.{AreLinked};
-ghost use Rattle.loopless.specs.Front.{prefixes_of, IsFirst};
-ghost use Rattle.loopless.specs.Standing.{IsReady, GoesOn, Opens, IsPlanAt, listed_of};
+ghost use Rattle.loopless.specs.Front.{prefixes_of, IsLooplessFirst};
+ghost use Rattle.loopless.specs.Standing.{IsLooplessReady, GoesOnLoopless, OpensLoopless, IsLooplessEntryPlan, listed_of};
 
 use crate::expand::expand;
 use crate::front::Front;
@@ -41,12 +41,12 @@ pub fn learn<S: Space, L: Ledger>(
     entry: Entry,
     steps: &mut Steps<L>,
 ) -> Result<(), SpaceFault>
-    requires ready { IsReady (S.view space.old) backward.old front.old }
-    requires first { IsFirst front.old entry }
+    requires ready { IsLooplessReady (S.view space.old) backward.old front.old }
+    requires first { IsLooplessFirst front.old entry }
     requires open { IsFalse entry.settled }
     ensures system { (S.view space.new).system ≡ (S.view space.old).system }
-    ensures ready { IsReady (S.view space.new) backward.new front.new }
-    ensures ok { OnOk result (GoesOn (S.view space.old).system front.old front.new) }
+    ensures ready { IsLooplessReady (S.view space.new) backward.new front.new }
+    ensures ok { OnOk result (GoesOnLoopless (S.view space.old).system front.old front.new) }
     ensures err { OnErr result (prefixes_of front.new ≡ prefixes_of front.old) }
     ensures one { OnOk result (steps.new ≡ steps.old + 1) }
     ensures none { OnErr result (steps.new ≡ steps.old) }
@@ -70,7 +70,7 @@ pub fn learn<S: Space, L: Ledger>(
 fn plan_of(alloc: Global, tree: &[Node], entry: Entry) -> Result<Option<Plan>, AllocError>
     requires linked { AreLinked tree.now }
     requires inside { entry.node < length tree.now }
-    ensures { IfOk result (λ plan. IsPlanAt tree.now entry plan) }
+    ensures { IfOk result (λ plan. IsLooplessEntryPlan tree.now entry plan) }
 {
     if entry.at_goal {
         return Ok(Some(Plan::of(operators_to(alloc, tree, entry.node)?)));
@@ -88,10 +88,10 @@ pub fn open<S: Space, L: Ledger>(
     entry: Entry,
     steps: &mut Steps<L>,
 ) -> Result<Option<Plan>, SpaceFault>
-    requires ready { IsReady (S.view space.now) backward.now front.old }
-    requires first { IsFirst front.old entry }
-    ensures ready { IsReady (S.view space.now) backward.now front.new }
-    ensures ok { IfOk result (Opens (S.view space.now).system front.old front.new entry) }
+    requires ready { IsLooplessReady (S.view space.now) backward.now front.old }
+    requires first { IsLooplessFirst front.old entry }
+    ensures ready { IsLooplessReady (S.view space.now) backward.now front.new }
+    ensures ok { IfOk result (OpensLoopless (S.view space.now).system front.old front.new entry) }
     ensures err { OnErr result (prefixes_of front.new ≡ prefixes_of front.old) }
     ensures one { OnOk result (steps.new ≡ steps.old + 1) }
     ensures none { OnErr result (steps.new ≡ steps.old) }

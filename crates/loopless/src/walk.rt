@@ -4,10 +4,10 @@ ghost use Rattle.std.specs.Prelude.{◌≡◌, ◌+◌, ◌<◌, IfOk, OnOk, OnE
 ghost use Rattle.std.specs.Bool.{Decides};
 ghost use Rattle.symk_task.specs.declared.parts.Mode.TheVariants.{Loopless};
 ghost use Rattle.space_api.specs.View.{View};
-ghost use Rattle.prefix_laws.specs.Queue.{Right, Pending};
+ghost use Rattle.lazy_plans.specs.Queue.{Right, Pending};
 ghost use Rattle.lazy_plans.specs.Law.{Turned};
-ghost use Rattle.loopless.specs.Front.{prefixes_of, IsFirst};
-ghost use Rattle.loopless.specs.Standing.{IsReady, Opens};
+ghost use Rattle.loopless.specs.Front.{prefixes_of, IsLooplessFirst};
+ghost use Rattle.loopless.specs.Standing.{IsLooplessReady, OpensLoopless};
 ghost use Rattle.loopless.specs.Turned.{TurnOf, CountsTurn, IsPast, IsOut};
 
 use crate::front::Front;
@@ -58,11 +58,11 @@ fn act<S: Space, L: Ledger>(
     entry: Entry,
     steps: &mut Steps<L>,
 ) -> Result<Option<Plan>, SpaceFault>
-    requires ready { IsReady (S.view space.old) backward.old front.old }
-    requires first { IsFirst front.old entry }
+    requires ready { IsLooplessReady (S.view space.old) backward.old front.old }
+    requires first { IsLooplessFirst front.old entry }
     ensures system { (S.view space.new).system ≡ (S.view space.old).system }
-    ensures ready { IsReady (S.view space.new) backward.new front.new }
-    ensures ok { IfOk result (Opens (S.view space.old).system front.old front.new entry) }
+    ensures ready { IsLooplessReady (S.view space.new) backward.new front.new }
+    ensures ok { IfOk result (OpensLoopless (S.view space.old).system front.old front.new entry) }
     ensures err { OnErr result (prefixes_of front.new ≡ prefixes_of front.old) }
     ensures one { OnOk result (steps.new ≡ steps.old + 1) }
     ensures none { OnErr result (steps.new ≡ steps.old) }
@@ -83,10 +83,10 @@ fn take_turn<S: Space, L: Ledger>(
     front: &mut Front,
     steps: &mut Steps<L>,
 ) -> Result<Turn, SpaceFault>
-    requires ready { IsReady (S.view space.old) backward.old front.old }
+    requires ready { IsLooplessReady (S.view space.old) backward.old front.old }
     requires right { Right (S.view space.old).system Loopless most (prefixes_of front.old) }
     ensures system { (S.view space.new).system ≡ (S.view space.old).system }
-    ensures ready { IsReady (S.view space.new) backward.new front.new }
+    ensures ready { IsLooplessReady (S.view space.new) backward.new front.new }
     ensures ok { IfOk result (TurnOf (S.view space.old).system most front.old front.new) }
     ensures err { OnErr result (prefixes_of front.new ≡ prefixes_of front.old) }
     ensures one { IfOk result (CountsTurn steps.old steps.new) }
@@ -118,10 +118,10 @@ pub fn walk<S: Space, L: Ledger>(
     front: &mut Front,
     steps: &mut Steps<L>,
 ) -> Result<Option<Plan>, Stop>
-    requires ready { IsReady (S.view space.old) backward.old front.old }
+    requires ready { IsLooplessReady (S.view space.old) backward.old front.old }
     requires right { Right (S.view space.old).system Loopless most (prefixes_of front.old) }
     ensures system { (S.view space.new).system ≡ (S.view space.old).system }
-    ensures ready { IsReady (S.view space.new) backward.new front.new }
+    ensures ready { IsLooplessReady (S.view space.new) backward.new front.new }
     ensures right { Right (S.view space.old).system Loopless most (prefixes_of front.new) }
     ensures law { Turned (S.view space.old).system Loopless most
         (Pending (S.view space.old).system Loopless (prefixes_of front.old))

@@ -1,23 +1,23 @@
 -- Calls of several turns, refused, and given again.
 use Rattle.std.proofs.Common.{ℕ, List, Option, Some, None, Result, Ok, Err, refl}
 use Rattle.task_system.specs.System.{System}
-use Rattle.lazy_plans.specs.Law.{Stays, Stops, NoneLeft, Ended, last_of}
+use Rattle.lazy_plans.specs.Law.{PendsAlike, MayStop, NoneLeft, Ended, last_of}
 use Rattle.lazy_plans.specs.declared.stop.Stop.{Stop}
 use Rattle.lazy_plans.specs.declared.stop.Stop.TheVariants.{Memory, CostRange}
-use Rattle.class_plans.specs.Members.{GaveMember, KeepsMembers, TurnedMembers}
+use Rattle.selectors.specs.Members.{GaveMember, KeepsMembers, TurnedMembers}
 use Rattle.member_laws.specs.Nodes.{PendsNode}
 
 keeps_self : (a : List ℕ → Type 0) → KeepsMembers a a
 keeps_self a = record { fewer = λ q h. h; members = λ q h. record { member = q; alike = λ b. refl; pending = h } }
 
-keeps_from : (a b c : List ℕ → Type 0) → Stays a b → KeepsMembers b c → KeepsMembers a c
+keeps_from : (a b c : List ℕ → Type 0) → PendsAlike a b → KeepsMembers b c → KeepsMembers a c
 keeps_from a b c s k = record { fewer = λ q h. (s q).0 (k.fewer q h); members = λ q h. k.members q ((s q).1 h) }
 
-none_before : (y : System) (most : Option ℕ) (a b : List ℕ → Type 0) → Stays a b → NoneLeft y most b → NoneLeft y most a
+none_before : (y : System) (most : Option ℕ) (a b : List ℕ → Type 0) → PendsAlike a b → NoneLeft y most b → NoneLeft y most a
 none_before y None a b s n = λ q h. n q ((s q).1 h)
 none_before y (Some c) a b s n = λ q h. n q ((s q).1 h)
 
-stops_before : (y : System) (most : Option ℕ) (a b : List ℕ → Type 0) (stop : Stop) → Stays a b → Stops y most b stop → Stops y most a stop
+stops_before : (y : System) (most : Option ℕ) (a b : List ℕ → Type 0) (stop : Stop) → PendsAlike a b → MayStop y most b stop → MayStop y most a stop
 stops_before y None a b Memory s h = tt
 stops_before y (Some c) a b Memory s h = tt
 stops_before y None a b CostRange s h = ((h.0.0, (s h.0.0).0 h.0.1), (λ q k. h.1 q ((s q).1 k)))
@@ -25,7 +25,7 @@ stops_before y (Some c) a b CostRange s h = absurd h
 
 -- the law, seen from an earlier value of which the same pends
 pub turned_from : (y : System) (most : Option ℕ) (a b c : List ℕ → Type 0) (r : Result (Option (List ℕ)) Stop)
-    → Stays a b → TurnedMembers y most b c r → TurnedMembers y most a c r
+    → PendsAlike a b → TurnedMembers y most b c r → TurnedMembers y most a c r
 turned_from y most a b c (Ok (Some p)) s g = record {
   pended = (s p).0 g.pended;
   fits = g.fits;
@@ -40,7 +40,7 @@ none_after : (y : System) (most : Option ℕ) (a b : List ℕ → Type 0) → Ke
 none_after y None a b k n = λ q h. n q (k.fewer q h)
 none_after y (Some c) a b k n = λ q h. n q (k.fewer q h)
 
-stops_after : (y : System) (most : Option ℕ) (a b : List ℕ → Type 0) (stop : Stop) → KeepsMembers a b → Stops y most a stop → Stops y most b stop
+stops_after : (y : System) (most : Option ℕ) (a b : List ℕ → Type 0) (stop : Stop) → KeepsMembers a b → MayStop y most a stop → MayStop y most b stop
 stops_after y None a b Memory k h = tt
 stops_after y (Some c) a b Memory k h = tt
 stops_after y None a b CostRange k h = ((let m = k.members h.0.0 h.0.1 in (m.member, m.pending)), (λ q z. h.1 q (k.fewer q z)))
@@ -61,12 +61,12 @@ pub again_stop : (y : System) (most : Option ℕ) (a : List ℕ → Type 0) (sto
 again_stop y most a stop h = (h, keeps_self a)
 
 -- out of memory says nothing of what pends
-memory_stops : (y : System) (most : Option ℕ) (before : List ℕ → Type 0) → Stops y most before Memory
+memory_stops : (y : System) (most : Option ℕ) (before : List ℕ → Type 0) → MayStop y most before Memory
 memory_stops y None before = tt
 memory_stops y (Some c) before = tt
 
 -- turns that opened no plan took what was opened from `first` to `old`
-module _ (y : System) (most : Option ℕ) (first old : List (List ℕ)) (stays : Stays (PendsNode y first) (PendsNode y old)) where
+module _ (y : System) (most : Option ℕ) (first old : List (List ℕ)) (stays : PendsAlike (PendsNode y first) (PendsNode y old)) where
   -- and one more to `new`, which gives a plan
   pub call_gives : (new : List (List ℕ)) (p : List ℕ) → GaveMember y most (PendsNode y old) (PendsNode y new) p
       → TurnedMembers y most (PendsNode y first) (PendsNode y new) (Ok (Some p))
@@ -75,7 +75,7 @@ module _ (y : System) (most : Option ℕ) (first old : List (List ℕ)) (stays :
   pub call_ends : NoneLeft y most (PendsNode y old) → TurnedMembers y most (PendsNode y first) (PendsNode y old) (Ok None)
   call_ends n = turned_from y most (PendsNode y first) (PendsNode y old) (PendsNode y old) (Ok None) stays (n, keeps_self (PendsNode y old))
 
-  pub call_stops : (stop : Stop) → Stops y most (PendsNode y old) stop → TurnedMembers y most (PendsNode y first) (PendsNode y old) (Err stop)
+  pub call_stops : (stop : Stop) → MayStop y most (PendsNode y old) stop → TurnedMembers y most (PendsNode y first) (PendsNode y old) (Err stop)
   call_stops stop s = turned_from y most (PendsNode y first) (PendsNode y old) (PendsNode y old) (Err stop) stays (s, keeps_self (PendsNode y old))
 
   -- memory is refused before one more is opened

@@ -4,12 +4,12 @@ use Rattle.std.specs.List.{sum_by}
 use Rattle.std.proofs.lemmas.List.Sums.{sum_by-cons}
 use Rattle.symk_task.specs.declared.parts.Mode.TheVariants.{TopK}
 use Rattle.task_system.specs.System.{System, Listed, are_equal}
-use Rattle.selector_laws.proofs.Rearranged.{in_left, in_right}
+use Rattle.lazy_plans.proofs.Rearranged.{in_left, in_right}
 use Rattle.lazy_plans.proofs.Told.{equal_is, equal_self}
-use Rattle.prefix_laws.specs.Queue.{ind, Hopeless, Replaced}
-use Rattle.prefix_laws.proofs.Traces.{runs_join}
-use Rattle.stubborn_laws.specs.Stubborn.{AppliesIn}
-use Rattle.member_laws.specs.Nodes.{Joins, IsJoined, MetOrNone, IsClosed, Covers}
+use Rattle.lazy_plans.specs.Queue.{ind, Hopeless, Replaced}
+use Rattle.lazy_plans.proofs.Traces.{runs_join}
+use Rattle.stubborn_sets.specs.Stubborn.{IsApplicable}
+use Rattle.member_laws.specs.Nodes.{JoinsAtNode, IsJoinedAtNode, MetOrNone, IsClosedPrefix, CoversOpened}
 use Rattle.member_laws.specs.Opening.{Opening}
 use Rattle.member_laws.proofs.Joining.{joins_self, joins_trans, joined_lost}
 
@@ -74,13 +74,13 @@ listed_last xs e = in_right xs (e ∷ []) e (inl refl)
 
 -- What was met still is, where what an entry joined is met.
 module _ (y : System) (opened later old new : List (List ℕ)) (more : (x : List ℕ) → Listed opened x → Listed later x)
-    (on : (x : List ℕ) → IsJoined y old x → MetOrNone y later new x) where
+    (on : (x : List ℕ) → IsJoinedAtNode y old x → MetOrNone y later new x) where
   met_on : (x : List ℕ) → MetOrNone y opened old x → MetOrNone y later new x
   met_on x (inl (inl j)) = inl (inl (j.0, more j.0 j.1, j.2))
   met_on x (inl (inr j)) = on x j
   met_on x (inr lost) = inr lost
 
-  closed_on : (e : List ℕ) → IsClosed y opened old e → IsClosed y later new e
+  closed_on : (e : List ℕ) → IsClosedPrefix y opened old e → IsClosedPrefix y later new e
   closed_on e c = record {
     end = c.end;
     runs = c.runs;
@@ -89,35 +89,35 @@ module _ (y : System) (opened later old new : List (List ℕ)) (more : (x : List
     steps = λ op inside applies. met_on (e ++ op ∷ []) (c.steps op inside applies);
   }
 
-covers_on : (y : System) (opened old new : List (List ℕ)) → ((x : List ℕ) → IsJoined y old x → MetOrNone y opened new
-    x) → Covers y opened old → Covers y opened new
+covers_on : (y : System) (opened old new : List (List ℕ)) → ((x : List ℕ) → IsJoinedAtNode y old x → MetOrNone y opened new
+    x) → CoversOpened y opened old → CoversOpened y opened new
 covers_on y opened old new on c = record {
   root = met_on y opened opened old new (λ x l. l) on [] c.root;
   each = λ e l. closed_on y opened opened old new (λ x k. k) on e (c.each e l);
 }
 
-module _ (y : System) (e : List ℕ) (opened old new : List (List ℕ)) (covers : Covers y opened old) where
+module _ (y : System) (e : List ℕ) (opened old new : List (List ℕ)) (covers : CoversOpened y opened old) where
   -- e is left out, and what joins it is met, or no plan goes on from it
-  left_out : Replaced old [] e new → ((x : List ℕ) → Joins y x e → MetOrNone y opened new x) → Covers y opened new
+  left_out : Replaced old [] e new → ((x : List ℕ) → JoinsAtNode y x e → MetOrNone y opened new x) → CoversOpened y opened new
   left_out taken instead = covers_on y opened old new (λ x j. elim (old_stays old [] new e taken j.0 j.1) [
     | inl l ↦ inl (inr (j.0, l, j.2))
-    | inr is ↦ instead x (subst (Joins y x) (sym is) j.2)
+    | inr is ↦ instead x (subst (JoinsAtNode y x) (sym is) j.2)
   ]) covers
 
   -- it joins one that was opened
-  pub joined_goes : IsJoined y opened e → Replaced old [] e new → Covers y opened new
+  pub joined_goes : IsJoinedAtNode y opened e → Replaced old [] e new → CoversOpened y opened new
   joined_goes (o, l, k) taken = left_out taken (λ x j. inl (inl (o, l, joins_trans y x e o j k)))
 
   -- no plan goes on from it
-  pub hopeless_goes : Hopeless y TopK e → Replaced old [] e new → Covers y opened new
+  pub hopeless_goes : Hopeless y TopK e → Replaced old [] e new → CoversOpened y opened new
   hopeless_goes lost taken = left_out taken (λ x j. inr (joined_lost y x e j lost))
 
   -- it is put back, told better
-  pub comes_back : Replaced old (e ∷ []) e new → Covers y opened new
+  pub comes_back : Replaced old (e ∷ []) e new → CoversOpened y opened new
   comes_back taken = covers_on y opened old new (λ x j. inl (inr (j.0, put_back old new e j.0 taken j.1, j.2))) covers
 
 -- e is opened
-module _ (y : System) (e : List ℕ) (opened old kids new : List (List ℕ)) (covers : Covers y opened old)
+module _ (y : System) (e : List ℕ) (opened old kids new : List (List ℕ)) (covers : CoversOpened y opened old)
     (opening : Opening y opened old kids e) (taken : Replaced old kids e new) where
   abbrev later : List (List ℕ)
   later = opened ++ e ∷ []
@@ -125,22 +125,22 @@ module _ (y : System) (e : List ℕ) (opened old kids new : List (List ℕ)) (co
   on_left : (x : List ℕ) → Listed opened x → Listed later x
   on_left x l = in_left opened (e ∷ []) x l
 
-  entry_on : (x : List ℕ) → IsJoined y old x → MetOrNone y later new x
+  entry_on : (x : List ℕ) → IsJoinedAtNode y old x → MetOrNone y later new x
   entry_on x j = elim (old_stays old kids new e taken j.0 j.1) [
     | inl l ↦ inl (inr (j.0, l, j.2))
-    | inr is ↦ inl (inl (e, listed_last opened e, subst (Joins y x) (sym is) j.2))
+    | inr is ↦ inl (inl (e, listed_last opened e, subst (JoinsAtNode y x) (sym is) j.2))
   ]
 
-  child_on : (op : ℕ) → AppliesIn y op opening.end → Listed kids (e ++ op ∷ []) → MetOrNone y later new (e ++ op ∷ [])
+  child_on : (op : ℕ) → IsApplicable y op opening.end → Listed kids (e ++ op ∷ []) → MetOrNone y later new (e ++ op ∷ [])
   child_on op (t, lead) l =
-      let self : Joins y (e ++ op ∷ []) (e ++ op ∷ []) = joins_self y (e ++ op ∷ []) t
+      let self : JoinsAtNode y (e ++ op ∷ []) (e ++ op ∷ []) = joins_self y (e ++ op ∷ []) t
       (runs_join y e (op ∷ []) y.initial opening.end t opening.runs (t, lead, refl)) in
       elim (child_comes old kids new e taken (e ++ op ∷ []) l) [
         | inl k ↦ inl (inr (e ++ op ∷ [], k, self))
-        | inr is ↦ inl (inl (e, listed_last opened e, subst (Joins y (e ++ op ∷ [])) (sym is) self))
+        | inr is ↦ inl (inl (e, listed_last opened e, subst (JoinsAtNode y (e ++ op ∷ [])) (sym is) self))
       ]
 
-  is_closed : IsClosed y later new e
+  is_closed : IsClosedPrefix y later new e
   is_closed = record {
     end = opening.end;
     runs = opening.runs;
@@ -152,11 +152,11 @@ module _ (y : System) (e : List ℕ) (opened old kids new : List (List ℕ)) (co
     ];
   }
 
-  pub opening_covers : Covers y later new
+  pub opening_covers : CoversOpened y later new
   opening_covers = record {
     root = met_on y opened later old new on_left entry_on [] covers.root;
     each = λ o l. elim (listed_cases opened e o l) [
       | inl k ↦ closed_on y opened later old new on_left entry_on o (covers.each o k)
-      | inr is ↦ subst (IsClosed y later new) is is_closed
+      | inr is ↦ subst (IsClosedPrefix y later new) is is_closed
     ];
   }

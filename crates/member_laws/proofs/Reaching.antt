@@ -1,8 +1,8 @@
 -- The children of an opening, operator after operator.
 use Rattle.std.proofs.Common.{◌≡◌, ℕ, ◌+◌, ◌<◌, ◌≤◌, Bool, true, false, not, IsTrue, IsFalse, ◌⊎◌, inl, inr, List, [], ◌∷◌, ◌++◌, refl, subst, arith}
 use Rattle.task_system.specs.System.{State, System, Listed}
-use Rattle.selector_laws.proofs.Rearranged.{in_left}
-use Rattle.stubborn_laws.specs.Stubborn.{AppliesIn, Stubborn}
+use Rattle.lazy_plans.proofs.Rearranged.{in_left}
+use Rattle.stubborn_sets.specs.Stubborn.{IsApplicable, Stubborn}
 use Rattle.member_laws.specs.Nodes.{MetOrNone}
 use Rattle.member_laws.specs.Opening.{ReachedBelow}
 use Rattle.member_laws.proofs.Covering.{listed_last}
@@ -29,7 +29,7 @@ module _ (y : System) (set : ℕ → Bool) (opened queue : List (List ℕ)) (e :
 
   -- each of the next so many is reached
   pub reached_past : (n k : ℕ) (kids : List (List ℕ)) → ReachedBelow y set opened queue e end n kids
-      → ((op : ℕ) → n ≤ op → op < n + k → IsTrue (set op) → AppliesIn y op end → Listed kids (e ++ op ∷ []) ⊎ MetOrNone y opened queue (e ++ op ∷ []))
+      → ((op : ℕ) → n ≤ op → op < n + k → IsTrue (set op) → IsApplicable y op end → Listed kids (e ++ op ∷ []) ⊎ MetOrNone y opened queue (e ++ op ∷ []))
       → ReachedBelow y set opened queue e end (n + k) kids
   reached_past n k kids r more op lt on applies = elim (before_or op n) [
     | inl b ↦ r op b on applies
@@ -38,10 +38,10 @@ module _ (y : System) (set : ℕ → Bool) (opened queue : List (List ℕ)) (e :
 
   -- the next one is, so the operators below the one after it are
   next : (n : ℕ) (kids : List (List ℕ)) → ReachedBelow y set opened queue e end n kids
-      → (IsTrue (set n) → AppliesIn y n end → Listed kids (e ++ n ∷ []) ⊎ MetOrNone y opened queue (e ++ n ∷ []))
+      → (IsTrue (set n) → IsApplicable y n end → Listed kids (e ++ n ∷ []) ⊎ MetOrNone y opened queue (e ++ n ∷ []))
       → ReachedBelow y set opened queue e end (n + 1) kids
   next n kids r one = reached_past n 1 kids r (λ op ge lt. let is : n ≡ op = omega (arith, ge, lt) in subst
-      (λ (a : ℕ). IsTrue (set a) → AppliesIn y a end → Listed kids (e ++ a ∷ [])
+      (λ (a : ℕ). IsTrue (set a) → IsApplicable y a end → Listed kids (e ++ a ∷ [])
       ⊎ MetOrNone y opened queue (e ++ a ∷ [])) is one)
 
   -- the child by the next operator comes

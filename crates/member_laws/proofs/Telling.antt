@@ -3,11 +3,11 @@ use Rattle.std.proofs.Common.{◌≡◌, ℕ, Bool, true, not, nat_lt, ◌⊎◌
 use Rattle.std.specs.Bool.{Decides}
 use Rattle.std.proofs.lemmas.Bool.Decides.{Decides-and, Decides-or, Decides-not, Decides-ltb, Decides-like}
 use Rattle.symk_task.specs.declared.parts.Mode.TheVariants.{TopK, Unordered}
-use Rattle.task_system.specs.System.{State, System, Runs, are_equal, same}
+use Rattle.task_system.specs.System.{State, System, RunsInSystem, are_equal, same}
 use Rattle.task_system.proofs.SameLaw.{same_law}
-use Rattle.lazy_plans.specs.Told.{on_step, is_in}
+use Rattle.lazy_plans.specs.Told.{on_step, is_plan_in}
 use Rattle.lazy_plans.proofs.Told.{equal_is, equal_self, in_told}
-use Rattle.member_laws.specs.Nodes.{Joins, IsJoined, PendsNode}
+use Rattle.member_laws.specs.Nodes.{JoinsAtNode, IsJoinedAtNode, PendsNode}
 use Rattle.member_laws.specs.Told.{leads_to, joins, is_joined, pends_node}
 
 equal_told : (p q : List ℕ) → Decides (are_equal p q) (p ≡ q)
@@ -27,37 +27,38 @@ step_told (Some t) f P d = ((λ e. (t, refl, (d t).0 e)), (λ h. (d t).1 (subst 
 -- the operators lead to a state of which P holds
 leads_told : (y : System) (p : List ℕ) (test : State → Bool) (P : State → Type 0)
     → ((t : State) → Decides (test t) (P t)) → (s : State)
-    → Decides (leads_to y s p test) ((t : State) × Runs y s p t × P t)
+    → Decides (leads_to y s p test) ((t : State) × RunsInSystem y s p t × P t)
 leads_told y [] test P d s = ((λ e. (s, refl, (d s).0 e)), (λ h. (d s).1 (subst P (sym h.1) h.2)))
 leads_told y (op ∷ p) test P d s =
-    let next = step_told (y.step op s) (λ t. leads_to y t p test) (λ m. (t : State) × Runs y m p t × P t) (leads_told y p test P d) in
+    let next = step_told (y.step op s) (λ t. leads_to y t p test) (λ m. (t : State) × RunsInSystem y m p t × P t) (leads_told y p test P d) in
     Decides-like (leads_to y s (op ∷ p) test)
     (λ h. (h.1.2.0, (h.1.0, record { number = h.0; step = h.1.1 }, h.1.2.1), h.1.2.2))
     (λ h. (h.1.1.number, (h.1.0, h.1.1.step, (h.0, h.1.2, h.2))))
     (Decides-and (nat_lt op y.operators) (on_step (y.step op s) (λ t. leads_to y t p test)) (Decides-ltb op y.operators) next)
 
 module _ (y : System) where
-  joins_told : (x z : List ℕ) → Decides (joins y x z) (Joins y x z)
+  joins_told : (x z : List ℕ) → Decides (joins y x z) (JoinsAtNode y x z)
   joins_told x z =
       let inner = λ (s : State). leads_told y z (are_equal s) (λ t. s ≡ t) (λ t. equal_told s t) y.initial in
-      let outer = leads_told y x (λ s. leads_to y y.initial z (are_equal s)) (λ s. (t : State) × Runs y y.initial z t × (s ≡ t)) inner y.initial in
+      let outer = leads_told y x (λ s. leads_to y y.initial z (are_equal s)) (λ s. (t : State) × RunsInSystem y y.initial z t × (s ≡ t)) inner y.initial in
       Decides-like (joins y x z)
-      (λ h. record { same = h.0; end = h.1.0; runs = h.1.1; other = subst (λ (s : State). Runs y y.initial z s) (sym h.1.2.2) h.1.2.1 })
+      (λ h. record { same = h.0; end = h.1.0; runs = h.1.1; other = subst (λ (s : State). RunsInSystem y y.initial z s) (sym h.1.2.2) h.1.2.1 })
       (λ j. (j.same, (j.end, j.runs, (j.end, j.other, refl))))
       (Decides-and (same Unordered x z) (leads_to y y.initial x (λ s. leads_to y y.initial z (are_equal s))) (same_law Unordered x z) outer)
 
-  joined_told : (es : List (List ℕ)) (x : List ℕ) → Decides (is_joined y es x) (IsJoined y es x)
+  joined_told : (es : List (List ℕ)) (x : List ℕ) → Decides (is_joined y es x) (IsJoinedAtNode y es x)
   joined_told [] x = ((λ e. cc), (λ j. absurd j.1))
   joined_told (z ∷ es) x = Decides-like (is_joined y (z ∷ es) x) (to es x z) (from es x z)
       (Decides-or (joins y x z) (is_joined y es x) (joins_told x z) (joined_told es x))
     where
-      to : (es : List (List ℕ)) (x z : List ℕ) → Joins y x z ⊎ IsJoined y es x → IsJoined y (z ∷ es) x
+      to : (es : List (List ℕ)) (x z : List ℕ) → JoinsAtNode y x z ⊎ IsJoinedAtNode y es x → IsJoinedAtNode y (z ∷ es) x
       to es x z (inl j) = (z, inl refl, j)
       to es x z (inr (w, l, j)) = (w, inr l, j)
 
-      from : (es : List (List ℕ)) (x z : List ℕ) → IsJoined y (z ∷ es) x → Joins y x z ⊎ IsJoined y es x
-      from es x z (w, inl is, j) = inl (subst (Joins y x) (sym is) j)
+      from : (es : List (List ℕ)) (x z : List ℕ) → IsJoinedAtNode y (z ∷ es) x → JoinsAtNode y x z ⊎ IsJoinedAtNode y es x
+      from es x z (w, inl is, j) = inl (subst (JoinsAtNode y x) (sym is) j)
       from es x z (w, inr l, j) = inr (w, l, j)
 
   pub pends_told : (opened : List (List ℕ)) (p : List ℕ) → Decides (pends_node y opened p) (PendsNode y opened p)
-  pends_told opened p = Decides-and (is_in y TopK p) (not (is_joined y opened p)) (in_told y TopK p) (Decides-not (is_joined y opened p) (joined_told opened p))
+  pends_told opened p = Decides-and (is_plan_in y TopK p) (not (is_joined y opened p)) (in_told y TopK p)
+      (Decides-not (is_joined y opened p) (joined_told opened p))

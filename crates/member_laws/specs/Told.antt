@@ -2,7 +2,7 @@
 use Rattle.std.specs.Prelude.{ℕ, Bool, false, ◌&&◌, ◌||◌, not, nat_lt, List, [], ◌∷◌}
 use Rattle.symk_task.specs.declared.parts.Mode.TheVariants.{TopK, Unordered}
 use Rattle.task_system.specs.System.{State, System, are_equal, same}
-use Rattle.lazy_plans.specs.Told.{on_step, is_in}
+use Rattle.lazy_plans.specs.Told.{on_step, is_plan_in}
 
 -- whether the operators lead from s to a state of which the test holds
 abbrev pub leads_to : System → State → List ℕ → (State → Bool) → Bool
@@ -20,4 +20,4 @@ is_joined y (z ∷ es) x = joins y x z || is_joined y es x
 
 -- whether x is a plan that joins no prefix that was opened
 abbrev pub pends_node : System → List (List ℕ) → List ℕ → Bool
-pends_node y opened p = is_in y TopK p && not (is_joined y opened p)
+pends_node y opened p = is_plan_in y TopK p && not (is_joined y opened p)

@@ -9,19 +9,19 @@ use Rattle.std.proofs.lemmas.List.Sums.{sum_by-cons}
 use Rattle.task_system.specs.System.{System, Listed}
 use Rattle.space_api.specs.View.{View}
 use Rattle.cost_to_go.specs.declared.search.CostToGo.{CostToGo}
-use Rattle.prefix_laws.specs.Queue.{Replaced, Bounds}
+use Rattle.lazy_plans.specs.Queue.{Replaced, Bounds}
 use Rattle.prefix_tree.specs.Tree.{path_at}
-use Rattle.prefix_tree.specs.Entries.{entries_of, prefixes}
+use Rattle.prefix_tree.specs.Entries.{queued_entries, prefixes}
 use Rattle.prefix_tree.specs.declared.state_graph.StateGraph.{StateGraph}
 use Rattle.prefix_tree.specs.declared.tree.Node.{Node}
 use Rattle.prefix_tree.specs.declared.entry.Entry.{Entry}
 use Rattle.prefix_tree.specs.declared.queue.Queue.{Queue}
 use Rattle.prefix_tree.proofs.Entries.{first_is}
-use Rattle.prefix_ends.specs.Left.{Known}
-use Rattle.prefix_ends.specs.Children.{IsEntry, outdated}
-use Rattle.prefix_ends.specs.Standing.{IsReady, Learned, listed_of, all_outdated}
-use Rattle.prefix_ends.proofs.Dating.{outdated_sum}
-use Rattle.member_laws.specs.Nodes.{Covers}
+use Rattle.prefix_plans.specs.Left.{KnownToGo}
+use Rattle.prefix_plans.specs.EndChildren.{IsEndEntry, outdated}
+use Rattle.prefix_plans.specs.EndStanding.{IsEndReady, Learned, entry_alone, all_outdated}
+use Rattle.prefix_plans.proofs.Dating.{outdated_sum}
+use Rattle.member_laws.specs.Nodes.{CoversOpened}
 use Rattle.member_laws.proofs.Covering as covering
 
 -- the first of the one queue is the first of both
@@ -40,10 +40,10 @@ pub beside_none : (q o : List Entry) → o ≡ [] → q ++ o ≡ q
 beside_none q o none = ap (λ (es : List Entry). q ++ es) none ∙ append-nil q
 
 -- the one takes the place of the other
-pub swapped : (q o new rest : Queue) → new ≡ o → rest ≡ q → IsPermutation (entries_of q ++ entries_of o) (entries_of new ++ entries_of rest)
-swapped q o new rest one two = subst (IsPermutation (entries_of q ++ entries_of o))
-    (λ i. entries_of (sym one i) ++ entries_of (sym two i))
-    (IsPermutation-append_comm (entries_of q) (entries_of o))
+pub swapped : (q o new rest : Queue) → new ≡ o → rest ≡ q → IsPermutation (queued_entries q ++ queued_entries o) (queued_entries new ++ queued_entries rest)
+swapped q o new rest one two = subst (IsPermutation (queued_entries q ++ queued_entries o))
+    (λ i. queued_entries (sym one i) ++ queued_entries (sym two i))
+    (IsPermutation-append_comm (queued_entries q) (queued_entries o))
 
 -- it gives way to others
 lent : {X : Type 0} (q o kids : List X) → IsPermutation ((q ++ o) ++ kids) ((q ++ kids) ++ o)
@@ -126,7 +126,7 @@ replaced_same old new p perm f = numbers (sum_by f old) (sum_by f new) (f p) (su
     numbers a b c d s t = omega (arith, s, t)
 
 pub permuted_covers : (y : System) (nodes : List Node) (opened : List (List ℕ)) (es new : List Entry)
-    → IsPermutation es new → Covers y opened (prefixes nodes es) → Covers y opened (prefixes nodes new)
+    → IsPermutation es new → CoversOpened y opened (prefixes nodes es) → CoversOpened y opened (prefixes nodes new)
 permuted_covers y nodes opened es new perm covers = covering.comes_back y [] opened (prefixes nodes es)
     (prefixes nodes new) covers (replaced_same (prefixes nodes es) (prefixes nodes new) []
     (permuted_prefixes nodes es new perm))
@@ -144,7 +144,7 @@ permuted_listed old new p perm l = elim (covering.old_stays old ((0 ∷ p) ∷ [
 ]
 
 -- how many wait, and how many of them are out of date
-pub permuted_work : (known : Known) (es new : List Entry) → IsPermutation es new → length new + all_outdated known new ≡ length es + all_outdated known es
+pub permuted_work : (known : KnownToGo) (es new : List Entry) → IsPermutation es new → length new + all_outdated known new ≡ length es + all_outdated known es
 permuted_work known es new perm = numbers (length es) (length new) (all_outdated known es) (all_outdated known new)
     (sum_by (outdated known) es) (sum_by (outdated known) new) (length_permutation es new perm)
     (outdated_sum known es) (outdated_sum known new) (sum_by-IsPermutation (outdated known) es new perm)
@@ -155,11 +155,11 @@ permuted_work known es new perm = numbers (length es) (length new) (all_outdated
 -- what was learned of the first of the one queue
 pub learned_beside : {Set : Type 0} (v : View Set) (f : CostToGo Set) (nodes : List Node) (q o new : List Entry)
     (e : Entry) → Learned v f nodes e q new → Learned v f nodes e (q ++ o) (new ++ o)
-learned_beside v f nodes q o new e (k, better, perm) = (k, better, perm_beside q o (listed_of k) new e perm)
+learned_beside v f nodes q o new e (k, better, perm) = (k, better, perm_beside q o (entry_alone k) new e perm)
 
 -- no plan of any entry costs less than a bound that is none's greater
 pub bounds_least : {Set : Type 0} (v : View Set) (f : CostToGo Set) (nodes : List Node) (e : Entry) (es : List Entry)
-    → AllByRecursion (IsEntry v f nodes) es → AllByRecursion (λ k. e.bound.0 ≤ k.bound.0) es
+    → AllByRecursion (IsEndEntry v f nodes) es → AllByRecursion (λ k. e.bound.0 ≤ k.bound.0) es
     → AllByRecursion (λ x. Bounds v.system x e.bound.0) (prefixes nodes es)
 bounds_least v f nodes e [] a b = tt
 bounds_least v f nodes e (k ∷ es) a b = (
@@ -170,10 +170,10 @@ bounds_least v f nodes e (k ∷ es) a b = (
 
 -- the one queue alone
 pub ready_left : {Set : Type 0} (v : View Set) (f : CostToGo Set) (m : StateGraph) (nodes : List Node)
-    (q o : List Entry) → IsReady v f m nodes (q ++ o) → IsReady v f m nodes q
-ready_left v f m nodes q o z = record { alone = z.alone; graph = z.graph; tree = z.tree; each = left_each (IsEntry v f nodes) q o z.each }
+    (q o : List Entry) → IsEndReady v f m nodes (q ++ o) → IsEndReady v f m nodes q
+ready_left v f m nodes q o z = record { alone = z.alone; graph = z.graph; tree = z.tree; each = left_each (IsEndEntry v f nodes) q o z.each }
 
 pub first_entry : {Set : Type 0} (v : View Set) (f : CostToGo Set) (m : StateGraph) (nodes : List Node)
     (q o : List Entry) (e : Entry) → 0 < length q → e ≡ slice_index_or q 0 e
-    → IsReady v f m nodes (q ++ o) → IsEntry v f nodes e
-first_entry v f m nodes q o e some first z = first_is (IsEntry v f nodes) q e some first (left_each (IsEntry v f nodes) q o z.each)
+    → IsEndReady v f m nodes (q ++ o) → IsEndEntry v f nodes e
+first_entry v f m nodes q o e some first z = first_is (IsEndEntry v f nodes) q e some first (left_each (IsEndEntry v f nodes) q o z.each)

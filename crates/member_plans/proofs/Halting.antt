@@ -2,38 +2,39 @@
 use Rattle.std.proofs.Common.{◌≡◌, ℕ, ◌<◌, ◌≤◌, Bool, true, false, IsTrue, All, List, length, slice_index_or, Option, None, sym, subst}
 use Rattle.task_system.specs.System.{System}
 use Rattle.space_api.specs.View.{View}
-use Rattle.lazy_plans.specs.Law.{Stops, NoneLeft, top}
+use Rattle.lazy_plans.specs.Law.{MayStop, NoneLeft, top}
 use Rattle.lazy_plans.specs.declared.stop.Stop.TheVariants.{CostRange}
 use Rattle.cost_to_go.specs.declared.search.CostToGo.{CostToGo}
 use Rattle.prefix_tree.specs.Tree.{path_at}
-use Rattle.prefix_tree.specs.Entries.{entries_of}
+use Rattle.prefix_tree.specs.Entries.{queued_entries}
 use Rattle.prefix_tree.specs.declared.entry.Entry.{Entry}
-use Rattle.member_laws.specs.Nodes.{IsJoined, PendsNode}
-use Rattle.member_plans.specs.Left.{TellsLeft}
-use Rattle.member_plans.specs.Opened.{places_of, keys_of, IsMet}
-use Rattle.member_plans.specs.Front.{waiting, places, opened, IsSteady, IsDue}
+use Rattle.member_laws.specs.Nodes.{IsJoinedAtNode, PendsNode}
+use Rattle.member_plans.specs.Left.{TellsMemberLeft}
+use Rattle.member_plans.specs.Opened.{places_of_opened, keys_of, IsMet}
+use Rattle.member_plans.specs.Front.{waiting_members, opened_places, opened, IsSteady, IsDue}
 use Rattle.member_plans.specs.declared.front.Front.{Front}
 use Rattle.member_plans.specs.declared.opened.Opened.{Opened}
 use Rattle.member_plans.proofs.Opening.{retold, retold_opened}
 
 -- what is told of the plans that are left
 pub told_out : (y : System) (most : Option ℕ) (os : List (List ℕ)) (b : Bool) → most ≡ None → b ≡ true
-    → TellsLeft y os b → Stops y most (PendsNode y os) CostRange
-told_out y most os b none on h = subst (λ (o : Option ℕ). Stops y o (PendsNode y os) CostRange) (sym none) (subst (TellsLeft y os) on h)
+    → TellsMemberLeft y os b → MayStop y most (PendsNode y os) CostRange
+told_out y most os b none on h = subst (λ (o : Option ℕ). MayStop y o (PendsNode y os) CostRange) (sym none) (subst (TellsMemberLeft y os) on h)
 
-pub told_none : (y : System) (most : Option ℕ) (os : List (List ℕ)) (b : Bool) → most ≡ None → b ≡ false → TellsLeft y os b → NoneLeft y most (PendsNode y os)
-told_none y most os b none off h = subst (λ (o : Option ℕ). NoneLeft y o (PendsNode y os)) (sym none) (subst (TellsLeft y os) off h)
+pub told_none : (y : System) (most : Option ℕ) (os : List (List ℕ)) (b : Bool) → most ≡ None → b ≡ false
+    → TellsMemberLeft y os b → NoneLeft y most (PendsNode y os)
+told_none y most os b none off h = subst (λ (o : Option ℕ). NoneLeft y o (PendsNode y os)) (sym none) (subst (TellsMemberLeft y os) off h)
 
 -- whether the first entry meets what was opened
 module _ {Set : Type 0} (v : View Set) (f : CostToGo Set) (most : Option ℕ) (x : Front) (o : Opened)
-    (same : places_of o ≡ places x) (keys : keys_of o ≡ keys_of x.opened) (z : IsSteady v f most x) (e : Entry)
+    (same : places_of_opened o ≡ opened_places x) (keys : keys_of o ≡ keys_of x.opened) (z : IsSteady v f most x) (e : Entry)
     (b : Bool) (met : IsMet v.system (opened x) x.tree.items e b) where
-  pub joined_now : b ≡ true → IsJoined v.system (opened (retold x o)) (path_at x.tree.items e.node)
-  joined_now on = subst (λ (os : List (List ℕ)). IsJoined v.system os (path_at x.tree.items e.node))
+  pub joined_now : b ≡ true → IsJoinedAtNode v.system (opened (retold x o)) (path_at x.tree.items e.node)
+  joined_now on = subst (λ (os : List (List ℕ)). IsJoinedAtNode v.system os (path_at x.tree.items e.node))
       (sym (retold_opened v f most x o same keys z)) (subst (IsMet v.system (opened x) x.tree.items e) on met)
 
-  pub due_now : b ≡ false → 0 < length (entries_of x.queue) → e ≡ slice_index_or (entries_of x.queue) 0 e
-      → All (λ k. e.bound.0 ≤ k.bound.0) (waiting x) → e.bound.0 ≤ top most → IsTrue e.at_goal
+  pub due_now : b ≡ false → 0 < length (queued_entries x.queue) → e ≡ slice_index_or (queued_entries x.queue) 0 e
+      → All (λ k. e.bound.0 ≤ k.bound.0) (waiting_members x) → e.bound.0 ≤ top most → IsTrue e.at_goal
       → IsDue v.system most (retold x o) e
   due_now off some first least cheap plan = record {
     some = some;
@@ -41,7 +42,7 @@ module _ {Set : Type 0} (v : View Set) (f : CostToGo Set) (most : Option ℕ) (x
     least = least;
     cheap = cheap;
     plan = plan;
-    fresh = subst (λ (os : List (List ℕ)). ¬ IsJoined v.system os (path_at x.tree.items e.node))
+    fresh = subst (λ (os : List (List ℕ)). ¬ IsJoinedAtNode v.system os (path_at x.tree.items e.node))
         (sym (retold_opened v f most x o same keys z)) ((subst (IsMet v.system (opened x) x.tree.items e) off met)
         plan);
   }

@@ -3,9 +3,9 @@ use Rattle.std.proofs.Common.{◌≡◌, ℕ, zero, suc, ◌<◌, ◌⊎◌, inl
 use Rattle.std.proofs.Math.ListN.{set}
 use Rattle.std.proofs.lemmas.Option.{slice_get_read}
 use Rattle.task_system.specs.System.{System}
-use Rattle.stubborn_laws.specs.Stubborn.{Stubborn}
-use Rattle.stubborn_sets.specs.Closing.{is_in}
-use Rattle.member_plans.specs.Kept.{AreStubborn, IsKept, Puts}
+use Rattle.stubborn_sets.specs.Stubborn.{Stubborn}
+use Rattle.stubborn_sets.specs.Closing.{has_mark}
+use Rattle.member_plans.specs.Kept.{AreStubborn, HasMarksAt, PutsNoOtherMark}
 use Rattle.member_plans.specs.declared.kept.Marked.{Marked}
 
 got_here : (xs : List (Option Marked)) (n : ℕ) (m : Marked) → n < length xs → slice_get (set xs n (Some m)) n ≡ Some (Some m)
@@ -13,7 +13,7 @@ got_here [] n m lt = absurd (omega arith)
 got_here (x ∷ xs) zero m lt = refl
 got_here (x ∷ xs) (suc n) m lt = got_here xs n m (omega arith)
 
-pub kept_here : (xs : List (Option Marked)) (n : ℕ) (m : Marked) → n < length xs → IsKept (set xs n (Some m)) n m.state
+pub kept_here : (xs : List (Option Marked)) (n : ℕ) (m : Marked) → n < length xs → HasMarksAt (set xs n (Some m)) n m.state
 kept_here xs n m lt = (m, got_here xs n m lt, refl)
 
 pub got_else : (xs : List (Option Marked)) (n : ℕ) (m : Marked) (i : ℕ) (k : Marked)
@@ -37,9 +37,9 @@ none_kept y xs e = subst (AreStubborn y) (sym e) (λ n m h. absurd (none_some m 
     none_some m h = cc
 
 -- marks of a stubborn set were put in
-pub still_stubborn : (y : System) (old new : List (Option Marked)) (k : Marked) → AreStubborn y old → Puts old new k
-    → Stubborn y (is_in k.marks.items) k.state → AreStubborn y new
+pub still_stubborn : (y : System) (old new : List (Option Marked)) (k : Marked) → AreStubborn y old → PutsNoOtherMark old new k
+    → Stubborn y (has_mark k.marks.items) k.state → AreStubborn y new
 still_stubborn y old new k are puts here n m h = elim (puts n m h) [
   | inl was ↦ are n m was
-  | inr is ↦ subst (λ (x : Marked). Stubborn y (is_in x.marks.items) x.state) (sym is) here
+  | inr is ↦ subst (λ (x : Marked). Stubborn y (has_mark x.marks.items) x.state) (sym is) here
 ]

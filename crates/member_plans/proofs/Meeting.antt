@@ -9,12 +9,12 @@ use Rattle.std.proofs.lemmas.List.{map-append}
 use Rattle.std.proofs.lemmas.List.Elements.{Contains-append_left, Contains-append_right, Contains-append_cases}
 use Rattle.symk_task.specs.declared.parts.Mode.TheVariants.{TopK}
 use Rattle.symk_task.proofs.Rising.{sorted_same}
-use Rattle.task_system.specs.System.{State, System, Listed, Runs, IsPlan}
-use Rattle.prefix_tree.specs.StateGraph.{state_at, AreOnce}
-use Rattle.prefix_tree.specs.Tree.{IsTree, path_at, number_at}
+use Rattle.task_system.specs.System.{State, System, Listed, RunsInSystem, IsSystemPlan}
+use Rattle.prefix_tree.specs.StateGraph.{numbered_state, AreDistinctStates}
+use Rattle.prefix_tree.specs.Tree.{IsTree, path_at, state_number_at}
 use Rattle.prefix_tree.specs.declared.tree.Node.{Node}
 use Rattle.prefix_tree.specs.declared.entry.Entry.{Entry}
-use Rattle.member_laws.specs.Nodes.{Joins, IsJoined}
+use Rattle.member_laws.specs.Nodes.{JoinsAtNode, IsJoinedAtNode}
 use Rattle.member_laws.proofs.Joining.{joins_end, joined_plan}
 use Rattle.member_plans.specs.Keys.{IsKeyAt}
 use Rattle.member_plans.specs.Opened.{opened_of, IsOpened, AreOpened, Noted, IsMet}
@@ -26,26 +26,27 @@ tails : (a b : ℕ) (p q : List ℕ) → a ∷ p ≡ b ∷ q → p ≡ q
 tails a b p q e = cc
 
 module _ (y : System) (ss : List State) (nodes : List Node) (z : IsTree y TopK ss nodes) (i j : ℕ) (lt : i < length nodes) (less : j < length nodes) where
-  pub key_joins : (key : List ℕ) → IsKeyAt nodes i key → IsKeyAt nodes j key → Joins y (path_at nodes i) (path_at nodes j)
+  pub key_joins : (key : List ℕ) → IsKeyAt nodes i key → IsKeyAt nodes j key → JoinsAtNode y (path_at nodes i) (path_at nodes j)
   key_joins key h k =
-      let both : number_at nodes i ∷ h.sorted ≡ number_at nodes j ∷ k.sorted = sym h.is ∙ k.is in
-      let end : number_at nodes i ≡ number_at nodes j = heads (number_at nodes i) (number_at nodes j) h.sorted k.sorted both in
+      let both : state_number_at nodes i ∷ h.sorted ≡ state_number_at nodes j ∷ k.sorted = sym h.is ∙ k.is in
+      let end : state_number_at nodes i ≡ state_number_at nodes j = heads (state_number_at nodes i) (state_number_at nodes j) h.sorted k.sorted both in
       record {
         same = (sorted_same (path_at nodes i) (path_at nodes j) h.sorted k.sorted h.permutation k.permutation h.rising
-            k.rising).0 (tails (number_at nodes i) (number_at nodes j) h.sorted k.sorted both);
-        end = state_at ss (number_at nodes i);
+            k.rising).0 (tails (state_number_at nodes i) (state_number_at nodes j) h.sorted k.sorted both);
+        end = numbered_state ss (state_number_at nodes i);
         runs = (z.each i lt).runs;
-        other = subst (λ (n : ℕ). Runs y y.initial (path_at nodes j) (state_at ss n)) (sym end) (z.each j less).runs;
+        other = subst (λ (n : ℕ). RunsInSystem y y.initial (path_at nodes j) (numbered_state ss n)) (sym end) (z.each j less).runs;
       }
 
-  pub joined_key : AreOnce ss → Joins y (path_at nodes i) (path_at nodes j) → (a b : List ℕ) → IsKeyAt nodes i a → IsKeyAt nodes j b → a ≡ b
+  pub joined_key : AreDistinctStates ss → JoinsAtNode y (path_at nodes i) (path_at nodes j) → (a b : List ℕ) → IsKeyAt nodes i a → IsKeyAt nodes j b → a ≡ b
   joined_key once joins a b h k =
-      let end = joins_end y (path_at nodes i) (path_at nodes j) (state_at ss (number_at nodes i))
-      (state_at ss (number_at nodes j)) joins (z.each i lt).runs (z.each j less).runs in
-      let number : number_at nodes i ≡ number_at nodes j = once (number_at nodes i) (number_at nodes j) (z.each i lt).within (z.each j less).within end in
+      let end = joins_end y (path_at nodes i) (path_at nodes j) (numbered_state ss (state_number_at nodes i))
+      (numbered_state ss (state_number_at nodes j)) joins (z.each i lt).runs (z.each j less).runs in
+      let number : state_number_at nodes i ≡ state_number_at nodes j = once (state_number_at nodes i)
+      (state_number_at nodes j) (z.each i lt).within (z.each j less).within end in
       let sorted : h.sorted ≡ k.sorted = (sorted_same (path_at nodes i) (path_at nodes j) h.sorted k.sorted
       h.permutation k.permutation h.rising k.rising).1 joins.same in
-      h.is ∙ (ap (λ (n : ℕ). n ∷ h.sorted) number ∙ (ap (λ (p : List ℕ). number_at nodes j ∷ p) sorted ∙ sym k.is))
+      h.is ∙ (ap (λ (n : ℕ). n ∷ h.sorted) number ∙ (ap (λ (p : List ℕ). state_number_at nodes j ∷ p) sorted ∙ sym k.is))
 
 -- a member of what was opened stands at a place
 found_at : (P : ℕ → Type 0) (nodes : List Node) (places : List ℕ) (p : List ℕ) → AllByRecursion P places
@@ -55,23 +56,24 @@ found_at P nodes (i ∷ places) p all (inl is) = (i, all.0, is)
 found_at P nodes (i ∷ places) p all (inr l) = found_at P nodes places p all.1 l
 
 -- whether the plan at this place joins one that was opened
-module _ (y : System) (ss : List State) (nodes : List Node) (z : IsTree y TopK ss nodes) (once : AreOnce ss)
+module _ (y : System) (ss : List State) (nodes : List Node) (z : IsTree y TopK ss nodes) (once : AreDistinctStates ss)
     (most : Option ℕ) (places : List ℕ) (keys : List (List ℕ)) (table : AreOpened y most nodes places keys) (i : ℕ)
     (lt : i < length nodes) (key : List ℕ) (is : IsKeyAt nodes i key) where
-  has_joins : Contains keys key → IsJoined y (opened_of nodes places) (path_at nodes i)
+  has_joins : Contains keys key → IsJoinedAtNode y (opened_of nodes places) (path_at nodes i)
   has_joins h =
       let w = table.from key h in
       (path_at nodes w.0, w.2, key_joins y ss nodes z i w.0 lt w.1 key is w.3)
 
-  joins_has : IsPlan y (path_at nodes i) → IsJoined y (opened_of nodes places) (path_at nodes i) → Contains keys key
+  joins_has : IsSystemPlan y (path_at nodes i) → IsJoinedAtNode y (opened_of nodes places) (path_at nodes i) → Contains keys key
   joins_has plan (p, l, joins) =
       let at = found_at (IsOpened y most nodes keys) nodes places p table.each l in
-      let now : Joins y (path_at nodes i) (path_at nodes at.0) = subst (Joins y (path_at nodes i)) (sym at.2) joins in
+      let now : JoinsAtNode y (path_at nodes i) (path_at nodes at.0) = subst (JoinsAtNode y (path_at nodes i)) (sym at.2) joins in
       let k = at.1.keyed (joined_plan y (path_at nodes i) (path_at nodes at.0) now plan) in
       let same : k.0 ≡ key = sym (joined_key y ss nodes z i at.0 lt at.1.inside once now key k.0 is k.1) in
       subst (Contains keys) same k.2
 
-  pub has_told : IsPlan y (path_at nodes i) → (b : Bool) → Decides b (Contains keys key) → Decides b (IsJoined y (opened_of nodes places) (path_at nodes i))
+  pub has_told : IsSystemPlan y (path_at nodes i) → (b : Bool) → Decides b (Contains keys key)
+      → Decides b (IsJoinedAtNode y (opened_of nodes places) (path_at nodes i))
   has_told plan b d = ((λ on. has_joins (d.0 on)), (λ j. d.1 (joins_has plan j)))
 
 -- a place of one that was opened
@@ -111,7 +113,7 @@ noted_insert false xs ys k d is =
 
 -- what is told of an entry, by whether it is a plan
 module _ {E : Type 0} (y : System) (opened : List (List ℕ)) (nodes : List Node) (e : Entry) where
-  pub met_plan : (r : Result Bool E) → IfOk r (λ b. Decides b (IsJoined y opened (path_at nodes e.node))) → IfOk r (IsMet y opened nodes e)
+  pub met_plan : (r : Result Bool E) → IfOk r (λ b. Decides b (IsJoinedAtNode y opened (path_at nodes e.node))) → IfOk r (IsMet y opened nodes e)
   met_plan (Ok true) d = d.0 refl
   met_plan (Ok false) d = λ on j. not_true (d.1 j)
     where
@@ -119,7 +121,8 @@ module _ {E : Type 0} (y : System) (opened : List (List ℕ)) (nodes : List Node
       not_true e = cc
   met_plan (Err x) d = tt
 
-  pub met_other : (r : Result Bool E) → e.at_goal ≡ false → IfOk r (λ b. IsTrue b → IsJoined y opened (path_at nodes e.node)) → IfOk r (IsMet y opened nodes e)
+  pub met_other : (r : Result Bool E) → e.at_goal ≡ false
+      → IfOk r (λ b. IsTrue b → IsJoinedAtNode y opened (path_at nodes e.node)) → IfOk r (IsMet y opened nodes e)
   met_other (Ok true) off h = h refl
   met_other (Ok false) off h = λ on j. clash e.at_goal on off
     where

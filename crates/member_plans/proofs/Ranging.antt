@@ -5,23 +5,23 @@ use Rattle.std.specs.List.Sorted.{IsPermutation}
 use Rattle.std.proofs.lemmas.List.{length-append}
 use Rattle.std.proofs.lemmas.List.Sorted.{length_permutation}
 use Rattle.symk_task.specs.declared.parts.Mode.TheVariants.{TopK}
-use Rattle.task_system.specs.System.{State, System, cost_of}
+use Rattle.task_system.specs.System.{State, System, cost_in_system}
 use Rattle.space_api.specs.Listing.{ListsReached}
 use Rattle.lazy_plans.specs.Law.{top}
-use Rattle.prefix_laws.specs.Queue.{Hopeless}
-use Rattle.prefix_laws.proofs.Traces.{leads_on, stuck}
-use Rattle.prefix_tree.specs.StateGraph.{state_at}
-use Rattle.prefix_tree.specs.Tree.{IsTree, path_at, number_at}
+use Rattle.lazy_plans.specs.Queue.{Hopeless}
+use Rattle.lazy_plans.proofs.Traces.{leads_on, stuck}
+use Rattle.prefix_tree.specs.StateGraph.{numbered_state}
+use Rattle.prefix_tree.specs.Tree.{IsTree, path_at, state_number_at}
 use Rattle.prefix_tree.specs.Entries.{prefixes}
 use Rattle.prefix_tree.specs.declared.tree.Node.{Node}
 use Rattle.prefix_tree.specs.declared.entry.Entry.{Entry}
 use Rattle.prefix_tree.proofs.Entries.{first_is, first_in, replaced_by, each_new}
-use Rattle.prefix_ends.specs.Leading.{GoesOnFrom, IsDear}
-use Rattle.prefix_ends.proofs.Dearest.{bounds_dear}
-use Rattle.member_laws.specs.Nodes.{Covers}
+use Rattle.prefix_plans.specs.Leading.{GoesOnFrom, IsDear}
+use Rattle.prefix_plans.proofs.Dearest.{bounds_dear}
+use Rattle.member_laws.specs.Nodes.{CoversOpened}
 use Rattle.member_laws.proofs.Covering as covering
 use Rattle.member_laws.proofs.Pending as pending
-use Rattle.member_plans.specs.Left.{TellsLeft}
+use Rattle.member_plans.specs.Left.{TellsMemberLeft}
 
 -- what is told of a call that isn't refused
 pub if_ok : {E : Type 0} (P : Bool → Type 0) (r : Result Bool E) (b : Bool) → r ≡ Ok b → P b → IfOk r P
@@ -32,8 +32,9 @@ if_ok P (Ok x) b is h = subst P (sym (same x b is)) h
 if_ok P (Err e) b is h = tt
 
 module _ (y : System) (ss : List State) (nodes : List Node) (z : IsTree y TopK ss nodes) (es : List Entry) (dear : AllByRecursion (IsDear y nodes) es) where
-  pub none_left : es ≡ [] → (opened : List (List ℕ)) → ListsReached y → Covers y opened (prefixes nodes es) → TellsLeft y opened false
-  none_left none opened lists covers = pending.empty_leaves y None opened lists (subst (λ (l : List Entry). Covers y opened (prefixes nodes l)) none covers)
+  pub none_left : es ≡ [] → (opened : List (List ℕ)) → ListsReached y → CoversOpened y opened (prefixes nodes es) → TellsMemberLeft y opened false
+  none_left none opened lists covers = pending.empty_leaves y None opened lists
+      (subst (λ (l : List Entry). CoversOpened y opened (prefixes nodes l)) none covers)
 
   module _ (e : Entry) (some : 0 < length es) (first : e ≡ slice_index_or es 0 e) where
     pub dear_inside : e.node < length nodes
@@ -41,8 +42,8 @@ module _ (y : System) (ss : List State) (nodes : List Node) (z : IsTree y TopK s
 
     -- a plan goes on from the first entry
     pub some_left : GoesOnFrom y (path_at nodes e.node) → (opened : List (List ℕ)) → ListsReached y
-        → Covers y opened (prefixes nodes es) → AllByRecursion (λ p. cost_of y p ≤ top None) opened
-        → TellsLeft y opened true
+        → CoversOpened y opened (prefixes nodes es) → AllByRecursion (λ p. cost_in_system y p ≤ top None) opened
+        → TellsMemberLeft y opened true
     some_left h opened lists covers cheap =
         let on = leads_on y (path_at nodes e.node) h.2.0 h.0 h.2.1 h.1 h.2.2 h.2.3 in
         pending.dear_out y opened (prefixes nodes es) lists covers (2 ^ 64) (path_at nodes e.node)
@@ -57,10 +58,10 @@ module _ (y : System) (ss : List State) (nodes : List Node) (z : IsTree y TopK s
       lost : Hopeless y TopK (path_at nodes e.node)
       lost =
           let n = z.each e.node dear_inside in
-          stuck y TopK (path_at nodes e.node) (state_at ss (number_at nodes e.node)) n.runs
-          (λ q t run goal. off (state_at ss (number_at nodes e.node), n.runs, (q, t, run, goal)))
+          stuck y TopK (path_at nodes e.node) (numbered_state ss (state_number_at nodes e.node)) n.runs
+          (λ q t run goal. off (numbered_state ss (state_number_at nodes e.node), n.runs, (q, t, run, goal)))
 
-      pub covers_on : (opened : List (List ℕ)) → Covers y opened (prefixes nodes es) → Covers y opened (prefixes nodes new)
+      pub covers_on : (opened : List (List ℕ)) → CoversOpened y opened (prefixes nodes es) → CoversOpened y opened (prefixes nodes new)
       covers_on opened covers = covering.hopeless_goes y (path_at nodes e.node) opened (prefixes nodes es)
           (prefixes nodes new) covers lost (replaced_by es [] new e gone nodes)
 

@@ -3,9 +3,9 @@ use Rattle.std.proofs.Common.{◌≡◌, ℕ, ◌<◌, ◌≤◌, inl, inr, Bool
 use Rattle.std.specs.Bool.{Decides}
 use Rattle.std.specs.List.{AllByRecursion, Contains}
 use Rattle.std.specs.List.Sorted.{IsPermutation}
-use Rattle.task_system.specs.System.{System, Listed, IsPlan, cost_of}
+use Rattle.task_system.specs.System.{System, Listed, IsSystemPlan, cost_in_system}
 use Rattle.lazy_plans.specs.Law.{top}
-use Rattle.prefix_tree.specs.Tree.{path_at, number_at}
+use Rattle.prefix_tree.specs.Tree.{path_at, state_number_at}
 use Rattle.prefix_tree.specs.declared.tree.Node.{Node}
 use Rattle.member_plans.specs.Keys.{IsKeyAt}
 use Rattle.member_plans.specs.Opened.{opened_of, IsOpened, AreOpened, Noted, AddsKey}
@@ -38,19 +38,19 @@ pub table_inside : (y : System) (most : Option ℕ) (nodes : List Node) (places 
 table_inside y most nodes places keys t = each_inside y most nodes keys places t.each
 
 each_cheap : (y : System) (most : Option ℕ) (nodes : List Node) (keys : List (List ℕ)) (places : List ℕ)
-    → AllByRecursion (IsOpened y most nodes keys) places → AllByRecursion (λ p. cost_of y p ≤ top most)
+    → AllByRecursion (IsOpened y most nodes keys) places → AllByRecursion (λ p. cost_in_system y p ≤ top most)
     (opened_of nodes places)
 each_cheap y most nodes keys [] a = tt
 each_cheap y most nodes keys (i ∷ places) a = (a.0.cheap, each_cheap y most nodes keys places a.1)
 
 -- none costs more than is wanted
 pub table_cheap : (y : System) (most : Option ℕ) (nodes : List Node) (places : List ℕ) (keys : List (List ℕ))
-    → AreOpened y most nodes places keys → AllByRecursion (λ p. cost_of y p ≤ top most) (opened_of nodes places)
+    → AreOpened y most nodes places keys → AllByRecursion (λ p. cost_in_system y p ≤ top most) (opened_of nodes places)
 table_cheap y most nodes places keys t = each_cheap y most nodes keys places t.each
 
 -- the tree grew
 module _ (a c : List Node) (longer : length a ≤ length c) (same : (i : ℕ) → i < length a → path_at c i ≡ path_at a i)
-    (ends : (i : ℕ) → i < length a → number_at c i ≡ number_at a i) where
+    (ends : (i : ℕ) → i < length a → state_number_at c i ≡ state_number_at a i) where
   key_like : (i : ℕ) (key : List ℕ) → i < length a → IsKeyAt a i key → IsKeyAt c i key
   key_like i key lt h = record {
     sorted = h.sorted;
@@ -70,8 +70,8 @@ module _ (a c : List Node) (longer : length a ≤ length c) (same : (i : ℕ) �
     one_like : (i : ℕ) → IsOpened y most a keys i → IsOpened y most c keys i
     one_like i o = record {
       inside = omega (arith, o.inside, longer);
-      cheap = subst (λ (p : List ℕ). cost_of y p ≤ top most) (sym (same i o.inside)) o.cheap;
-      keyed = λ plan. let k = o.keyed (subst (IsPlan y) (same i o.inside) plan) in (k.0, key_like i k.0 o.inside k.1, k.2);
+      cheap = subst (λ (p : List ℕ). cost_in_system y p ≤ top most) (sym (same i o.inside)) o.cheap;
+      keyed = λ plan. let k = o.keyed (subst (IsSystemPlan y) (same i o.inside) plan) in (k.0, key_like i k.0 o.inside k.1, k.2);
     }
 
     each_on : (places : List ℕ) → AllByRecursion (IsOpened y most a keys) places → AllByRecursion (IsOpened y most c keys) places
@@ -95,7 +95,7 @@ module _ (a c : List Node) (longer : length a ≤ length c) (same : (i : ℕ) �
 -- one more was opened
 module _ (y : System) (most : Option ℕ) (nodes : List Node) (places : List ℕ) (keys new : List (List ℕ))
     (t : AreOpened y most nodes places keys) (i : ℕ) (inside : i < length nodes)
-    (cheap : cost_of y (path_at nodes i) ≤ top most) where
+    (cheap : cost_in_system y (path_at nodes i) ≤ top most) where
   wider : ((k : List ℕ) → Contains keys k → Contains new k) → (is : List ℕ)
       → AllByRecursion (IsOpened y most nodes keys) is → AllByRecursion (IsOpened y most nodes new) is
   wider on [] all = tt
@@ -127,13 +127,13 @@ module _ (y : System) (most : Option ℕ) (nodes : List Node) (places : List ℕ
     ];
   }
 
-  put_other : ¬ IsPlan y (path_at nodes i) → new ≡ keys → AreOpened y most nodes (places ++ i ∷ []) new
+  put_other : ¬ IsSystemPlan y (path_at nodes i) → new ≡ keys → AreOpened y most nodes (places ++ i ∷ []) new
   put_other off same = rw same (record {
     each = last (IsOpened y most nodes keys) places t.each (record { inside = inside; cheap = cheap; keyed = λ plan. absurd (off plan) });
     from = old_from;
   })
 
-  pub table_put : (b : Bool) → Decides b (IsPlan y (path_at nodes i)) → AddsKey nodes i b keys new → AreOpened y most nodes (places ++ i ∷ []) new
+  pub table_put : (b : Bool) → Decides b (IsSystemPlan y (path_at nodes i)) → AddsKey nodes i b keys new → AreOpened y most nodes (places ++ i ∷ []) new
   table_put true d (key, is, noted) = put_plan key is noted
   table_put false d same = put_other (λ plan. not_true (d.1 plan)) same
     where

@@ -4,63 +4,63 @@ use Rattle.task_system.specs.System.{System}
 use Rattle.space_api.specs.View.{View, Valid}
 use Rattle.lazy_plans.specs.Law.{Last, Ended, last_of}
 use Rattle.lazy_plans.specs.declared.stop.Stop.{Stop}
-use Rattle.cost_to_go.specs.Standing.{within_of}
+use Rattle.cost_to_go.specs.Standing.{to_go_within}
 use Rattle.cost_to_go.specs.declared.search.CostToGo.{CostToGo}
-use Rattle.class_plans.specs.Members.{TurnedMembers, HasEach}
+use Rattle.selectors.specs.Members.{TurnedMembers, HasEachClass}
 use Rattle.member_laws.specs.Nodes.{PendsNode}
 use Rattle.member_laws.specs.Told.{pends_node}
-use Rattle.prefix_ends.specs.Owned.{IsTidy}
-use Rattle.prefix_ends.specs.Standing.{IsBeneath}
+use Rattle.prefix_plans.specs.Owned.{IsTidyEndSpace}
+use Rattle.prefix_plans.specs.EndStanding.{IsBeneathToGo}
 use Rattle.member_plans.specs.Front.{opened, IsSteady}
 use Rattle.member_plans.specs.declared.front.Front.{Front}
 use Rattle.member_plans.specs.declared.engine.MemberPlans.{MemberPlans}
 
-abbrev pub system_of : {S Set : Type 0} → (S → View Set) → MemberPlans S Set → System
-system_of view x = (view x.space).system
+abbrev pub member_system : {S Set : Type 0} → (S → View Set) → MemberPlans S Set → System
+member_system view x = (view x.space).system
 
 -- the greatest cost that is wanted, or none
-abbrev pub most_of : {S Set : Type 0} → MemberPlans S Set → Option ℕ
-most_of x = x.most
+abbrev pub member_most : {S Set : Type 0} → MemberPlans S Set → Option ℕ
+member_most x = x.most
 
 -- the answer that ended it, which every later call repeats; none, while it goes on
-abbrev pub ended_of : {S Set : Type 0} → MemberPlans S Set → Last
-ended_of x = x.ended
+abbrev pub member_ended : {S Set : Type 0} → MemberPlans S Set → Last
+member_ended x = x.ended
 
 -- the plans that join no prefix that was opened, and the same computed
-abbrev pub Pends : {S Set : Type 0} → (S → View Set) → MemberPlans S Set → List ℕ → Type 0
-Pends view x p = PendsNode (view x.space).system (opened x.front) p
+abbrev pub PendsMember : {S Set : Type 0} → (S → View Set) → MemberPlans S Set → List ℕ → Type 0
+PendsMember view x p = PendsNode (view x.space).system (opened x.front) p
 
-abbrev pub tells : {S Set : Type 0} → (S → View Set) → MemberPlans S Set → List ℕ → Bool
-tells view x p = pends_node (view x.space).system (opened x.front) p
+abbrev pub member_tells : {S Set : Type 0} → (S → View Set) → MemberPlans S Set → List ℕ → Bool
+member_tells view x p = pends_node (view x.space).system (opened x.front) p
 
 -- what every engine meets between two calls: its prefixes stand, what was answered last still holds, and where no plan was left
 -- the space is tidy
-pub record IsSound {Set : Type 0} (v : View Set) (f : CostToGo Set) (within : Set) (most : Option ℕ) (x : Front) (ended : Last) : Type 0 where
+pub record IsMemberSound {Set : Type 0} (v : View Set) (f : CostToGo Set) (within : Set) (most : Option ℕ) (x : Front) (ended : Last) : Type 0 where
   pub steady : IsSteady v f most x
-  pub kept : within ≡ within_of f
+  pub kept : within ≡ to_go_within f
   pub said : Ended v.system most (PendsNode v.system (opened x)) ended
-  pub room : ended ≡ Some None → IsTidy v
+  pub room : ended ≡ Some None → IsTidyEndSpace v
 
 -- what it meets between two calls
-abbrev pub IsEngine : {S Set : Type 0} → (S → View Set) → MemberPlans S Set → Type 0
-IsEngine view x = IsSound (view x.space) x.search x.within x.most x.front x.ended
+abbrev pub IsMemberEngine : {S Set : Type 0} → (S → View Set) → MemberPlans S Set → Type 0
+IsMemberEngine view x = IsMemberSound (view x.space) x.search x.within x.most x.front x.ended
 
 -- every valid set is one of the search, or the one that it is kept to
-abbrev pub KeepsAll : {S Set : Type 0} → (S → View Set) → MemberPlans S Set → Type 0
-KeepsAll {S} {Set} view x = (a : Set) → Valid (view x.space) a → IsBeneath x.search a
+abbrev pub KeepsAllMember : {S Set : Type 0} → (S → View Set) → MemberPlans S Set → Type 0
+KeepsAllMember {S} {Set} view x = (a : Set) → Valid (view x.space) a → IsBeneathToGo x.search a
 
 -- no more is held than twice what was needed last, and 1,000
-abbrev pub HasRoom : {S Set : Type 0} → (S → View Set) → MemberPlans S Set → Type 0
-HasRoom view x = IsTidy (view x.space)
+abbrev pub HasMemberRoom : {S Set : Type 0} → (S → View Set) → MemberPlans S Set → Type 0
+HasMemberRoom view x = IsTidyEndSpace (view x.space)
 
 -- one call of it
-pub record Answers {S Set : Type 0} (view : S → View Set) (x z : MemberPlans S Set) (result : Result (Option (List ℕ)) Stop) : Type 0 where
-  pub engine : IsEngine view z
+pub record AnswersByMember {S Set : Type 0} (view : S → View Set) (x z : MemberPlans S Set) (result : Result (Option (List ℕ)) Stop) : Type 0 where
+  pub engine : IsMemberEngine view z
   pub system : (view z.space).system ≡ (view x.space).system
-  pub law : TurnedMembers (view x.space).system x.most (Pends view x) (Pends view z) result
+  pub law : TurnedMembers (view x.space).system x.most (PendsMember view x) (PendsMember view z) result
   pub last : z.ended ≡ last_of result
-  pub room : IfOk result (λ o. HasRoom view z)
+  pub room : IfOk result (λ o. HasMemberRoom view z)
 
 -- each plan of the system pends
-abbrev pub HasAll : {S Set : Type 0} → (S → View Set) → System → MemberPlans S Set → Type 0
-HasAll view y x = HasEach y (Pends view x)
+abbrev pub HasAllPlans : {S Set : Type 0} → (S → View Set) → System → MemberPlans S Set → Type 0
+HasAllPlans view y x = HasEachClass y (PendsMember view x)

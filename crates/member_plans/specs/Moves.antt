@@ -4,10 +4,10 @@ use Rattle.task_run.specs.Counted.{AreRulesOf}
 use Rattle.task_system.specs.System.{State, System}
 use Rattle.task_system.specs.Computed.{system_of}
 use Rattle.space_api.specs.Listing.{ListsReached}
-use Rattle.stubborn_laws.specs.Stubborn.{Stubborn}
-use Rattle.stubborn_sets.specs.Closing.{is_in}
+use Rattle.stubborn_sets.specs.Stubborn.{Stubborn}
+use Rattle.stubborn_sets.specs.Closing.{has_mark}
 use Rattle.stubborn_sets.specs.Sets.{AreOf}
-use Rattle.member_plans.specs.Kept.{AreStubborn, IsKept}
+use Rattle.member_plans.specs.Kept.{AreStubborn, HasMarksAt}
 use Rattle.member_plans.specs.declared.moves.Moves.{Moves}
 
 -- it is made for the task of the system, which lists the states that operators reach, and what it keeps is right there
@@ -20,13 +20,13 @@ pub record Serves (m : Moves) (y : System) : Type 0 where
 
 -- the state's marks are kept at this number
 abbrev pub HasMarks : Moves → ℕ → State → Type 0
-HasMarks m n s = IsKept m.kept.items n s
+HasMarks m n s = HasMarksAt m.kept.items n s
 
 -- the moves by marked operators are enough in each state whose marks are kept at this number
 abbrev pub AreMarksAt : Moves → ℕ → List Bool → Type 0
-AreMarksAt m n marks = (y : System) (s : State) → Serves m y → HasMarks m n s → Stubborn y (is_in marks) s
+AreMarksAt m n marks = (y : System) (s : State) → Serves m y → HasMarks m n s → Stubborn y (has_mark marks) s
 
 -- the operators whose mark is this one
 abbrev pub is_taken : List Bool → Bool → ℕ → Bool
-is_taken marks true op = is_in marks op
-is_taken marks false op = not (is_in marks op)
+is_taken marks true op = has_mark marks op
+is_taken marks false op = not (has_mark marks op)

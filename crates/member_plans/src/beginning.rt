@@ -3,13 +3,13 @@
 ghost use Rattle.std.specs.Prelude.{◌≡◌, [], ◌∷◌, IfOk, None, Some};
 ghost use Rattle.task_system.specs.Computed.{system_of as system_by};
 ghost use Rattle.space_api.specs.View.{View, Valid};
-ghost use Rattle.prefix_ends.specs.Owned.{HasNone, HasAlone, HasUseful};
-ghost use Rattle.prefix_ends.specs.Standing.{IsReady, IsAlone};
+ghost use Rattle.prefix_plans.specs.Owned.{HasNoSet, IsOnlyValid, CoversUseful};
+ghost use Rattle.prefix_plans.specs.EndStanding.{IsEndReady, IsCostToGoAlone};
 ghost use Rattle.prefix_tree.specs.Entries.{prefixes};
 ghost use Rattle.member_plans.specs.Moves.{Serves};
-ghost use Rattle.member_plans.specs.Front.{places, waiting};
+ghost use Rattle.member_plans.specs.Front.{opened_places, waiting_members};
 ghost use Rattle.member_plans.specs.Opened.{keys_of};
-ghost use Rattle.member_plans.specs.Engine.{system_of, most_of, ended_of, IsEngine, HasAll};
+ghost use Rattle.member_plans.specs.Engine.{member_system, member_most, member_ended, IsMemberEngine, HasAllPlans};
 
 use crate::engine::MemberPlans;
 use crate::front::Front;
@@ -17,10 +17,9 @@ use crate::given::Given;
 use crate::moves::Moves;
 use crate::opened::Opened;
 use cost_to_go::CostToGo;
-use prefix_ends::Ranks;
+use prefix_plans::Ranks;
 use prefix_tree::{Entry, Node, Queue, StateGraph, number_of_start};
-use single_states::goal_at;
-use space_api::Space;
+use space_api::{Space, goal_at};
 use std::alloc::Global;
 use std::cmp::Reverse;
 use symk_task::{Memory, Task};
@@ -32,11 +31,12 @@ fn first_front<'a, S: Space>(
     search: &CostToGo<S::Set>,
     task: &'a Task,
 ) -> Result<Front<'a>, Memory>
-    requires alone { IsAlone (S.view space.now) search.now }
-    ensures ready { IfOk result (λ x. IsReady (S.view space.now) search.now x.graph x.tree.items (waiting x)) }
-    ensures first { IfOk result (λ x. prefixes x.tree.items (waiting x) ≡ [] ∷ []) }
+    requires alone { IsCostToGoAlone (S.view space.now) search.now }
+    ensures ready { IfOk result (λ x. IsEndReady (S.view space.now) search.now x.graph x.tree.items
+        (waiting_members x)) }
+    ensures first { IfOk result (λ x. prefixes x.tree.items (waiting_members x) ≡ [] ∷ []) }
     ensures serves { IfOk result (λ x. Serves x.moves (system_by task.now)) }
-    ensures none { IfOk result (λ x. places x ≡ []) }
+    ensures none { IfOk result (λ x. opened_places x ≡ []) }
     ensures keys { IfOk result (λ x. keys_of x.opened ≡ []) }
 {
     let mut graph = StateGraph::new(alloc);
@@ -84,13 +84,13 @@ impl<'a, S: Space + Drop> MemberPlans<'a, S> {
     ) -> Result<MemberPlans<'a, S>, Memory>
         requires task { (S.view space).system ≡ system_by task.now }
         requires within { Valid (S.view space) within }
-        requires alone { HasAlone (S.view space) within }
-        requires wide { HasUseful (S.view space) within }
-        ensures lawful { IfOk result (λ x. IsEngine S.view x) }
-        ensures system { IfOk result (λ x. system_of S.view x ≡ (S.view space).system) }
-        ensures all { IfOk result (λ x. HasAll S.view (S.view space).system x) }
-        ensures most { IfOk result (λ x. most_of x ≡ most) }
-        ensures last { IfOk result (λ x. ended_of x ≡ None) }
+        requires alone { IsOnlyValid (S.view space) within }
+        requires wide { CoversUseful (S.view space) within }
+        ensures lawful { IfOk result (λ x. IsMemberEngine S.view x) }
+        ensures system { IfOk result (λ x. member_system S.view x ≡ (S.view space).system) }
+        ensures all { IfOk result (λ x. HasAllPlans S.view (S.view space).system x) }
+        ensures most { IfOk result (λ x. member_most x ≡ most) }
+        ensures last { IfOk result (λ x. member_ended x ≡ None) }
     {
         let mut space = space;
         let search = CostToGo::new(alloc, &mut space, within)?;
@@ -116,13 +116,13 @@ impl<'a, S: Space + Drop> MemberPlans<'a, S> {
     ) -> Result<MemberPlans<'a, S>, Memory>
         requires task { (S.view space).system ≡ system_by task.now }
         requires within { Valid (S.view space) within }
-        requires alone { HasAlone (S.view space) within }
-        requires wide { HasUseful (S.view space) within }
-        ensures lawful { IfOk result (λ x. IsEngine S.view x) }
-        ensures system { IfOk result (λ x. system_of S.view x ≡ (S.view space).system) }
-        ensures all { IfOk result (λ x. HasAll S.view (S.view space).system x) }
-        ensures most { IfOk result (λ x. most_of x ≡ None) }
-        ensures last { IfOk result (λ x. ended_of x ≡ None) }
+        requires alone { IsOnlyValid (S.view space) within }
+        requires wide { CoversUseful (S.view space) within }
+        ensures lawful { IfOk result (λ x. IsMemberEngine S.view x) }
+        ensures system { IfOk result (λ x. member_system S.view x ≡ (S.view space).system) }
+        ensures all { IfOk result (λ x. HasAllPlans S.view (S.view space).system x) }
+        ensures most { IfOk result (λ x. member_most x ≡ None) }
+        ensures last { IfOk result (λ x. member_ended x ≡ None) }
     {
         MemberPlans::begin(alloc, task, space, None, within)
     }
@@ -137,13 +137,13 @@ impl<'a, S: Space + Drop> MemberPlans<'a, S> {
     ) -> Result<MemberPlans<'a, S>, Memory>
         requires task { (S.view space).system ≡ system_by task.now }
         requires within { Valid (S.view space) within }
-        requires alone { HasAlone (S.view space) within }
-        requires wide { HasUseful (S.view space) within }
-        ensures lawful { IfOk result (λ x. IsEngine S.view x) }
-        ensures system { IfOk result (λ x. system_of S.view x ≡ (S.view space).system) }
-        ensures all { IfOk result (λ x. HasAll S.view (S.view space).system x) }
-        ensures most { IfOk result (λ x. most_of x ≡ Some most) }
-        ensures last { IfOk result (λ x. ended_of x ≡ None) }
+        requires alone { IsOnlyValid (S.view space) within }
+        requires wide { CoversUseful (S.view space) within }
+        ensures lawful { IfOk result (λ x. IsMemberEngine S.view x) }
+        ensures system { IfOk result (λ x. member_system S.view x ≡ (S.view space).system) }
+        ensures all { IfOk result (λ x. HasAllPlans S.view (S.view space).system x) }
+        ensures most { IfOk result (λ x. member_most x ≡ Some most) }
+        ensures last { IfOk result (λ x. member_ended x ≡ None) }
     {
         MemberPlans::begin(alloc, task, space, Some(most), within)
     }
@@ -156,12 +156,12 @@ impl<'a, S: Space + Drop> MemberPlans<'a, S> {
         most: Option<u64>,
     ) -> Result<MemberPlans<'a, S>, Memory>
         requires task { (S.view space).system ≡ system_by task.now }
-        requires none { HasNone (S.view space) }
-        ensures lawful { IfOk result (λ x. IsEngine S.view x) }
-        ensures system { IfOk result (λ x. system_of S.view x ≡ (S.view space).system) }
-        ensures all { IfOk result (λ x. HasAll S.view (S.view space).system x) }
-        ensures most { IfOk result (λ x. most_of x ≡ most) }
-        ensures last { IfOk result (λ x. ended_of x ≡ None) }
+        requires none { HasNoSet (S.view space) }
+        ensures lawful { IfOk result (λ x. IsMemberEngine S.view x) }
+        ensures system { IfOk result (λ x. member_system S.view x ≡ (S.view space).system) }
+        ensures all { IfOk result (λ x. HasAllPlans S.view (S.view space).system x) }
+        ensures most { IfOk result (λ x. member_most x ≡ most) }
+        ensures last { IfOk result (λ x. member_ended x ≡ None) }
     {
         let mut space = space;
         let within = space.all()?;
@@ -173,12 +173,12 @@ impl<'a, S: Space + Drop> MemberPlans<'a, S> {
     /// The caller knows that no set of the space is valid yet.
     pub fn new(alloc: Global, task: &'a Task, space: S) -> Result<MemberPlans<'a, S>, Memory>
         requires task { (S.view space).system ≡ system_by task.now }
-        requires none { HasNone (S.view space) }
-        ensures lawful { IfOk result (λ x. IsEngine S.view x) }
-        ensures system { IfOk result (λ x. system_of S.view x ≡ (S.view space).system) }
-        ensures all { IfOk result (λ x. HasAll S.view (S.view space).system x) }
-        ensures most { IfOk result (λ x. most_of x ≡ None) }
-        ensures last { IfOk result (λ x. ended_of x ≡ None) }
+        requires none { HasNoSet (S.view space) }
+        ensures lawful { IfOk result (λ x. IsMemberEngine S.view x) }
+        ensures system { IfOk result (λ x. member_system S.view x ≡ (S.view space).system) }
+        ensures all { IfOk result (λ x. HasAllPlans S.view (S.view space).system x) }
+        ensures most { IfOk result (λ x. member_most x ≡ None) }
+        ensures last { IfOk result (λ x. member_ended x ≡ None) }
     {
         MemberPlans::begin_anywhere(alloc, task, space, None)
     }
@@ -191,12 +191,12 @@ impl<'a, S: Space + Drop> MemberPlans<'a, S> {
         most: u64,
     ) -> Result<MemberPlans<'a, S>, Memory>
         requires task { (S.view space).system ≡ system_by task.now }
-        requires none { HasNone (S.view space) }
-        ensures lawful { IfOk result (λ x. IsEngine S.view x) }
-        ensures system { IfOk result (λ x. system_of S.view x ≡ (S.view space).system) }
-        ensures all { IfOk result (λ x. HasAll S.view (S.view space).system x) }
-        ensures most { IfOk result (λ x. most_of x ≡ Some most) }
-        ensures last { IfOk result (λ x. ended_of x ≡ None) }
+        requires none { HasNoSet (S.view space) }
+        ensures lawful { IfOk result (λ x. IsMemberEngine S.view x) }
+        ensures system { IfOk result (λ x. member_system S.view x ≡ (S.view space).system) }
+        ensures all { IfOk result (λ x. HasAllPlans S.view (S.view space).system x) }
+        ensures most { IfOk result (λ x. member_most x ≡ Some most) }
+        ensures last { IfOk result (λ x. member_ended x ≡ None) }
     {
         MemberPlans::begin_anywhere(alloc, task, space, Some(most))
     }

@@ -2,7 +2,7 @@
 
 use crate::front::Front;
 use cost_to_go::CostToGo;
-use lazy_plans::Stop;
+use lazy_plans::{Steps, Stop};
 use space_api::Space;
 
 /// Of each class of rearrangements one plan at least, the cheapest first. It owns its space, of the task that it borrows.
@@ -23,15 +23,14 @@ pub struct MemberPlans<'a, S: Space> {
 
 ghost use Rattle.std.specs.Prelude.{◌≡◌, ◌≢◌, None, IfOk};
 ghost use Rattle.lazy_plans.specs.Law.{last_of};
-ghost use Rattle.class_plans.specs.Members.{TurnedMembers};
+ghost use Rattle.selectors.specs.Members.{TurnedMembers};
 ghost use Rattle.member_laws.proofs.Telling.{pends_told};
 ghost use Rattle.member_plans.specs.Front.{opened};
-ghost use Rattle.member_plans.specs.Engine.{system_of, most_of, ended_of, Pends, tells, IsEngine, KeepsAll, HasRoom, Answers};
+ghost use Rattle.member_plans.specs.Engine.{member_system, member_most, member_ended, PendsMember, member_tells, IsMemberEngine, KeepsAllMember, HasMemberRoom, AnswersByMember};
 
 use crate::turn::give;
 use crate::walk::walk;
-use class_plans::LazyMembers;
-use lazy_plans::Steps;
+use selectors::LazyMembers;
 use std::alloc::Global;
 use std::sync::ledger::Ledger;
 use symk_task::Plan;
@@ -40,10 +39,10 @@ impl<'a, S: Space> MemberPlans<'a, S> {
     /// Asks for the next plan. The space is tidied before it is opened, so that it pends still where that is refused; then
     /// the engine stops.
     fn ask<L: Ledger>(&mut self, alloc: Global, steps: &mut Steps<L>) -> Result<Option<Plan>, Stop>
-        requires engine { IsEngine S.view self.old }
-        requires goes_on { ended_of self.old ≡ None }
-        ensures answers { Answers S.view self.old self.new result }
-        ensures most { most_of self.new ≡ most_of self.old }
+        requires engine { IsMemberEngine S.view self.old }
+        requires goes_on { member_ended self.old ≡ None }
+        ensures answers { AnswersByMember S.view self.old self.new result }
+        ensures most { member_most self.new ≡ member_most self.old }
     {
         match walk(
             alloc,
@@ -90,17 +89,17 @@ impl<'a, S: Space> MemberPlans<'a, S> {
 }
 
 impl<'a, S: Space> LazyMembers for MemberPlans<'a, S> {
-    ghost system = { λ x. system_of S.view x };
+    ghost system = { λ x. member_system S.view x };
 
-    ghost most = { λ x. most_of x };
+    ghost most = { λ x. member_most x };
 
-    ghost pends = { λ x. Pends S.view x };
+    ghost pends = { λ x. PendsMember S.view x };
 
-    ghost tells = { λ x. tells S.view x };
+    ghost tells = { λ x. member_tells S.view x };
 
-    ghost lawful = { λ x. IsEngine S.view x };
+    ghost lawful = { λ x. IsMemberEngine S.view x };
 
-    ghost last = { λ x. ended_of x };
+    ghost last = { λ x. member_ended x };
 
     /// The next plan that pends. One turn is one step. After each call, also one that is refused, every valid set is one
     /// of the search, or the one that it is kept to. After a plan or None the space is tidy.
@@ -109,16 +108,16 @@ impl<'a, S: Space> LazyMembers for MemberPlans<'a, S> {
         alloc: Global,
         steps: &mut Steps<L>,
     ) -> Result<Option<Plan>, Stop>
-        requires { IsEngine S.view self.old }
-        ensures lawful { IsEngine S.view self.new }
-        ensures system { system_of S.view self.new ≡ system_of S.view self.old }
-        ensures most { most_of self.new ≡ most_of self.old }
-        ensures law { TurnedMembers (system_of S.view self.old) (most_of self.old) (Pends S.view self.old)
-            (Pends S.view self.new) result }
-        ensures last { ended_of self.new ≡ last_of result }
-        ensures again { ended_of self.old ≢ None → ended_of self.new ≡ ended_of self.old }
-        ensures keeps { KeepsAll S.view self.new }
-        ensures tidy { IfOk result (λ o. HasRoom S.view self.new) }
+        requires { IsMemberEngine S.view self.old }
+        ensures lawful { IsMemberEngine S.view self.new }
+        ensures system { member_system S.view self.new ≡ member_system S.view self.old }
+        ensures most { member_most self.new ≡ member_most self.old }
+        ensures law { TurnedMembers (member_system S.view self.old) (member_most self.old) (PendsMember S.view self.old)
+            (PendsMember S.view self.new) result }
+        ensures last { member_ended self.new ≡ last_of result }
+        ensures again { member_ended self.old ≢ None → member_ended self.new ≡ member_ended self.old }
+        ensures keeps { KeepsAllMember S.view self.new }
+        ensures tidy { IfOk result (λ o. HasMemberRoom S.view self.new) }
     {
         match self.ended {
             None => self.ask(alloc, steps),

@@ -3,20 +3,20 @@
 ghost use Rattle.std.specs.Prelude.{◌≡◌, ◌<◌, ◌++◌, IfOk, length};
 ghost use Rattle.symk_task.specs.declared.parts.Mode.TheVariants.{TopK};
 ghost use Rattle.space_api.specs.View.{View};
-ghost use Rattle.stubborn_laws.specs.Stubborn.{Stubborn};
-ghost use Rattle.stubborn_sets.specs.Closing.{is_in};
+ghost use Rattle.stubborn_sets.specs.Stubborn.{Stubborn};
+ghost use Rattle.stubborn_sets.specs.Closing.{has_mark};
 ghost use Rattle.cost_to_go.specs.Standing.{IsCostToGo};
-ghost use Rattle.prefix_tree.specs.Tree.{IsTree, Grows, path_at, end_at};
-ghost use Rattle.prefix_tree.specs.StateGraph.{states_of, IsStateGraph, AreMoves};
-ghost use Rattle.prefix_tree.specs.Entries.{HasRoom, entries_of};
-ghost use Rattle.prefix_ends.specs.Children.{IsEntry};
+ghost use Rattle.prefix_tree.specs.Tree.{IsTree, GrowsTree, path_at, end_at};
+ghost use Rattle.prefix_tree.specs.StateGraph.{states_of, IsStateGraph, AreGraphMoves};
+ghost use Rattle.prefix_tree.specs.Entries.{HasQueueRoom, queued_entries};
+ghost use Rattle.prefix_plans.specs.EndChildren.{IsEndEntry};
 ghost use Rattle.member_plans.specs.Moves.{Serves, is_taken};
-ghost use Rattle.member_plans.specs.Children.{AreChosen, AreEnough};
+ghost use Rattle.member_plans.specs.Children.{AreChosenChildren, AreEnough};
 
 use crate::front::Front;
 use crate::taking::{Taken, is_one_nearer, takes};
 use cost_to_go::CostToGo;
-use prefix_ends::{Heuristic, Ranks};
+use prefix_plans::{Heuristic, Ranks};
 use prefix_tree::{Entry, Move, Node, find_moves, node_at};
 use space_api::{Space, SpaceFault};
 use std::alloc::Global;
@@ -36,12 +36,12 @@ fn add_some<S: Space>(
     requires graph { IsStateGraph (S.view heuristic.now.space.now).system heuristic.now.graph.now }
     requires tree { IsTree (S.view heuristic.now.space.now).system TopK (states_of heuristic.now.graph.now)
         tree.old.items }
-    requires entry { IsEntry (S.view heuristic.now.space.now) heuristic.now.search.now tree.old.items entry }
-    requires moves { AreMoves (S.view heuristic.now.space.now).system (states_of heuristic.now.graph.now)
+    requires entry { IsEndEntry (S.view heuristic.now.space.now) heuristic.now.search.now tree.old.items entry }
+    requires moves { AreGraphMoves (S.view heuristic.now.space.now).system (states_of heuristic.now.graph.now)
         (end_at (states_of heuristic.now.graph.now) tree.old.items entry.node) moves.now }
-    ensures grows { Grows (S.view heuristic.now.space.now).system TopK (states_of heuristic.now.graph.now)
+    ensures grows { GrowsTree (S.view heuristic.now.space.now).system TopK (states_of heuristic.now.graph.now)
         tree.old.items tree.new.items }
-    ensures children { IfOk result (λ kids. AreChosen (S.view heuristic.now.space.now) heuristic.now.search.now
+    ensures children { IfOk result (λ kids. AreChosenChildren (S.view heuristic.now.space.now) heuristic.now.search.now
         tree.new.items (path_at tree.old.items entry.node) (is_taken taken.entry.marks.now taken.entry.marked)
         (S.view heuristic.now.space.now).system.operators kids.items) }
 {
@@ -50,14 +50,7 @@ fn add_some<S: Space>(
         if !takes(taken, step.op) {
             continue;
         }
-        ranks.add_child(
-            alloc,
-            heuristic,
-            tree,
-            entry,
-            *step,
-            &mut children,
-        )?;
+        ranks.add_child(alloc, heuristic, tree, entry, *step, &mut children)?;
     }
     Ok(children)
 }
@@ -77,12 +70,12 @@ fn add_enough<S: Space>(
     requires graph { IsStateGraph (S.view heuristic.now.space.now).system heuristic.now.graph.now }
     requires tree { IsTree (S.view heuristic.now.space.now).system TopK (states_of heuristic.now.graph.now)
         tree.old.items }
-    requires entry { IsEntry (S.view heuristic.now.space.now) heuristic.now.search.now tree.old.items entry }
-    requires moves { AreMoves (S.view heuristic.now.space.now).system (states_of heuristic.now.graph.now)
+    requires entry { IsEndEntry (S.view heuristic.now.space.now) heuristic.now.search.now tree.old.items entry }
+    requires moves { AreGraphMoves (S.view heuristic.now.space.now).system (states_of heuristic.now.graph.now)
         (end_at (states_of heuristic.now.graph.now) tree.old.items entry.node) moves.now }
-    requires marks { Stubborn (S.view heuristic.now.space.now).system (is_in marks.now)
+    requires marks { Stubborn (S.view heuristic.now.space.now).system (has_mark marks.now)
         (end_at (states_of heuristic.now.graph.now) tree.old.items entry.node) }
-    ensures grows { Grows (S.view heuristic.now.space.now).system TopK (states_of heuristic.now.graph.now)
+    ensures grows { GrowsTree (S.view heuristic.now.space.now).system TopK (states_of heuristic.now.graph.now)
         tree.old.items tree.new.items }
     ensures children { IfOk result (λ kids. AreEnough (S.view heuristic.now.space.now) heuristic.now.search.now
         tree.new.items (path_at tree.old.items entry.node)
@@ -117,13 +110,13 @@ fn children_of<S: Space>(
     requires graph { IsStateGraph (S.view space.now).system front.old.graph }
     requires serves { Serves front.old.moves (S.view space.now).system }
     requires tree { IsTree (S.view space.now).system TopK (states_of front.old.graph) front.old.tree.items }
-    requires entry { IsEntry (S.view space.now) search.now front.old.tree.items entry }
+    requires entry { IsEndEntry (S.view space.now) search.now front.old.tree.items entry }
     ensures graph { IsStateGraph (S.view space.now).system front.new.graph }
     ensures serves { Serves front.new.moves (S.view space.now).system }
-    ensures queue { entries_of front.new.queue ≡ entries_of front.old.queue }
-    ensures other { entries_of front.new.other ≡ entries_of front.old.other }
+    ensures queue { queued_entries front.new.queue ≡ queued_entries front.old.queue }
+    ensures other { queued_entries front.new.other ≡ queued_entries front.old.other }
     ensures opened { front.new.opened ≡ front.old.opened }
-    ensures grows { Grows (S.view space.now).system TopK (states_of front.new.graph) front.old.tree.items
+    ensures grows { GrowsTree (S.view space.now).system TopK (states_of front.new.graph) front.old.tree.items
         front.new.tree.items }
     ensures children { IfOk result (λ kids. AreEnough (S.view space.now) search.now front.new.tree.items
         (path_at front.old.tree.items entry.node)
@@ -168,16 +161,16 @@ pub(crate) fn expand<S: Space>(
     requires graph { IsStateGraph (S.view space.now).system front.old.graph }
     requires serves { Serves front.old.moves (S.view space.now).system }
     requires tree { IsTree (S.view space.now).system TopK (states_of front.old.graph) front.old.tree.items }
-    requires entry { IsEntry (S.view space.now) search.now front.old.tree.items entry }
+    requires entry { IsEndEntry (S.view space.now) search.now front.old.tree.items entry }
     ensures graph { IsStateGraph (S.view space.now).system front.new.graph }
     ensures serves { Serves front.new.moves (S.view space.now).system }
-    ensures queue { entries_of front.new.queue ≡ entries_of front.old.queue }
-    ensures other { entries_of front.new.other ≡ entries_of front.old.other }
+    ensures queue { queued_entries front.new.queue ≡ queued_entries front.old.queue }
+    ensures other { queued_entries front.new.other ≡ queued_entries front.old.other }
     ensures opened { front.new.opened ≡ front.old.opened }
-    ensures grows { Grows (S.view space.now).system TopK (states_of front.new.graph) front.old.tree.items
+    ensures grows { GrowsTree (S.view space.now).system TopK (states_of front.new.graph) front.old.tree.items
         front.new.tree.items }
-    ensures here { IfOk result (λ kids. HasRoom front.new.queue (length kids.0.items)) }
-    ensures there { IfOk result (λ kids. HasRoom front.new.other (length kids.1.items)) }
+    ensures here { IfOk result (λ kids. HasQueueRoom front.new.queue (length kids.0.items)) }
+    ensures there { IfOk result (λ kids. HasQueueRoom front.new.other (length kids.1.items)) }
     ensures children { IfOk result (λ kids. AreEnough (S.view space.now) search.now front.new.tree.items
         (path_at front.old.tree.items entry.node)
         (end_at (states_of front.new.graph) front.old.tree.items entry.node) (kids.0.items ++ kids.1.items)) }

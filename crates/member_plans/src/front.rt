@@ -3,7 +3,7 @@
 use crate::given::Given;
 use crate::moves::Moves;
 use crate::opened::Opened;
-use prefix_ends::Ranks;
+use prefix_plans::Ranks;
 use prefix_tree::{Node, Queue, StateGraph};
 
 /// Prefixes, those that wait, and those that were opened.
@@ -30,16 +30,16 @@ pub struct Front<'a> {
 }
 
 ghost use Rattle.std.specs.Prelude.{◌≡◌, ◌<◌, ◌≤◌, [], All, IsTrue, IsFalse, IfSome, IfNone, length, slice_index_or};
-ghost use Rattle.prefix_tree.specs.Entries.{entries_of};
-ghost use Rattle.member_plans.specs.Front.{waiting, IsAhead, Rearranged};
+ghost use Rattle.prefix_tree.specs.Entries.{queued_entries};
+ghost use Rattle.member_plans.specs.Front.{waiting_members, IsAheadOf, Rearranged};
 
 use prefix_tree::Entry;
 
 impl<'a> Front<'a> {
     /// Whether the other queue goes first: its least bound is less, or as great where the queue at work is the late one.
     fn is_other_ahead(&self) -> bool
-        ensures yes { IsTrue result → IsAhead (entries_of self.now.other) (entries_of self.now.queue) }
-        ensures no { IsFalse result → IsAhead (entries_of self.now.queue) (entries_of self.now.other) }
+        ensures yes { IsTrue result → IsAheadOf (queued_entries self.now.other) (queued_entries self.now.queue) }
+        ensures no { IsFalse result → IsAheadOf (queued_entries self.now.queue) (queued_entries self.now.other) }
     {
         match (self.queue.first(), self.other.first()) {
             (_, None) => false,
@@ -53,7 +53,7 @@ impl<'a> Front<'a> {
     /// Puts the queue to work that goes first.
     fn turn(&mut self)
         ensures rearranged { Rearranged self.old self.new }
-        ensures ahead { IsAhead (entries_of self.new.queue) (entries_of self.new.other) }
+        ensures ahead { IsAheadOf (queued_entries self.new.queue) (queued_entries self.new.other) }
     {
         if !self.is_other_ahead() {
             return;
@@ -65,10 +65,10 @@ impl<'a> Front<'a> {
     /// An entry of the least bound of all. The queue that has it as its first one is at work then.
     pub(crate) fn turn_to_first(&mut self) -> Option<Entry>
         ensures rearranged { Rearranged self.old self.new }
-        ensures none { IfNone result (waiting self.new ≡ []) }
-        ensures some { IfSome result (λ e. 0 < length (entries_of self.new.queue)) }
-        ensures first { IfSome result (λ e. e ≡ slice_index_or (entries_of self.new.queue) 0 e) }
-        ensures least { IfSome result (λ e. All (λ k. e.bound.0 ≤ k.bound.0) (waiting self.new)) }
+        ensures none { IfNone result (waiting_members self.new ≡ []) }
+        ensures some { IfSome result (λ e. 0 < length (queued_entries self.new.queue)) }
+        ensures first { IfSome result (λ e. e ≡ slice_index_or (queued_entries self.new.queue) 0 e) }
+        ensures least { IfSome result (λ e. All (λ k. e.bound.0 ≤ k.bound.0) (waiting_members self.new)) }
     {
         self.turn();
         self.queue.first()

@@ -5,7 +5,7 @@ ghost use Rattle.symk_task.specs.declared.parts.Mode.TheVariants.{TopK, Unordere
 ghost use Rattle.symk_task.specs.Plans.{Same};
 ghost use Rattle.task_system.specs.System.{State, System};
 ghost use Rattle.prefix_tree.specs.Tree.{IsTree, AreLinked, path_at};
-ghost use Rattle.member_laws.specs.Nodes.{Joins};
+ghost use Rattle.member_laws.specs.Nodes.{JoinsAtNode};
 ghost use Rattle.member_plans.specs.Joining.{GoesBack, Fork};
 
 use prefix_tree::{Node, node_at};
@@ -73,7 +73,7 @@ pub(crate) fn do_join(
     requires node { node < length tree.now }
     requires other { other < length tree.now }
     ensures { (y : System) (states : List State) → IsTree y TopK states tree.now
-        → IfOk result (λ same. IsTrue same → Joins y (path_at tree.now node) (path_at tree.now other)) }
+        → IfOk result (λ same. IsTrue same → JoinsAtNode y (path_at tree.now node) (path_at tree.now other)) }
 {
     if node_at(tree, node).state != node_at(tree, other).state {
         return Ok(false);

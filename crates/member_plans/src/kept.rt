@@ -11,7 +11,7 @@ pub(crate) struct Marked {
 }
 
 ghost use Rattle.std.specs.Prelude.{◌≡◌, IsTrue, OnOk};
-ghost use Rattle.member_plans.specs.Kept.{IsKept, Puts};
+ghost use Rattle.member_plans.specs.Kept.{HasMarksAt, PutsNoOtherMark};
 
 use symk_task::Memory;
 
@@ -26,7 +26,7 @@ impl Marked {
 
 /// Whether the marks of the state are kept at this number.
 pub(crate) fn has_at(kept: &[Option<Marked>], number: usize, state: &State) -> bool
-    ensures { IsTrue result → IsKept kept.now number state.now }
+    ensures { IsTrue result → HasMarksAt kept.now number state.now }
 {
     match kept.get(number) {
         Some(Some(marked)) => marked.is_of(state),
@@ -40,8 +40,8 @@ pub(crate) fn keep(
     number: usize,
     marked: Marked,
 ) -> Result<(), Memory>
-    ensures kept { OnOk result (IsKept kept.new.items number marked.state) }
-    ensures puts { Puts kept.old.items kept.new.items marked }
+    ensures kept { OnOk result (HasMarksAt kept.new.items number marked.state) }
+    ensures puts { PutsNoOtherMark kept.old.items kept.new.items marked }
 {
     'places: while kept.len() <= number {
         kept.push(None)?;

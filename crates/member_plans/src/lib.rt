@@ -8,10 +8,10 @@
 //! taken is opened, and the others are dropped. There are two queues: a prefix all of whose operators belong to one of
 //! the last plans that were given waits in the late one, behind prefixes of the same bound in the other. For what it
 //! leads to is often a rearrangement of that plan. What pends are the plans that join no prefix that was opened. Before
-//! memory is refused nothing of them is lost, so no plan is held. It stands on `prefix_ends` for what is known of
+//! memory is refused nothing of them is lost, so no plan is held. It stands on `prefix_plans` for what is known of
 //! prefixes by where they end, on `member_laws` for what pends, on `stubborn_sets` for the moves that are enough, on
-//! `prefix_tree` for prefixes and their queue, on `useful_states` for the states that lead to the goal, and on
-//! `class_plans` for the law that it keeps.
+//! `prefix_tree` for prefixes and their queue, on `cost_layers` for the states that lead to the goal, and on
+//! `selectors` for the law that it keeps.
 //!
 //! Stubborn sets in search: A. Valmari (1989); M. Wehrle and M. Helmert (2012).
 #![tactic(auto)]

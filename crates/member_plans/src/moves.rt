@@ -19,9 +19,9 @@ pub struct Moves<'a> {
 ghost use Rattle.std.specs.Prelude.{ℕ, List, IfOk, OnOk};
 ghost use Rattle.task_system.specs.System.{System};
 ghost use Rattle.task_system.specs.Computed.{system_of};
-ghost use Rattle.single_states.specs.States.{IsReached};
-ghost use Rattle.stubborn_laws.specs.Stubborn.{Stubborn};
-ghost use Rattle.stubborn_sets.specs.Closing.{is_in};
+ghost use Rattle.space_api.specs.States.{IsReached};
+ghost use Rattle.stubborn_sets.specs.Stubborn.{Stubborn};
+ghost use Rattle.stubborn_sets.specs.Closing.{has_mark};
 ghost use Rattle.member_plans.specs.Moves.{Serves, HasMarks, AreMarksAt};
 
 use crate::kept::{has_at, keep};
@@ -48,7 +48,7 @@ impl<'a> Moves<'a> {
     fn make_marks(&mut self, alloc: Global, state: &State) -> Result<Vec<bool>, Memory>
         requires { (y : System) × Serves self.old y × IsReached y state.now }
         ensures serves { (y : System) → Serves self.old y → Serves self.new y }
-        ensures stubborn { (y : System) → Serves self.old y → IfOk result (λ marks. Stubborn y (is_in marks.items)
+        ensures stubborn { (y : System) → Serves self.old y → IfOk result (λ marks. Stubborn y (has_mark marks.items)
             state.now) }
     {
         // A task fits, and so operators reach no more than its states.

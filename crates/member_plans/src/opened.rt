@@ -17,12 +17,12 @@ ghost use Rattle.std.specs.Prelude.{◌≡◌, ◌<◌, ◌^◌, [], ℕ, List, 
 ghost use Rattle.std.specs.Bool.{Decides};
 ghost use Rattle.std.specs.List.{AllByRecursion};
 ghost use Rattle.symk_task.specs.declared.parts.Mode.TheVariants.{TopK};
-ghost use Rattle.task_system.specs.System.{State, System, IsPlan};
-ghost use Rattle.prefix_tree.specs.StateGraph.{AreOnce};
+ghost use Rattle.task_system.specs.System.{State, System, IsSystemPlan};
+ghost use Rattle.prefix_tree.specs.StateGraph.{AreDistinctStates};
 ghost use Rattle.prefix_tree.specs.Tree.{IsTree, AreLinked, path_at};
 ghost use Rattle.prefix_tree.specs.declared.entry.Entry.{Entry};
-ghost use Rattle.member_laws.specs.Nodes.{IsJoined};
-ghost use Rattle.member_plans.specs.Opened.{places_of, keys_of, opened_of, AreOpened, AddsKey, AddsPlace, IsMet};
+ghost use Rattle.member_laws.specs.Nodes.{IsJoinedAtNode};
+ghost use Rattle.member_plans.specs.Opened.{places_of_opened, keys_of, opened_of, AreOpened, AddsKey, AddsPlace, IsMet};
 
 use crate::joining::do_join;
 use crate::keys::key_at;
@@ -32,7 +32,7 @@ use std::alloc::{AllocError, Global};
 impl Opened {
     /// No prefix.
     pub(crate) fn new(alloc: Global) -> Opened
-        ensures places { places_of result ≡ [] }
+        ensures places { places_of_opened result ≡ [] }
         ensures keys { keys_of result ≡ [] }
     {
         Opened {
@@ -46,11 +46,11 @@ impl Opened {
     fn finds(&mut self, alloc: Global, tree: &[Node], node: usize) -> Result<bool, AllocError>
         requires linked { AreLinked tree.now }
         requires node { node < length tree.now }
-        requires inside { AllByRecursion (λ i. i < length tree.now) (places_of self.old) }
-        ensures places { places_of self.new ≡ places_of self.old }
+        requires inside { AllByRecursion (λ i. i < length tree.now) (places_of_opened self.old) }
+        ensures places { places_of_opened self.new ≡ places_of_opened self.old }
         ensures keys { keys_of self.new ≡ keys_of self.old }
         ensures joined { (y : System) (states : List State) → IsTree y TopK states tree.now
-            → IfOk result (λ found. IsTrue found → IsJoined y (opened_of tree.now (places_of self.old))
+            → IfOk result (λ found. IsTrue found → IsJoinedAtNode y (opened_of tree.now (places_of_opened self.old))
             (path_at tree.now node)) }
     {
         match self.hints.find(tree, node)? {
@@ -73,7 +73,7 @@ impl Opened {
     fn note(&mut self, alloc: Global, tree: &[Node], node: usize) -> Result<(), AllocError>
         requires linked { AreLinked tree.now }
         requires node { node < length tree.now }
-        ensures places { places_of self.new ≡ places_of self.old }
+        ensures places { places_of_opened self.new ≡ places_of_opened self.old }
         ensures ok { OnOk result (AddsKey tree.now node true (keys_of self.old) (keys_of self.new)) }
         ensures err { OnErr result (keys_of self.new ≡ keys_of self.old) }
     {
@@ -93,9 +93,9 @@ impl Opened {
         requires linked { AreLinked tree.now }
         requires node { node < length tree.now }
         ensures ok { OnOk result (AddsPlace tree.now node is_plan self.old self.new) }
-        ensures places { OnErr result (places_of self.new ≡ places_of self.old) }
+        ensures places { OnErr result (places_of_opened self.new ≡ places_of_opened self.old) }
         ensures keys { OnErr result (keys_of self.new ≡ keys_of self.old) }
-        ensures fits { length (places_of self.new) < 2 ^ 64 }
+        ensures fits { length (places_of_opened self.new) < 2 ^ 64 }
     {
         let number = self.places.len();
         self.hints.note(tree, node, number)?;
@@ -116,9 +116,11 @@ impl Opened {
     fn has_plan(&self, alloc: Global, tree: &[Node], node: usize) -> Result<bool, AllocError>
         requires linked { AreLinked tree.now }
         requires node { node < length tree.now }
-        ensures { (y : System) (most : Option ℕ) (states : List State) → IsTree y TopK states tree.now → AreOnce states
-            → AreOpened y most tree.now (places_of self.now) (keys_of self.now) → IsPlan y (path_at tree.now node)
-            → IfOk result (λ has. Decides has (IsJoined y (opened_of tree.now (places_of self.now))
+        ensures { (y : System) (most : Option ℕ) (states : List State) → IsTree y TopK states tree.now
+            → AreDistinctStates states
+            → AreOpened y most tree.now (places_of_opened self.now) (keys_of self.now)
+            → IsSystemPlan y (path_at tree.now node)
+            → IfOk result (λ has. Decides has (IsJoinedAtNode y (opened_of tree.now (places_of_opened self.now))
             (path_at tree.now node))) }
     {
         let key = key_at(alloc, tree, node)?;
@@ -134,13 +136,13 @@ impl Opened {
     ) -> Result<bool, AllocError>
         requires linked { AreLinked tree.now }
         requires node { entry.node < length tree.now }
-        requires inside { AllByRecursion (λ i. i < length tree.now) (places_of self.old) }
-        ensures places { places_of self.new ≡ places_of self.old }
+        requires inside { AllByRecursion (λ i. i < length tree.now) (places_of_opened self.old) }
+        ensures places { places_of_opened self.new ≡ places_of_opened self.old }
         ensures keys { keys_of self.new ≡ keys_of self.old }
         ensures met { (y : System) (most : Option ℕ) (states : List State) → IsTree y TopK states tree.now
-            → AreOnce states → AreOpened y most tree.now (places_of self.old) (keys_of self.old)
-            → Decides entry.at_goal (IsPlan y (path_at tree.now entry.node))
-            → IfOk result (IsMet y (opened_of tree.now (places_of self.old)) tree.now entry) }
+            → AreDistinctStates states → AreOpened y most tree.now (places_of_opened self.old) (keys_of self.old)
+            → Decides entry.at_goal (IsSystemPlan y (path_at tree.now entry.node))
+            → IfOk result (IsMet y (opened_of tree.now (places_of_opened self.old)) tree.now entry) }
     {
         if entry.at_goal {
             self.has_plan(alloc, tree, entry.node)

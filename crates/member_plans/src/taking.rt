@@ -8,14 +8,14 @@ pub(crate) struct Taken<'a> {
 }
 
 ghost use Rattle.std.specs.Prelude.{◌≡◌};
-ghost use Rattle.stubborn_sets.specs.Closing.{is_in};
+ghost use Rattle.stubborn_sets.specs.Closing.{has_mark};
 ghost use Rattle.member_plans.specs.Moves.{is_taken};
 
 use prefix_tree::Entry;
 
 /// Whether the operator is marked.
 fn is_marked(marks: &[bool], op: u32) -> bool
-    ensures { result ≡ is_in marks.now op }
+    ensures { result ≡ has_mark marks.now op }
 {
     match marks.get(op as usize) {
         Some(mark) => *mark,

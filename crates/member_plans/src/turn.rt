@@ -4,18 +4,18 @@ ghost use Rattle.std.specs.Prelude.{◌≡◌, ◌+◌, ◌<◌, ◌≤◌, ◌^
 ghost use Rattle.space_api.specs.View.{View};
 ghost use Rattle.lazy_plans.specs.Law.{top};
 ghost use Rattle.prefix_tree.specs.Tree.{path_at};
-ghost use Rattle.prefix_tree.specs.Entries.{entries_of};
-ghost use Rattle.prefix_ends.specs.Left.{known_of};
-ghost use Rattle.prefix_ends.specs.Children.{IsOutdated};
-ghost use Rattle.member_laws.specs.Nodes.{IsJoined, PendsNode};
-ghost use Rattle.class_plans.specs.Members.{GaveMember};
-ghost use Rattle.member_plans.specs.Front.{places, opened, IsSteady, Follows, IsDue, work};
+ghost use Rattle.prefix_tree.specs.Entries.{queued_entries};
+ghost use Rattle.prefix_plans.specs.Left.{known_to_go};
+ghost use Rattle.prefix_plans.specs.EndChildren.{IsOutdated};
+ghost use Rattle.member_laws.specs.Nodes.{IsJoinedAtNode, PendsNode};
+ghost use Rattle.selectors.specs.Members.{GaveMember};
+ghost use Rattle.member_plans.specs.Front.{opened_places, opened, IsSteady, FollowsTurns, IsDue, member_work};
 
 use crate::expand::expand;
 use crate::front::Front;
 use cost_to_go::CostToGo;
 use lazy_plans::Steps;
-use prefix_ends::Heuristic;
+use prefix_plans::Heuristic;
 use prefix_tree::{Entry, operators_to};
 use space_api::{Space, SpaceFault};
 use std::alloc::{AllocError, Global};
@@ -36,12 +36,13 @@ pub(crate) fn learn<S: Space, L: Ledger>(
     steps: &mut Steps<L>,
 ) -> Result<(), AllocError>
     requires steady { IsSteady (S.view space.now) search.now most front.old }
-    requires some { 0 < length (entries_of front.old.queue) }
-    requires first { entry ≡ slice_index_or (entries_of front.old.queue) 0 entry }
+    requires some { 0 < length (queued_entries front.old.queue) }
+    requires first { entry ≡ slice_index_or (queued_entries front.old.queue) 0 entry }
     requires open { IsFalse entry.settled }
-    requires more { IsOutdated (known_of search.now) entry }
-    ensures follows { Follows (S.view space.now) search.now most front.old front.new }
-    ensures less { OnOk result (work (known_of search.now) front.new < work (known_of search.now) front.old) }
+    requires more { IsOutdated (known_to_go search.now) entry }
+    ensures follows { FollowsTurns (S.view space.now) search.now most front.old front.new }
+    ensures less { OnOk result (member_work (known_to_go search.now) front.new < member_work
+        (known_to_go search.now) front.old) }
     ensures one { OnOk result (steps.new ≡ steps.old + 1) }
     ensures none { OnErr result (steps.new ≡ steps.old) }
 {
@@ -71,11 +72,13 @@ pub(crate) fn drop_joined<S: Space, L: Ledger>(
     steps: &mut Steps<L>,
 ) -> Result<(), AllocError>
     requires steady { IsSteady (S.view space.now) search.now most front.old }
-    requires some { 0 < length (entries_of front.old.queue) }
-    requires first { entry ≡ slice_index_or (entries_of front.old.queue) 0 entry }
-    requires joined { IsJoined (S.view space.now).system (opened front.old) (path_at front.old.tree.items entry.node) }
-    ensures follows { Follows (S.view space.now) search.now most front.old front.new }
-    ensures less { OnOk result (work (known_of search.now) front.new < work (known_of search.now) front.old) }
+    requires some { 0 < length (queued_entries front.old.queue) }
+    requires first { entry ≡ slice_index_or (queued_entries front.old.queue) 0 entry }
+    requires joined { IsJoinedAtNode (S.view space.now).system (opened front.old)
+        (path_at front.old.tree.items entry.node) }
+    ensures follows { FollowsTurns (S.view space.now) search.now most front.old front.new }
+    ensures less { OnOk result (member_work (known_to_go search.now) front.new < member_work
+        (known_to_go search.now) front.old) }
     ensures one { OnOk result (steps.new ≡ steps.old + 1) }
     ensures none { OnErr result (steps.new ≡ steps.old) }
 {
@@ -96,15 +99,15 @@ fn open<S: Space, L: Ledger>(
     steps: &mut Steps<L>,
 ) -> Result<(), SpaceFault>
     requires steady { IsSteady (S.view space.now) search.now most front.old }
-    requires some { 0 < length (entries_of front.old.queue) }
-    requires first { entry ≡ slice_index_or (entries_of front.old.queue) 0 entry }
+    requires some { 0 < length (queued_entries front.old.queue) }
+    requires first { entry ≡ slice_index_or (queued_entries front.old.queue) 0 entry }
     requires cheap { entry.bound.0 ≤ top most }
     ensures steady { IsSteady (S.view space.now) search.now most front.new }
     ensures ok { OnOk result (opened front.new ≡ opened front.old ++ path_at front.old.tree.items entry.node ∷ []) }
     ensures err { OnErr result (opened front.new ≡ opened front.old) }
-    ensures more { OnOk result (length (places front.old) < length (places front.new)) }
-    ensures same { OnErr result (places front.new ≡ places front.old) }
-    ensures fits { OnOk result (length (places front.new) < 2 ^ 64) }
+    ensures more { OnOk result (length (opened_places front.old) < length (opened_places front.new)) }
+    ensures same { OnErr result (opened_places front.new ≡ opened_places front.old) }
+    ensures fits { OnOk result (length (opened_places front.new) < 2 ^ 64) }
     ensures one { OnOk result (steps.new ≡ steps.old + 1) }
     ensures none { OnErr result (steps.new ≡ steps.old) }
 {
@@ -128,13 +131,13 @@ pub(crate) fn pass<S: Space, L: Ledger>(
     steps: &mut Steps<L>,
 ) -> Result<(), SpaceFault>
     requires steady { IsSteady (S.view space.now) search.now most front.old }
-    requires some { 0 < length (entries_of front.old.queue) }
-    requires first { entry ≡ slice_index_or (entries_of front.old.queue) 0 entry }
+    requires some { 0 < length (queued_entries front.old.queue) }
+    requires first { entry ≡ slice_index_or (queued_entries front.old.queue) 0 entry }
     requires cheap { entry.bound.0 ≤ top most }
     requires off { IsFalse entry.at_goal }
-    ensures follows { Follows (S.view space.now) search.now most front.old front.new }
-    ensures more { OnOk result (length (places front.old) < length (places front.new)) }
-    ensures fits { OnOk result (length (places front.new) < 2 ^ 64) }
+    ensures follows { FollowsTurns (S.view space.now) search.now most front.old front.new }
+    ensures more { OnOk result (length (opened_places front.old) < length (opened_places front.new)) }
+    ensures fits { OnOk result (length (opened_places front.new) < 2 ^ 64) }
     ensures one { OnOk result (steps.new ≡ steps.old + 1) }
     ensures none { OnErr result (steps.new ≡ steps.old) }
 {

@@ -4,18 +4,18 @@ ghost use Rattle.std.specs.Prelude.{◌≡◌, ◌<◌, ◌≤◌, All, IfOk, le
 ghost use Rattle.std.specs.List.{AllByRecursion};
 ghost use Rattle.space_api.specs.View.{View};
 ghost use Rattle.lazy_plans.specs.Law.{top};
-ghost use Rattle.cost_to_go.specs.Standing.{within_of};
-ghost use Rattle.prefix_tree.specs.Entries.{entries_of};
+ghost use Rattle.cost_to_go.specs.Standing.{to_go_within};
+ghost use Rattle.prefix_tree.specs.Entries.{queued_entries};
 ghost use Rattle.prefix_tree.specs.declared.entry.Entry.{Entry};
-ghost use Rattle.prefix_ends.specs.Left.{known_of};
-ghost use Rattle.member_plans.specs.Front.{waiting, IsSteady, Follows, TurnOf, HaltsAt, Stopped};
+ghost use Rattle.prefix_plans.specs.Left.{known_to_go};
+ghost use Rattle.member_plans.specs.Front.{waiting_members, IsSteady, FollowsTurns, IsMemberTurn, MembersHaltAt, Stopped};
 
 use crate::front::Front;
 use crate::range::is_left;
 use crate::turn::{drop_joined, learn, pass};
 use cost_to_go::CostToGo;
 use lazy_plans::{Steps, Stop};
-use prefix_ends::{go_on, is_outdated, top_of};
+use prefix_plans::{go_on, is_outdated, top_of};
 use prefix_tree::Entry;
 use space_api::{Space, SpaceFault};
 use std::alloc::Global;
@@ -48,12 +48,13 @@ fn act_ranked<S: Space, L: Ledger>(
     steps: &mut Steps<L>,
 ) -> Result<Option<Halt>, SpaceFault>
     requires steady { IsSteady (S.view space.now) search.now most front.old }
-    requires some { 0 < length (entries_of front.old.queue) }
-    requires first { entry ≡ slice_index_or (entries_of front.old.queue) 0 entry }
-    requires least { All (λ k. entry.bound.0 ≤ k.bound.0) (waiting front.old) }
+    requires some { 0 < length (queued_entries front.old.queue) }
+    requires first { entry ≡ slice_index_or (queued_entries front.old.queue) 0 entry }
+    requires least { All (λ k. entry.bound.0 ≤ k.bound.0) (waiting_members front.old) }
     requires cheap { entry.bound.0 ≤ top most }
-    ensures follows { Follows (S.view space.now) search.now most front.old front.new }
-    ensures ok { IfOk result (TurnOf (S.view space.now).system (known_of search.now) most front.old front.new) }
+    ensures follows { FollowsTurns (S.view space.now) search.now most front.old front.new }
+    ensures ok { IfOk result (IsMemberTurn (S.view space.now).system
+        (known_to_go search.now) most front.old front.new) }
     ensures steps { steps.old ≤ steps.new }
 {
     if front.opened.meets(alloc, &front.tree, entry)? {
@@ -78,12 +79,13 @@ fn act<S: Space, L: Ledger>(
     steps: &mut Steps<L>,
 ) -> Result<Option<Halt>, SpaceFault>
     requires steady { IsSteady (S.view space.now) search.now most front.old }
-    requires some { 0 < length (entries_of front.old.queue) }
-    requires first { entry ≡ slice_index_or (entries_of front.old.queue) 0 entry }
-    requires least { All (λ k. entry.bound.0 ≤ k.bound.0) (waiting front.old) }
+    requires some { 0 < length (queued_entries front.old.queue) }
+    requires first { entry ≡ slice_index_or (queued_entries front.old.queue) 0 entry }
+    requires least { All (λ k. entry.bound.0 ≤ k.bound.0) (waiting_members front.old) }
     requires cheap { entry.bound.0 ≤ top most }
-    ensures follows { Follows (S.view space.now) search.now most front.old front.new }
-    ensures ok { IfOk result (TurnOf (S.view space.now).system (known_of search.now) most front.old front.new) }
+    ensures follows { FollowsTurns (S.view space.now) search.now most front.old front.new }
+    ensures ok { IfOk result (IsMemberTurn (S.view space.now).system
+        (known_to_go search.now) most front.old front.new) }
     ensures steps { steps.old ≤ steps.new }
 {
     if entry.settled {
@@ -107,11 +109,12 @@ fn end<S: Space, L: Ledger>(
     steps: &mut Steps<L>,
 ) -> Result<Halt, SpaceFault>
     requires steady { IsSteady (S.view space.old) search.now most front.old }
-    requires within { within ≡ within_of search.now }
-    requires dear { AllByRecursion (λ (k : Entry). top most < k.bound.0) (waiting front.old) }
+    requires within { within ≡ to_go_within search.now }
+    requires dear { AllByRecursion (λ (k : Entry). top most < k.bound.0) (waiting_members front.old) }
     ensures system { (S.view space.new).system ≡ (S.view space.old).system }
-    ensures follows { Follows (S.view space.new) search.now most front.old front.new }
-    ensures ok { IfOk result (HaltsAt (S.view space.old).system (known_of search.now) most front.old front.new) }
+    ensures follows { FollowsTurns (S.view space.new) search.now most front.old front.new }
+    ensures ok { IfOk result (MembersHaltAt (S.view space.old).system
+        (known_to_go search.now) most front.old front.new) }
     ensures steps { steps.old ≤ steps.new }
 {
     match most {
@@ -146,10 +149,11 @@ fn take_turn<S: Space, L: Ledger>(
     steps: &mut Steps<L>,
 ) -> Result<Option<Halt>, SpaceFault>
     requires steady { IsSteady (S.view space.old) search.now most front.old }
-    requires within { within ≡ within_of search.now }
+    requires within { within ≡ to_go_within search.now }
     ensures system { (S.view space.new).system ≡ (S.view space.old).system }
-    ensures follows { Follows (S.view space.new) search.now most front.old front.new }
-    ensures ok { IfOk result (TurnOf (S.view space.old).system (known_of search.now) most front.old front.new) }
+    ensures follows { FollowsTurns (S.view space.new) search.now most front.old front.new }
+    ensures ok { IfOk result (IsMemberTurn (S.view space.old).system
+        (known_to_go search.now) most front.old front.new) }
     ensures steps { steps.old ≤ steps.new }
 {
     match front.turn_to_first() {
@@ -175,10 +179,11 @@ fn take_turns<S: Space, L: Ledger>(
     steps: &mut Steps<L>,
 ) -> Result<Halt, SpaceFault>
     requires steady { IsSteady (S.view space.old) search.now most front.old }
-    requires within { within ≡ within_of search.now }
+    requires within { within ≡ to_go_within search.now }
     ensures system { (S.view space.new).system ≡ (S.view space.old).system }
-    ensures follows { Follows (S.view space.new) search.now most front.old front.new }
-    ensures ok { IfOk result (HaltsAt (S.view space.old).system (known_of search.now) most front.old front.new) }
+    ensures follows { FollowsTurns (S.view space.new) search.now most front.old front.new }
+    ensures ok { IfOk result (MembersHaltAt (S.view space.old).system
+        (known_to_go search.now) most front.old front.new) }
     ensures steps { steps.old ≤ steps.new }
 {
     'turns: loop {
@@ -200,10 +205,10 @@ pub(crate) fn walk<S: Space, L: Ledger>(
     steps: &mut Steps<L>,
 ) -> Result<Option<Entry>, Stop>
     requires steady { IsSteady (S.view space.old) search.old most front.old }
-    requires within { within ≡ within_of search.old }
+    requires within { within ≡ to_go_within search.old }
     ensures system { (S.view space.new).system ≡ (S.view space.old).system }
-    ensures within { within ≡ within_of search.new }
-    ensures follows { Follows (S.view space.new) search.new most front.old front.new }
+    ensures within { within ≡ to_go_within search.new }
+    ensures follows { FollowsTurns (S.view space.new) search.new most front.old front.new }
     ensures ok { Stopped (S.view space.old).system most front.new result }
     ensures steps { steps.old ≤ steps.new }
 {

@@ -10,7 +10,7 @@ use Rattle.space_api.specs.View.{View, Valid, Has, Meets}
 use Rattle.space_api.specs.Frames.{Kept, NoMore, Gives, Forgot, Stays}
 use Rattle.space_api.proofs.Keeping.{gives_stays, gives_as, kept_trans, given_back}
 use Rattle.space_api.proofs.Trading.{trades_stays}
-use Rattle.mutex_use.specs.Groups.{group_at, HasAtMostOne, Keeps, IsKeeper, IsBaseGroup, GroupsHold}
+use Rattle.mutex_use.specs.Groups.{mutex_group_at, HasAtMostOne, KeepsGroup, IsKeeper, IsBaseGroup, GroupsHold}
 use Rattle.mutex_use.specs.Rounds.{StandsFrom}
 use Rattle.mutex_use.specs.Sets.{HasAll, KeepsIn, KeepsHolding, MayGive, MayKeepOne, MayKeepMore, NarrowsHolding}
 use Rattle.mutex_use.proofs.Lists.{none}
@@ -24,10 +24,10 @@ in_one : (g h : ℕ) → Contains (g ∷ []) h → g ≡ h
 in_one g h m = elim (Contains-push_cases [] g h m) [ inl n ↦ absurd (none_in h n) | inr e ↦ e ]
 
 -- a state keeps the one group
-pub one_keeper : (task : TaskParts) (g : ℕ) (s : State) → IsKeeper task (g ∷ []) s ↔ (IsState task s × Keeps task s g)
+pub one_keeper : (task : TaskParts) (g : ℕ) (s : State) → IsKeeper task (g ∷ []) s ↔ (IsState task s × KeepsGroup task s g)
 one_keeper task g s = (
   (λ h. (h.0, h.1 g (Contains-push [] g))),
-  (λ h. (h.0, λ k m. subst (Keeps task s) (in_one g k m) h.1)),
+  (λ h. (h.0, λ k m. subst (KeepsGroup task s) (in_one g k m) h.1)),
 )
 
 -- a group that stands where it is kept holds by itself
@@ -35,8 +35,8 @@ pub stands_alone : (task : TaskParts) (From : State → Type 0) (g : ℕ)
     → ((s : State) → From s ↔ IsKeeper task (g ∷ []) s) → StandsFrom task From g → GroupsHold task (g ∷ [])
 stands_alone task From g from st = record {
   base = λ h m. subst (IsBaseGroup task) (in_one g h m) st.base;
-  initial = λ s i h m. subst (Keeps task s) (in_one g h m) (st.initial s i);
-  steps = λ s t a state keeps step h m. subst (Keeps task t) (in_one g h m) (st.steps s t a state ((from s).1 (state, keeps)) step);
+  initial = λ s i h m. subst (KeepsGroup task s) (in_one g h m) (st.initial s i);
+  steps = λ s t a state keeps step h m. subst (KeepsGroup task t) (in_one g h m) (st.steps s t a state ((from s).1 (state, keeps)) step);
 }
 
 -- one group more
@@ -93,7 +93,7 @@ all_after v w all k valid task every s = (
 -- the states that keep one group
 
 module _ {Set : Type 0} (task : TaskParts) (v w : View Set) (all kept : Set) (g : ℕ) (facts : List Fact)
-    (is : v.task ≡ task) (here : facts ≡ group_at task g) (every : HasAll v all)
+    (is : v.task ≡ task) (here : facts ≡ mutex_group_at task g) (every : HasAll v all)
     (gives : Gives v w (KeepsIn v all facts) kept) where
   as_keeper : (s : State) → KeepsIn v all facts s ↔ IsKeeper task (g ∷ []) s
   as_keeper s =
@@ -115,7 +115,7 @@ module _ {Set : Type 0} (task : TaskParts) (v w : View Set) (all kept : Set) (g 
   pub alone_means : (s : State) → Has w kept s ↔ IsKeeper task (g ∷ []) s
   alone_means s = ((λ h. (as_keeper s).0 ((gives.means s).0 h)), (λ h. (gives.means s).1 ((as_keeper s).1 h)))
 
-  pub alone_keeps : (s : State) → Has w kept s → IsState task s × Keeps task s g
+  pub alone_keeps : (s : State) → Has w kept s → IsState task s × KeepsGroup task s g
   alone_keeps s h = (one_keeper task g s).0 ((alone_means s).0 h)
 
   pub alone_given : (x : View Set) → Stays w x → StandsFrom task (Has w kept) g → MayKeepOne v x task g (Some kept)

@@ -12,14 +12,15 @@ use Rattle.symk_task.specs.Variables.{IsBase, place}
 use Rattle.symk_task.specs.Steps.{Holds, Fires, Allows, NoneOn, ValueAfter, Step}
 use Rattle.task_system.specs.System.{State}
 use Rattle.space_api.proofs.Facts.{base_holds}
-use Rattle.mutex_use.specs.Groups.{HasAtMostOne, AreBase}
+use Rattle.mutex_use.specs.Groups.{HasAtMostOne, AreBaseFacts}
 use Rattle.mutex_use.specs.Writers.{Touches, HaveTouching}
 use Rattle.mutex_use.specs.Balance.{fact_after, Adds, Takes, AddsNone, AddsAsAll, IsBalanced, IsBalancedAt, HaveUnbalanced, HaveBreaking}
 use Rattle.mutex_use.proofs.Lists.{in_list}
 
 -- An operator that has no effect on a variable leaves its value.
 
-module _ (task : TaskParts) (facts : List Fact) (s t : State) (a : ℕ) (base : AreBase task facts) (step : Step task s a t) (idle : ¬ Touches task a facts) where
+module _ (task : TaskParts) (facts : List Fact) (s t : State) (a : ℕ) (base : AreBaseFacts task facts)
+    (step : Step task s a t) (idle : ¬ Touches task a facts) where
   value_stays : (f : Fact) → Contains facts f → get_or t (place task f.var) 0 ≡ get_or s (place task f.var) 0
   value_stays f has = by (slice_get task.operators a) refl step.1.values
     where
@@ -58,7 +59,7 @@ module _ (task : TaskParts) (facts : List Fact) (s t : State) (a : ℕ) (base : 
 -- none of them that held before is left.
 
 module _ (task : TaskParts) (facts : List Fact) (s t : State) (a : ℕ) (operator : Operator)
-    (base : AreBase task facts) (at : slice_get task.operators a ≡ Some operator) (step : Step task s a t) where
+    (base : AreBaseFacts task facts) (at : slice_get task.operators a ≡ Some operator) (step : Step task s a t) where
   abbrev IsMade : Fact → Type 0
   IsMade f = (e : Effect) × Contains operator.effects e × (fact_after e ≡ f)
 
@@ -185,7 +186,7 @@ looked_end operators facts among left i end l = record {
 }
 
 -- of those that have an effect on a variable of the group, the ones that aren't balanced are all that may break it
-pub breaking_end : (task : TaskParts) (facts : List Fact) (among left : List ℕ) → AreBase task facts
+pub breaking_end : (task : TaskParts) (facts : List Fact) (among left : List ℕ) → AreBaseFacts task facts
     → HaveTouching task facts among → HaveUnbalanced task.operators facts among left → HaveBreaking task facts left
 breaking_end task facts among left base have u = record { all = all; only = u.only }
   where

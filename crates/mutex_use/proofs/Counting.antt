@@ -12,18 +12,18 @@ use Rattle.space_api.specs.Frames.{Kept, Gives, Forgot}
 use Rattle.space_api.specs.Owned.{Trades}
 use Rattle.space_api.proofs.Trading.{valid_clash, kept_made, trades_trans, trades_beside, trades_forgot, trades_as, gives_made}
 use Rattle.mutex_use.specs.declared.counts.Counts.{Counts}
-use Rattle.mutex_use.specs.Counts.{IsEachOnce, HasOne, HasTwo, IsOf, IsNewPair, Counted, CountsMore}
+use Rattle.mutex_use.specs.Counts.{IsEachOnce, HasOne, HasTwo, IsOfCounts, IsNewPair, CountsFacts, CountsMore}
 use Rattle.mutex_use.proofs.Lists.{more, none}
 
 -- a new set is none that was valid
-pub new_apart : {Set : Type 0} (u v : View Set) (n : Counts Set) (a b : Set) → IsNewPair u v n → Valid u a → IsOf n b → b ≢ a
+pub new_apart : {Set : Type 0} (u v : View Set) (n : Counts Set) (a b : Set) → IsNewPair u v n → Valid u a → IsOfCounts n b → b ≢ a
 new_apart u v n a b pair valid is e = valid_clash (subst (λ (z : _). Valid u z) (sym e) valid) (pair.trades.fresh b is (λ z. z))
 
 -- the set of what is counted more was made, and is given back
 module _ {Set : Type 0} (u v w x : View Set) (c n : Counts Set) (here : Set) {P : State → Type 0} (k : Kept u v)
     (g : Gives u v P here) (vo : Valid u c.once) (vt : Valid u c.twice)
     (pair : IsNewPair v w n) (m : CountsMore v w c (Has v here) n) (f : Forgot w x here) where
-  same_of : (b : Set) → IsOf n b → (s : State) → x.has b s ≡ w.has b s
+  same_of : (b : Set) → IsOfCounts n b → (s : State) → x.has b s ≡ w.has b s
   same_of b is s = f.same b (f.valid b (pair.trades.owned b is) (new_apart v w n here b pair g.valid is)) s
 
   pub counts_moved : CountsMore u x c P n
@@ -47,7 +47,7 @@ module _ {Set : Type 0} (u v w x : View Set) (c n : Counts Set) (here : Set) {P 
 -- the old sets are given back
 module _ {Set : Type 0} (u v w x : View Set) (c n : Counts Set) {P : State → Type 0} (vo : Valid u c.once) (vt : Valid u c.twice)
     (pair : IsNewPair u v n) (m : CountsMore u v c P n) (f : Forgot v w c.once) (h : Forgot w x c.twice) where
-  same_after : (b : Set) → IsOf n b → (s : State) → x.has b s ≡ v.has b s
+  same_after : (b : Set) → IsOfCounts n b → (s : State) → x.has b s ≡ v.has b s
   same_after b is s =
       let vw = f.valid b (pair.trades.owned b is) (new_apart u v n c.once b pair vo is) in
       h.same b (h.valid b vw (new_apart u v n c.twice b pair vt is)) s ∙ f.same b vw s
@@ -110,7 +110,7 @@ two_more task facts i f s apart lt is = (there, back)
 
 -- no fact is looked at yet
 pub counted_start : {Set : Type 0} (u w : View Set) (within : Set) (facts : List Fact) (c : Counts Set)
-    → IsNewPair u w c → IsEmpty w c.once → IsEmpty w c.twice → Counted u w within (take 0 facts) c
+    → IsNewPair u w c → IsEmpty w c.once → IsEmpty w c.twice → CountsFacts u w within (take 0 facts) c
 counted_start u w within facts c pair no_once no_twice = record {
   pair = pair;
   once = λ s. ((λ h. absurd (valid_clash h (no_once s))), (λ h. absurd (none facts h.1.0 h.1.1)));
@@ -120,7 +120,7 @@ counted_start u w within facts c pair no_once no_twice = record {
 -- one fact more is looked at
 module _ {Set : Type 0} (u w x : View Set) (within : Set) (facts : List Fact) (i : ℕ) (f : Fact) (c n : Counts Set) (valid : Valid u within)
     (apart : AllPairs ◌≢◌ facts) (lt : i < length facts) (is : get_or facts i f ≡ f) (task : w.task ≡ u.task)
-    (k : Counted u w within (take i facts) c) (t : Trades w x (IsOf c) (IsOf n)) (m : CountsMore w x c (FactIn w f within) n) where
+    (k : CountsFacts u w within (take i facts) c) (t : Trades w x (IsOfCounts c) (IsOfCounts n)) (m : CountsMore w x c (FactIn w f within) n) where
   fact_in : (s : State) → FactIn w f within s ↔ (Has u within s × Holds u.task s f)
   fact_in s =
       let same = (kept_made k.pair.trades).same within valid s in (
@@ -152,7 +152,7 @@ module _ {Set : Type 0} (u w x : View Set) (within : Set) (facts : List Fact) (i
     ])),
   )
 
-  pub counted_next : Counted u x within (take (i + 1) facts) n
+  pub counted_next : CountsFacts u x within (take (i + 1) facts) n
   counted_next = record {
     pair = record { trades = trades_trans k.pair.trades t; apart = m.apart };
     once = once_next;
@@ -168,7 +168,7 @@ two_same task facts each s once = (
 
 -- of the two sets the first is given back
 module _ {Set : Type 0} (u w x : View Set) (within : Set) (facts each : List Fact) (c : Counts Set)
-    (once : IsEachOnce facts each) (k : Counted u w within each c) (f : Forgot w x c.once) where
+    (once : IsEachOnce facts each) (k : CountsFacts u w within each c) (f : Forgot w x c.once) where
   twice_valid : Valid w c.twice
   twice_valid = k.pair.trades.owned c.twice (inr refl)
 

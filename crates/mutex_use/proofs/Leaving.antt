@@ -10,7 +10,7 @@ use Rattle.task_system.specs.System.{State}
 use Rattle.space_api.specs.View.{View, Valid, Has}
 use Rattle.space_api.specs.Frames.{Kept}
 use Rattle.mutex_use.specs.Groups.{IsKeeper, IsPartOf}
-use Rattle.mutex_use.specs.Rounds.{StandsFrom, Stands, IsRound, AreLeft}
+use Rattle.mutex_use.specs.Rounds.{StandsFrom, GroupStands, IsRound, AreGroupsLeft}
 use Rattle.mutex_use.proofs.Lists.{rising_push}
 
 at_or_below : (k n : ℕ) → k < n + 1 → (k < n) ⊎ (k ≡ n)
@@ -18,12 +18,12 @@ at_or_below k n lt = grind arith
 
 module _ (task : TaskParts) (From : State → Type 0) (groups left : List ℕ) (i x : ℕ)
     (rising : IsStrictlyIncreasing groups) (lt : i < length groups) (is : get_or groups i x ≡ x)
-    (l : AreLeft task From groups i left) where
+    (l : AreGroupsLeft task From groups i left) where
   at_place : (k d : ℕ) → k ≡ i → get_or groups k d ≡ x
   at_place k d e = subst (λ (z : ℕ). get_or groups z d ≡ x) (sym e) (get_or_default groups i d x lt ∙ is)
 
   -- the group stands
-  pub left_more : StandsFrom task From x → AreLeft task From groups (i + 1) (left ++ x ∷ [])
+  pub left_more : StandsFrom task From x → AreGroupsLeft task From groups (i + 1) (left ++ x ∷ [])
   left_more st = record {
     rising = rising_push left x l.rising (λ y h. subst (λ (z : ℕ). y < z) is (l.below y i x h (omega arith) lt));
     stand = λ g h. elim (Contains-push_cases left x g h) [
@@ -48,7 +48,7 @@ module _ (task : TaskParts) (From : State → Type 0) (groups left : List ℕ) (
   }
 
   -- it fails
-  pub left_same : ¬ StandsFrom task From x → AreLeft task From groups (i + 1) left
+  pub left_same : ¬ StandsFrom task From x → AreGroupsLeft task From groups (i + 1) left
   left_same fails = record {
     rising = l.rising;
     stand = l.stand;
@@ -64,11 +64,11 @@ module _ (task : TaskParts) (From : State → Type 0) (groups left : List ℕ) (
 -- what is left at the end is a round
 module _ (task : TaskParts) (From : State → Type 0) (groups left : List ℕ) (n : ℕ) (end : length groups ≤ n)
     (keepers : (s : State) → (From s → IsKeeper task groups s) × (IsKeeper task groups s → From s))
-    (l : AreLeft task From groups n left) where
-  stands_as : (g : ℕ) → StandsFrom task From g → Stands task groups g
+    (l : AreGroupsLeft task From groups n left) where
+  stands_as : (g : ℕ) → StandsFrom task From g → GroupStands task groups g
   stands_as g st = record { base = st.base; initial = st.initial; steps = λ s t a state keeps step. st.steps s t a state ((keepers s).1 (state, keeps)) step }
 
-  stands_from : (g : ℕ) → Stands task groups g → StandsFrom task From g
+  stands_from : (g : ℕ) → GroupStands task groups g → StandsFrom task From g
   stands_from g st = record { base = st.base; initial = st.initial; steps = λ s t a state from step. st.steps s t a state ((keepers s).0 from).1 step }
 
   pub left_round : IsRound task groups left

@@ -14,8 +14,8 @@ use Rattle.space_api.proofs.Trading.{valid_clash, trades_trans, trades_beside, t
 use Rattle.mutex_use.specs.Counts.{HasTwo}
 use Rattle.run_graph.specs.Reached.{Useful}
 use Rattle.symk_task.specs.Fits.{Fits}
-use Rattle.mutex_use.specs.Groups.{group_at, HasAtMostOne, Keeps, IsKeeper}
-use Rattle.mutex_use.specs.Sets.{HasAll, Narrows, KeepsHolding}
+use Rattle.mutex_use.specs.Groups.{mutex_group_at, HasAtMostOne, KeepsGroup, IsKeeper}
+use Rattle.mutex_use.specs.Sets.{HasAll, NarrowsSet, KeepsHolding}
 use Rattle.mutex_use.proofs.Lists.{told, more, none}
 use Rattle.mutex_use.proofs.Holding.{useful_keep}
 use Rattle.mutex_use.proofs.Stable.{at_most_one, not_two}
@@ -70,16 +70,17 @@ without_broken v w all kept broken facts k valid inside g s = (
 
 -- the groups so far, and one more
 keeper_more : (task : TaskParts) (groups : List ℕ) (i x : ℕ) (s : State) → i < length groups → get_or groups i x ≡ x
-    → IsKeeper task (take (i + 1) groups) s ↔ (IsKeeper task (take i groups) s × Keeps task s x)
+    → IsKeeper task (take (i + 1) groups) s ↔ (IsKeeper task (take i groups) s × KeepsGroup task s x)
 keeper_more task groups i x s lt is = (
   (λ h. ((h.0, (λ g m. h.1 g ((more groups i x g lt is).1 (inl m)))), h.1 x ((more groups i x x lt is).1 (inr refl)))),
-  (λ h. (h.0.0, (λ g m. elim ((more groups i x g lt is).0 m) [ inl k ↦ h.0.1 g k | inr e ↦ subst (Keeps task s) e h.1 ]))),
+  (λ h. (h.0.0, (λ g m. elim ((more groups i x g lt is).0 m) [ inl k ↦ h.0.1 g k | inr e ↦ subst (KeepsGroup task s) e h.1 ]))),
 )
 
 module _ {Set : Type 0} (task : TaskParts) (v w x : View Set) (all kept left : Set) (groups : List ℕ) (i g : ℕ)
-    (facts : List Fact) (lt : i < length groups) (is : get_or groups i g ≡ g) (here : facts ≡ group_at task g)
-    (same : w.task ≡ task) (means : (s : State) → Has w kept s ↔ IsKeeper task (take i groups) s) (n : Narrows w x kept (HasAtMostOne w.task facts) left) where
-  as_group : (s : State) → HasAtMostOne w.task facts s ↔ Keeps task s g
+    (facts : List Fact) (lt : i < length groups) (is : get_or groups i g ≡ g) (here : facts ≡ mutex_group_at task g)
+    (same : w.task ≡ task) (means : (s : State) → Has w kept s ↔ IsKeeper task (take i groups) s)
+    (n : NarrowsSet w x kept (HasAtMostOne w.task facts) left) where
+  as_group : (s : State) → HasAtMostOne w.task facts s ↔ KeepsGroup task s g
   as_group s = (
     (λ h. subst (λ (z : List Fact). HasAtMostOne task z s) here (subst (λ (t : TaskParts). HasAtMostOne t facts s) same h)),
     (λ h. subst (λ (t : TaskParts). HasAtMostOne t facts s) (sym same) (subst (λ (z : List Fact). HasAtMostOne task z s) (sym here) h)),
@@ -143,16 +144,16 @@ swapped {Set} v w x old new k g valid f =
 -- so, and then the space may collect
 pub narrows_tidied : {Set : Type 0} {v w x y : View Set} {Q : State → Type 0} {old new r : Set} → Kept v w
     → Gives v w (λ s. Has v old s × Q s) new → Valid v old → Forgot w x old → r ≡ new
-    → Stays x y → Narrows v y old Q r
+    → Stays x y → NarrowsSet v y old Q r
 narrows_tidied {Set} {v} {w} {x} {y} {Q} {old} {new} k g valid f e
-    z = subst (λ (a : Set). Narrows v y old Q a) (sym e) (record {
-  trades = stays_after (swapped v w x old new k g valid f) z;
-  means = λ s.
-      let apart = λ (o : new ≡ old). valid_clash (subst (λ (a : Set). Valid v a) (sym o) valid) g.fresh in
-      let there = f.valid new g.valid apart in
-      let same = z.kept.same new there s ∙ f.same new there s in
-      ((λ h. (g.means s).0 (sym same ∙ h)), (λ h. same ∙ (g.means s).1 h));
-})
+    z = subst (λ (a : Set). NarrowsSet v y old Q a) (sym e) (record {
+      trades = stays_after (swapped v w x old new k g valid f) z;
+      means = λ s.
+          let apart = λ (o : new ≡ old). valid_clash (subst (λ (a : Set). Valid v a) (sym o) valid) g.fresh in
+          let there = f.valid new g.valid apart in
+          let same = z.kept.same new there s ∙ f.same new there s in
+          ((λ h. (g.means s).0 (sym same ∙ h)), (λ h. same ∙ (g.means s).1 h));
+    })
 
 -- nothing new is made, and the old one is given back
 pub only_back : {Set : Type 0} (v w x : View Set) (old : Set) → Kept v w → NoMore v w → Valid v old → Forgot w x old → Trades v x (λ a. a ≡ old) (λ a. ⊥)

@@ -22,7 +22,7 @@ use Rattle.symk_task.specs.Fits.{Fits}
 use Rattle.symk_task.specs.Variables.{range}
 use Rattle.symk_task.proofs.Running.{fits_operator}
 use Rattle.symk_task.proofs.Places.{within_some}
-use Rattle.mutex_use.specs.Writers.{writers_at, Writes, AreWriters, Notes, HaveTouching}
+use Rattle.mutex_use.specs.Writers.{writers_at, WritesVariable, AreWriters, NotesWriter, HaveTouching}
 use Rattle.mutex_use.proofs.Lists.{more, none, whole}
 
 -- A key more.
@@ -111,7 +111,7 @@ module _ (w : List (List ℕ)) (u op : ℕ) (lt : u < length w) where
     | inr e ↦ inl (subst (λ (z : List ℕ). Contains z x) e h)
   ]
 
-pub notes_start : (w : List (List ℕ)) (op : ℕ) (effects : List Effect) → Notes w op (take 0 effects) w
+pub notes_start : (w : List (List ℕ)) (op : ℕ) (effects : List Effect) → NotesWriter w op (take 0 effects) w
 notes_start w op effects = record {
   each = refl;
   kept = λ var x h. h;
@@ -121,23 +121,24 @@ notes_start w op effects = record {
 
 pub notes_next : {old w new : List (List ℕ)} {op : ℕ} (effects : List Effect) (i : ℕ) (e : Effect)
     → i < length effects → get_or effects i e ≡ e → e.var < length old
-    → new ≡ set w e.var (writers_at w e.var ++ op ∷ []) → Notes old op (take i effects) w → Notes old op (take (i + 1) effects) new
+    → new ≡ set w e.var (writers_at w e.var ++ op ∷ []) → NotesWriter old op (take i effects) w → NotesWriter old op (take (i + 1) effects) new
 notes_next {old} {w} {new} {op} effects i e lt is within step
-    n = subst (Notes old op (take (i + 1) effects)) (sym step) (record {
-  each = length-set w e.var (writers_at w e.var ++ op ∷ []) ∙ n.each;
-  kept = λ var x h. kept_at w e.var op inside var x (n.kept var x h);
-  noted = λ effect h. elim ((more effects i e effect lt is).0 h) [
-    | inl k ↦ kept_at w e.var op inside effect.var op (n.noted effect k)
-    | inr s ↦ subst (λ (z : Effect). Contains (writers_at (set w e.var (writers_at w e.var ++ op ∷ [])) z.var) op) s (noted_at w e.var op inside)
-  ];
-  only = λ var x h. elim (only_at w e.var op inside var x h) [ inl k ↦ n.only var x k | inr s ↦ inr s ];
-})
+    n = subst (NotesWriter old op (take (i + 1) effects)) (sym step) (record {
+      each = length-set w e.var (writers_at w e.var ++ op ∷ []) ∙ n.each;
+      kept = λ var x h. kept_at w e.var op inside var x (n.kept var x h);
+      noted = λ effect h. elim ((more effects i e effect lt is).0 h) [
+        | inl k ↦ kept_at w e.var op inside effect.var op (n.noted effect k)
+        | inr s ↦ subst (λ (z : Effect). Contains (writers_at (set w e.var (writers_at w e.var ++ op ∷ [])) z.var) op) s (noted_at w e.var op inside)
+      ];
+      only = λ var x h. elim (only_at w e.var op inside var x h) [ inl k ↦ n.only var x k | inr s ↦ inr s ];
+    })
   where
     inside : e.var < length w
     inside = omega (arith, within, n.each)
 
-pub notes_end : (old w : List (List ℕ)) (op : ℕ) (effects : List Effect) (i : ℕ) → length effects ≤ i → Notes old op (take i effects) w → Notes old op effects w
-notes_end old w op effects i le n = subst (λ (z : List Effect). Notes old op z w) (take_all i effects le) n
+pub notes_end : (old w : List (List ℕ)) (op : ℕ) (effects : List Effect) (i : ℕ) → length effects ≤ i
+    → NotesWriter old op (take i effects) w → NotesWriter old op effects w
+notes_end old w op effects i le n = subst (λ (z : List Effect). NotesWriter old op z w) (take_all i effects le) n
 
 -- Operator by operator.
 
@@ -163,7 +164,7 @@ writers_start task w is = record {
         let k : Contains [] op = subst (λ (z : List ℕ). Contains z op) e h in absurd (omega (arith, k.1)))
 
 pub writers_next : (task : TaskParts) (i : ℕ) (operator : Operator) (w new : List (List ℕ))
-    → slice_get task.operators i ≡ Some operator → AreWriters task i w → Notes w i operator.effects new
+    → slice_get task.operators i ≡ Some operator → AreWriters task i w → NotesWriter w i operator.effects new
     → AreWriters task (i + 1) new
 writers_next task i operator w new at a n = record {
   each = n.each ∙ a.each;
@@ -177,7 +178,7 @@ writers_next task i operator w new at a n = record {
     split : (op : ℕ) → op < i + 1 → (op < i) ⊎ (op ≡ i)
     split op lt = grind arith
 
-    last : (op var : ℕ) → op ≡ i → Writes task op var → Contains (writers_at new var) op
+    last : (op var : ℕ) → op ≡ i → WritesVariable task op var → Contains (writers_at new var) op
     last op var e (other, effect, is, has, on) =
         let same : other ≡ operator = (let k : slice_get task.operators i ≡ Some other = subst
         (λ (z : ℕ). slice_get task.operators z ≡ Some other) e is in cc) in

@@ -16,7 +16,7 @@ use Rattle.task_system.proofs.RunsLaw.{leads_law}
 use Rattle.space_api.specs.View.{View, Valid, Has, Preimage}
 use Rattle.space_api.specs.Frames.{Kept, Gives}
 use Rattle.space_api.proofs.Trading.{valid_clash}
-use Rattle.mutex_use.specs.Groups.{group_at, HasAtMostOne, Keeps, IsBaseGroup}
+use Rattle.mutex_use.specs.Groups.{mutex_group_at, HasAtMostOne, KeepsGroup, IsBaseGroup}
 use Rattle.mutex_use.specs.Counts.{HasTwo}
 use Rattle.mutex_use.specs.Rounds.{StandsFrom}
 use Rattle.mutex_use.specs.Sets.{HasAll, IsSafe}
@@ -41,8 +41,8 @@ not_two task facts s most (f, h, cf, ch, ne, hf, hh) = ne (most f h cf ch hf hh)
 
 module _ {Set : Type 0} (task : TaskParts) (v w : View Set) (g : ℕ) (facts : List Fact) (operators : List ℕ)
     (all kept broken : Set) (fits : Fits task) (is : v.task ≡ task) (system : v.system ≡ system_of v.task)
-    (same : facts ≡ group_at task g) (base : IsBaseGroup task g) (breaking : HaveBreaking task facts operators)
-    (every : HasAll v all) (keeps : (s : State) → Has v kept s → IsState task s × Keeps task s g)
+    (same : facts ≡ mutex_group_at task g) (base : IsBaseGroup task g) (breaking : HaveBreaking task facts operators)
+    (every : HasAll v all) (keeps : (s : State) → Has v kept s → IsState task s × KeepsGroup task s g)
     (valid : Valid v kept) (k : Kept v w) (gives : Gives v w (λ s. Has v all s × HasTwo v.task facts s) broken) where
   system_is : w.system ≡ system_of task
   system_is = k.system ∙ system ∙ ap system_of is
@@ -57,10 +57,10 @@ module _ {Set : Type 0} (task : TaskParts) (v w : View Set) (g : ℕ) (facts : L
   broken_has : (s : State) → IsTrue (w.has broken s) → HasTwo task facts s
   broken_has s h = subst (λ (z : TaskParts). HasTwo z facts s) is ((gives.means s).0 h).1
 
-  outside : (s : State) → IsState task s → IsFalse (w.has broken s) → Keeps task s g
+  outside : (s : State) → IsState task s → IsFalse (w.has broken s) → KeepsGroup task s g
   outside s state out = subst (λ (z : List Fact). HasAtMostOne task z s) same (at_most_one task facts s (λ two. valid_clash (breaks s state two) out))
 
-  inside : (s : State) → Keeps task s g → IsFalse (w.has broken s)
+  inside : (s : State) → KeepsGroup task s g → IsFalse (w.has broken s)
   inside s most = elim (told (w.has broken s)) [
     | inl m ↦ absurd (not_two task facts s (subst (λ (z : List Fact). HasAtMostOne task z s) (sym same) most) (broken_has s m))
     | inr out ↦ out
@@ -69,7 +69,7 @@ module _ {Set : Type 0} (task : TaskParts) (v w : View Set) (g : ℕ) (facts : L
   start : IsInitial task w.system.initial
   start = subst (λ (y : System). IsInitial task y.initial) (sym system_is) (start_law task fits)
 
-  steps_from : IsSafe w operators kept broken → (s t : State) (a : ℕ) → IsState task s → Has v kept s → Step task s a t → Keeps task t g
+  steps_from : IsSafe w operators kept broken → (s t : State) (a : ℕ) → IsState task s → Has v kept s → Step task s a t → KeepsGroup task t g
   steps_from safe s t a state from step = elim (told (w.has broken t)) [
     | inl m ↦ absurd (valid_clash m
         (safe.steps a s t (breaking.all a s t most step (λ k. not_two task facts t k (broken_has t m)))
@@ -86,7 +86,8 @@ module _ {Set : Type 0} (task : TaskParts) (v w : View Set) (g : ℕ) (facts : L
   pub safe_stands : IsSafe w operators kept broken → StandsFrom task (Has v kept) g
   safe_stands safe = record {
     base = base;
-    initial = λ s i. subst (λ (z : State). Keeps task z g) (one_initial task w.system.initial s start i) (outside w.system.initial start.state safe.initial);
+    initial = λ s i. subst (λ (z : State). KeepsGroup task z g) (one_initial task w.system.initial s start i)
+        (outside w.system.initial start.state safe.initial);
     steps = steps_from safe;
   }
 
@@ -128,6 +129,9 @@ pub none_more : {Set : Type 0} (v w : View Set) (operators : List ℕ) (i x : �
     → NoneLeads v (take (i + 1) operators) to from
 none_more v w operators i x to from r t before = λ op s has pre. elim ((more operators i x op t.within t.is).0 has) [
   | inl m ↦ before op s m pre
-  | inr e ↦ valid_clash (t.tells.1 (s, (same_preimage v w x to from s t.kept t.to_valid t.from_valid).1
-      (subst (λ (z : ℕ). Preimage v z to from s) (sym e) pre))) t.fails
+  | inr e ↦ valid_clash (t.tells.1 (
+    s,
+    (same_preimage v w x to from s t.kept t.to_valid t.from_valid).1
+        (subst (λ (z : ℕ). Preimage v z to from s) (sym e) pre),
+  )) t.fails
 ]

@@ -28,16 +28,16 @@ abbrev pub BreaksIn : {Set : Type 0} → View Set → Set → List Fact → Stat
 BreaksIn v a facts s = Has v a s × HasTwo v.task facts s
 
 -- a is one of the two sets
-abbrev pub IsOf : {Set : Type 0} → Counts Set → Set → Type 0
-IsOf c a = (a ≡ c.once) ⊎ (a ≡ c.twice)
+abbrev pub IsOfCounts : {Set : Type 0} → Counts Set → Set → Type 0
+IsOfCounts c a = (a ≡ c.once) ⊎ (a ≡ c.twice)
 
 -- the two sets alone are new, and they are two
 pub record IsNewPair {Set : Type 0} (v w : View Set) (c : Counts Set) : Type 0 where
-  pub trades : Trades v w (λ a. ⊥) (IsOf c)
+  pub trades : Trades v w (λ a. ⊥) (IsOfCounts c)
   pub apart : c.once ≢ c.twice
 
 -- the two sets, which are new, have the states of `within` where one of the facts holds, and where two do
-pub record Counted {Set : Type 0} (v w : View Set) (within : Set) (facts : List Fact) (c : Counts Set) : Type 0 where
+pub record CountsFacts {Set : Type 0} (v w : View Set) (within : Set) (facts : List Fact) (c : Counts Set) : Type 0 where
   pub pair : IsNewPair v w c
   pub once : (s : State) → Has w c.once s ↔ (Has v within s × HasOne v.task facts s)
   pub twice : (s : State) → Has w c.twice s ↔ (Has v within s × HasTwo v.task facts s)

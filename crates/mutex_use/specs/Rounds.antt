@@ -6,27 +6,27 @@ use Rattle.symk_task.specs.Variables.{IsState}
 use Rattle.symk_task.specs.Steps.{Step}
 use Rattle.symk_task.specs.Plans.{IsInitial}
 use Rattle.task_system.specs.System.{State}
-use Rattle.mutex_use.specs.Groups.{Keeps, KeepsAll, IsBaseGroup, IsPartOf}
+use Rattle.mutex_use.specs.Groups.{KeepsGroup, KeepsGroups, IsBaseGroup, IsPartOf}
 
 -- The group doesn't fail: it is over base variables, the initial state keeps it, and so does each state to which
 -- an operator leads from one of From.
 pub record StandsFrom (task : TaskParts) (From : State → Type 0) (g : ℕ) : Type 0 where
   pub base : IsBaseGroup task g
-  pub initial : (s : State) → IsInitial task s → Keeps task s g
-  pub steps : (s t : State) (a : ℕ) → IsState task s → From s → Step task s a t → Keeps task t g
+  pub initial : (s : State) → IsInitial task s → KeepsGroup task s g
+  pub steps : (s t : State) (a : ℕ) → IsState task s → From s → Step task s a t → KeepsGroup task t g
 
 -- so where the groups are these
-abbrev pub Stands : TaskParts → List ℕ → ℕ → Type 0
-Stands task groups g = StandsFrom task (λ s. KeepsAll task s groups) g
+abbrev pub GroupStands : TaskParts → List ℕ → ℕ → Type 0
+GroupStands task groups g = StandsFrom task (λ s. KeepsGroups task s groups) g
 
 -- those of the groups are left that don't fail
 pub record IsRound (task : TaskParts) (groups left : List ℕ) : Type 0 where
   pub part : IsPartOf left groups
-  pub stand : (g : ℕ) → Contains left g → Stands task groups g
-  pub stay : (g : ℕ) → Contains groups g → Stands task groups g → Contains left g
+  pub stand : (g : ℕ) → Contains left g → GroupStands task groups g
+  pub stay : (g : ℕ) → Contains groups g → GroupStands task groups g → Contains left g
 
 -- the list is those of the first n groups that don't fail, in their order
-pub record AreLeft (task : TaskParts) (From : State → Type 0) (groups : List ℕ) (n : ℕ) (left : List ℕ) : Type 0 where
+pub record AreGroupsLeft (task : TaskParts) (From : State → Type 0) (groups : List ℕ) (n : ℕ) (left : List ℕ) : Type 0 where
   pub rising : IsStrictlyIncreasing left
   pub stand : (g : ℕ) → Contains left g → Contains groups g × StandsFrom task From g
   pub stay : (k d : ℕ) → k < n →

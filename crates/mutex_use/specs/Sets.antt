@@ -14,7 +14,7 @@ abbrev pub HasAll : {Set : Type 0} → View Set → Set → Type 0
 HasAll v a = (s : State) → Has v a s ↔ IsState v.task s
 
 -- r stands for the set a, which is given back, and has those of its states of which P holds
-pub record Narrows {Set : Type 0} (v w : View Set) (a : Set) (P : State → Type 0) (r : Set) : Type 0 where
+pub record NarrowsSet {Set : Type 0} (v w : View Set) (a : Set) (P : State → Type 0) (r : Set) : Type 0 where
   pub trades : Trades v w (λ x. x ≡ a) (λ x. x ≡ r)
   pub means : (s : State) → Has w r s ↔ (Has v a s × P s)
 
@@ -23,8 +23,8 @@ abbrev pub KeepsIn : {Set : Type 0} → View Set → Set → List Fact → State
 KeepsIn v a facts s = Has v a s × HasAtMostOne v.task facts s
 
 -- one of the operators leads from a state of the one set to one of the other
-abbrev pub Reaches : {Set : Type 0} → View Set → List ℕ → Set → Set → Type 0
-Reaches v operators from to = (op : ℕ) × Contains operators op × ((s : State) × Preimage v op to from s)
+abbrev pub LeadsBetween : {Set : Type 0} → View Set → List ℕ → Set → Set → Type 0
+LeadsBetween v operators from to = (op : ℕ) × Contains operators op × ((s : State) × Preimage v op to from s)
 
 -- the initial state is outside the set, and none of the operators leads from a state of the other set into it
 pub record IsSafe {Set : Type 0} (v : View Set) (operators : List ℕ) (a broken : Set) : Type 0 where

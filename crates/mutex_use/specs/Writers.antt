@@ -10,19 +10,19 @@ abbrev pub writers_at : List (List ℕ) → ℕ → List ℕ
 writers_at writers var = slice_index_or writers var []
 
 -- an effect of the operator is on the variable
-abbrev pub Writes : TaskParts → ℕ → ℕ → Type 0
-Writes task op var =
+abbrev pub WritesVariable : TaskParts → ℕ → ℕ → Type 0
+WritesVariable task op var =
     (operator : Operator) × (effect : Effect)
     × (slice_get task.operators op ≡ Some operator) × Contains operator.effects effect × (effect.var ≡ var)
 
 -- For each variable those of the first n operators that have an effect on it, and no number that is none of them.
 pub record AreWriters (task : TaskParts) (n : ℕ) (writers : List (List ℕ)) : Type 0 where
   pub each : length writers ≡ length task.variables
-  pub all : (op var : ℕ) → op < n → Writes task op var → Contains (writers_at writers var) op
+  pub all : (op var : ℕ) → op < n → WritesVariable task op var → Contains (writers_at writers var) op
   pub only : (op var : ℕ) → Contains (writers_at writers var) op → op < n
 
 -- the operator is noted for the variable of each effect, and nothing else is changed
-pub record Notes (old : List (List ℕ)) (op : ℕ) (effects : List Effect) (new : List (List ℕ)) : Type 0 where
+pub record NotesWriter (old : List (List ℕ)) (op : ℕ) (effects : List Effect) (new : List (List ℕ)) : Type 0 where
   pub each : length new ≡ length old
   pub kept : (var x : ℕ) → Contains (writers_at old var) x → Contains (writers_at new var) x
   pub noted : (effect : Effect) → Contains effects effect → Contains (writers_at new effect.var) op
@@ -38,7 +38,7 @@ IsNotedIn writers variables op = (var : ℕ) × Contains variables var × Contai
 
 -- an effect of the operator is on a variable of the facts
 abbrev pub Touches : TaskParts → ℕ → List Fact → Type 0
-Touches task op facts = (fact : Fact) × Contains facts fact × Writes task op fact.var
+Touches task op facts = (fact : Fact) × Contains facts fact × WritesVariable task op fact.var
 
 -- each operator that touches the facts is one of the list, and each of the list is an operator
 pub record HaveTouching (task : TaskParts) (facts : List Fact) (operators : List ℕ) : Type 0 where

@@ -2,7 +2,7 @@
 
 ghost use Rattle.std.specs.Prelude.{◌≡◌, ◌<◌, ◌↔◌, All, IsTrue, IsFalse, IfOk, length};
 ghost use Rattle.std.specs.List.{Any};
-ghost use Rattle.mutex_use.specs.Groups.{IsBaseGroup, group_at};
+ghost use Rattle.mutex_use.specs.Groups.{IsBaseGroup, mutex_group_at};
 ghost use Rattle.mutex_use.specs.Writers.{AreWriters};
 ghost use Rattle.mutex_use.specs.Balance.{fact_after, Adds, Takes, AddAtMost, AddsNone, AddsAsAll, IsBalanced, IsBalancedAt, HaveUnbalanced, HaveBreaking};
 
@@ -145,7 +145,7 @@ pub(crate) fn breaking_operators(
 ) -> Result<Vec<u32>, Memory>
     requires writers { AreWriters task.now (length task.now.operators) writers.now }
     requires group { IsBaseGroup task.now group }
-    ensures { IfOk result (λ operators. HaveBreaking task.now (group_at task.now group) operators.items) }
+    ensures { IfOk result (λ operators. HaveBreaking task.now (mutex_group_at task.now group) operators.items) }
 {
     let among = touching(alloc, task, writers, group)?;
     let operators = task.parts().operators.as_slice();

@@ -13,8 +13,8 @@ ghost use Rattle.symk_task.specs.Variables.{IsBase};
 ghost use Rattle.space_api.specs.View.{View, Valid, Has, FactIn, IsEmpty};
 ghost use Rattle.space_api.specs.Frames.{Kept, NoMore, Gives, Stays};
 ghost use Rattle.space_api.specs.Owned.{Trades};
-ghost use Rattle.mutex_use.specs.Groups.{AreBase};
-ghost use Rattle.mutex_use.specs.Counts.{IsEachOnce, BreaksIn, IsOf, IsNewPair, Counted, CountedAgain, CountsMore};
+ghost use Rattle.mutex_use.specs.Groups.{AreBaseFacts};
+ghost use Rattle.mutex_use.specs.Counts.{IsEachOnce, BreaksIn, IsOfCounts, IsNewPair, CountsFacts, CountedAgain, CountsMore};
 
 use space_api::{Space, SpaceFault};
 use std::alloc::Global;
@@ -135,10 +135,11 @@ fn count_fact<S: Space>(
     requires twice { Valid (S.view space.old) counts.twice }
     requires apart { counts.once ≢ counts.twice }
     requires fact { IsBase (S.view space.old).task fact.var }
-    ensures trades { IfOk result (λ next. Trades (S.view space.old) (S.view space.new) (IsOf counts) (IsOf next)) }
+    ensures trades { IfOk result (λ next. Trades (S.view space.old) (S.view space.new) (IsOfCounts counts)
+        (IsOfCounts next)) }
     ensures more { IfOk result (CountsMore (S.view space.old) (S.view space.new) counts
         (FactIn (S.view space.old) fact within)) }
-    ensures err { OnErr result (Trades (S.view space.old) (S.view space.new) (IsOf counts) (λ a. ⊥)) }
+    ensures err { OnErr result (Trades (S.view space.old) (S.view space.new) (IsOfCounts counts) (λ a. ⊥)) }
     ensures task { (S.view space.new).task ≡ (S.view space.old).task }
 {
     let next = counts_more(space, within, counts, fact);
@@ -154,9 +155,9 @@ fn count_facts<S: Space>(
     facts: &[Fact],
 ) -> Result<Counts<S::Set>, SpaceFault>
     requires within { Valid (S.view space.old) within }
-    requires base { AreBase (S.view space.old).task facts.now }
+    requires base { AreBaseFacts (S.view space.old).task facts.now }
     requires apart { AllPairs ◌≢◌ facts.now }
-    ensures ok { IfOk result (Counted (S.view space.old) (S.view space.new) within facts.now) }
+    ensures ok { IfOk result (CountsFacts (S.view space.old) (S.view space.new) within facts.now) }
     ensures err { OnErr result (Stays (S.view space.old) (S.view space.new)) }
     ensures task { (S.view space.new).task ≡ (S.view space.old).task }
 {
@@ -175,7 +176,7 @@ pub(crate) fn breaking<S: Space>(
     facts: &[Fact],
 ) -> Result<S::Set, SpaceFault>
     requires within { Valid (S.view space.old) within }
-    requires base { AreBase (S.view space.old).task facts.now }
+    requires base { AreBaseFacts (S.view space.old).task facts.now }
     ensures kept { Kept (S.view space.old) (S.view space.new) }
     ensures ok { IfOk result (Gives (S.view space.old) (S.view space.new)
         (BreaksIn (S.view space.old) within facts.now)) }

@@ -3,7 +3,7 @@
 ghost use Rattle.std.specs.Prelude.{◌≡◌, ◌<◌, ◌↔◌, ℕ, IsTrue, IfOk, IsSomeAnd, None, length, slice_get, Contains};
 ghost use Rattle.std.specs.List.Sorted.{IsStrictlyIncreasing};
 ghost use Rattle.symk_task.specs.Fits.{Fits};
-ghost use Rattle.mutex_use.specs.Groups.{group_at, AreBase, IsBaseGroup};
+ghost use Rattle.mutex_use.specs.Groups.{mutex_group_at, AreBaseFacts, IsBaseGroup};
 
 use std::alloc::Global;
 use symk_task::{Fact, Memory, Task, Variable};
@@ -11,7 +11,7 @@ use symk_task::{Fact, Memory, Task, Variable};
 /// The facts of the group of this number.
 pub(crate) fn facts_of(task: &Task, group: u32) -> &[Fact]
     requires { group < length task.now.mutexes }
-    ensures value { result.now ≡ group_at task.now group }
+    ensures value { result.now ≡ mutex_group_at task.now group }
     ensures fits { Fits task.now }
 {
     task.parts().mutexes.as_slice()[group as usize].as_slice()
@@ -29,7 +29,7 @@ fn is_base(variables: &[Variable], var: u32) -> bool
 
 /// Whether each fact is one of a base variable.
 fn are_base(task: &Task, facts: &[Fact]) -> bool
-    ensures { IsTrue result ↔ AreBase task.now facts.now }
+    ensures { IsTrue result ↔ AreBaseFacts task.now facts.now }
 {
     let variables = task.parts().variables.as_slice();
     facts.iter().all(|fact| is_base(variables, fact.var))

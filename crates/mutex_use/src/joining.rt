@@ -8,7 +8,7 @@ ghost use Rattle.run_graph.specs.Reached.{Useful};
 ghost use Rattle.space_api.specs.View.{View, Valid, Has, Meets};
 ghost use Rattle.space_api.specs.Frames.{Kept, NoMore, Gives};
 ghost use Rattle.space_api.specs.Owned.{Trades};
-ghost use Rattle.mutex_use.specs.Groups.{group_at, IsBaseGroup};
+ghost use Rattle.mutex_use.specs.Groups.{mutex_group_at, IsBaseGroup};
 ghost use Rattle.mutex_use.specs.Sets.{HasAll, KeepsHolding, MayGive, MayKeepOne, MayKeepMore, NarrowsHolding};
 ghost use Rattle.mutex_use.specs.Writers.{AreWriters};
 
@@ -177,7 +177,7 @@ fn of_several(alloc: Global, task: &Task, groups: &[u32]) -> Result<Vec<u32>, Me
 
 /// How many facts the group has; none where there is no such group.
 fn size_of(task: &Task, group: u32) -> usize
-    ensures { result ≡ length (group_at task.now group) }
+    ensures { result ≡ length (mutex_group_at task.now group) }
 {
     match task.parts().mutexes.as_slice().get(group as usize) {
         Some(facts) => facts.len(),

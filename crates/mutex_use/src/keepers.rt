@@ -5,8 +5,8 @@ ghost use Rattle.task_system.specs.System.{State};
 ghost use Rattle.space_api.specs.View.{View, Valid, Has};
 ghost use Rattle.space_api.specs.Frames.{Kept, NoMore, Gives, Stays};
 ghost use Rattle.space_api.specs.Owned.{Trades};
-ghost use Rattle.mutex_use.specs.Groups.{AreBase, HasAtMostOne, IsBaseGroup, IsKeeper};
-ghost use Rattle.mutex_use.specs.Sets.{HasAll, KeepsIn, Narrows};
+ghost use Rattle.mutex_use.specs.Groups.{AreBaseFacts, HasAtMostOne, IsBaseGroup, IsKeeper};
+ghost use Rattle.mutex_use.specs.Sets.{HasAll, KeepsIn, NarrowsSet};
 
 use crate::counts::breaking;
 use crate::groups::facts_of;
@@ -25,7 +25,7 @@ pub(crate) fn kept_more<S: Space>(
     requires all { Valid (S.view space.old) all }
     requires valid { Valid (S.view space.old) kept }
     requires inside { (s : State) → Has (S.view space.old) kept s → Has (S.view space.old) all s }
-    requires base { AreBase (S.view space.old).task facts.now }
+    requires base { AreBaseFacts (S.view space.old).task facts.now }
     ensures kept { Kept (S.view space.old) (S.view space.new) }
     ensures ok { IfOk result (Gives (S.view space.old) (S.view space.new)
         (KeepsIn (S.view space.old) kept facts.now)) }
@@ -67,8 +67,8 @@ fn keep_one<S: Space>(
     requires all { Valid (S.view space.old) all }
     requires valid { Valid (S.view space.old) kept }
     requires inside { (s : State) → Has (S.view space.old) kept s → Has (S.view space.old) all s }
-    requires base { AreBase (S.view space.old).task facts.now }
-    ensures ok { IfOk result (Narrows (S.view space.old) (S.view space.new) kept
+    requires base { AreBaseFacts (S.view space.old).task facts.now }
+    ensures ok { IfOk result (NarrowsSet (S.view space.old) (S.view space.new) kept
         (HasAtMostOne (S.view space.old).task facts.now)) }
     ensures err { OnErr result (Trades (S.view space.old) (S.view space.new) (λ a. a ≡ kept) (λ a. ⊥)) }
     ensures task { (S.view space.new).task ≡ (S.view space.old).task }

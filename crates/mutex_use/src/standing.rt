@@ -6,9 +6,9 @@ ghost use Rattle.symk_task.specs.Variables.{IsState};
 ghost use Rattle.task_system.specs.System.{State};
 ghost use Rattle.space_api.specs.View.{View, Valid, Has, Preimage};
 ghost use Rattle.space_api.specs.Frames.{Stays};
-ghost use Rattle.mutex_use.specs.Groups.{IsBaseGroup, IsGreatest, IsKeeper, IsPartOf, Keeps};
-ghost use Rattle.mutex_use.specs.Rounds.{StandsFrom, IsRound, AreLeft};
-ghost use Rattle.mutex_use.specs.Sets.{HasAll, IsSafe, Reaches};
+ghost use Rattle.mutex_use.specs.Groups.{IsBaseGroup, AreGreatestGroups, IsKeeper, IsPartOf, KeepsGroup};
+ghost use Rattle.mutex_use.specs.Rounds.{StandsFrom, IsRound, AreGroupsLeft};
+ghost use Rattle.mutex_use.specs.Sets.{HasAll, IsSafe, LeadsBetween};
 ghost use Rattle.mutex_use.specs.Writers.{AreWriters};
 
 use crate::balance::breaking_operators;
@@ -46,7 +46,7 @@ fn any_leads<S: Space>(
     requires to { Valid (S.view space.old) to }
     requires operators { All (λ op. op < (S.view space.old).system.operators) operators.now }
     ensures stays { Stays (S.view space.old) (S.view space.new) }
-    ensures ok { IfOk result (λ r. IsTrue r ↔ Reaches (S.view space.old) operators.now from to) }
+    ensures ok { IfOk result (λ r. IsTrue r ↔ LeadsBetween (S.view space.old) operators.now from to) }
     ensures task { (S.view space.new).task ≡ (S.view space.old).task }
 {
     'operators: for i in 0..operators.len() {
@@ -98,7 +98,7 @@ pub(crate) fn stands<S: Space>(
     requires all { HasAll (S.view space.old) all }
     requires kept { Valid (S.view space.old) kept }
     requires group { IsBaseGroup task.now group }
-    requires keeps { (s : State) → Has (S.view space.old) kept s → IsState task.now s × Keeps task.now s group }
+    requires keeps { (s : State) → Has (S.view space.old) kept s → IsState task.now s × KeepsGroup task.now s group }
     ensures stays { Stays (S.view space.old) (S.view space.new) }
     ensures ok { IfOk result (λ r. IsTrue r ↔ StandsFrom task.now (Has (S.view space.old) kept) group) }
     ensures task { (S.view space.new).task ≡ (S.view space.old).task }
@@ -130,7 +130,7 @@ fn standing<S: Space>(
     requires keeps { (s : State) → Has (S.view space.old) kept s → IsKeeper task.now groups.now s }
     ensures stays { Stays (S.view space.old) (S.view space.new) }
     ensures ok { IfOk result (λ left.
-        AreLeft task.now (Has (S.view space.old) kept) groups.now (length groups.now) left.items) }
+        AreGroupsLeft task.now (Has (S.view space.old) kept) groups.now (length groups.now) left.items) }
     ensures task { (S.view space.new).task ≡ (S.view space.old).task }
 {
     let mut left = Vec::new(alloc);
@@ -183,7 +183,7 @@ fn greatest<S: Space>(
     requires valid { Valid (S.view space.old) all }
     requires all { HasAll (S.view space.old) all }
     ensures stays { Stays (S.view space.old) (S.view space.new) }
-    ensures greatest { IfOk result (λ groups. IsGreatest task.now groups.items) }
+    ensures greatest { IfOk result (λ groups. AreGreatestGroups task.now groups.items) }
     ensures rising { IfOk result (λ groups. IsStrictlyIncreasing groups.items) }
     ensures task { (S.view space.new).task ≡ (S.view space.old).task }
 {
@@ -213,7 +213,7 @@ pub fn inductive_groups<S: Space>(
 ) -> Result<Vec<u32>, SpaceFault>
     requires { (S.view space.old).task ≡ task.now }
     ensures stays { Stays (S.view space.old) (S.view space.new) }
-    ensures greatest { IfOk result (λ groups. IsGreatest task.now groups.items) }
+    ensures greatest { IfOk result (λ groups. AreGreatestGroups task.now groups.items) }
     ensures rising { IfOk result (λ groups. IsStrictlyIncreasing groups.items) }
     ensures task { (S.view space.new).task ≡ (S.view space.old).task }
 {

@@ -3,8 +3,8 @@
 ghost use Rattle.std.specs.Prelude.{◌≡◌, ◌<◌, ◌⊎◌, ◌↔◌, ◌++◌, ◌∷◌, [], ℕ, IsTrue, IfOk, OnOk, All, Contains, length, replicate, slice_set};
 ghost use Rattle.std.specs.Ordering.{nat_cmp};
 ghost use Rattle.std.specs.BTreeSet.{contains};
-ghost use Rattle.mutex_use.specs.Groups.{group_at};
-ghost use Rattle.mutex_use.specs.Writers.{writers_at, AreWriters, Notes, IsVariableOf, IsNotedIn, HaveTouching};
+ghost use Rattle.mutex_use.specs.Groups.{mutex_group_at};
+ghost use Rattle.mutex_use.specs.Writers.{writers_at, AreWriters, NotesWriter, IsVariableOf, IsNotedIn, HaveTouching};
 
 use crate::groups::facts_of;
 use std::alloc::Global;
@@ -33,7 +33,7 @@ fn note(writers: &mut [List<u32>], op: u32, var: u32) -> Result<(), Memory>
 /// Notes the operator for the variable of each effect.
 fn note_effects(writers: &mut [List<u32>], op: u32, effects: &[Effect]) -> Result<(), Memory>
     requires { All (λ effect. effect.var < length writers.old) effects.now }
-    ensures { OnOk result (Notes writers.old op effects.now writers.new) }
+    ensures { OnOk result (NotesWriter writers.old op effects.now writers.new) }
 {
     'effects: for i in 0..effects.len() {
         note(writers, op, effects[i].var)?;
@@ -119,7 +119,7 @@ pub(crate) fn touching(
 ) -> Result<Vec<u32>, Memory>
     requires writers { AreWriters task.now (length task.now.operators) writers.now }
     requires group { group < length task.now.mutexes }
-    ensures { IfOk result (λ operators. HaveTouching task.now (group_at task.now group) operators.items) }
+    ensures { IfOk result (λ operators. HaveTouching task.now (mutex_group_at task.now group) operators.items) }
 {
     let variables = variables_of(alloc, facts_of(task, group))?;
     let operators = writers_in(alloc, writers, &variables)?;

@@ -12,20 +12,20 @@ use Rattle.std.specs.Str.{bytes_eq}
 use Rattle.std.specs.List.{All}
 use Rattle.line_grammar.proofs.Exact as grammar
 use Rattle.line_grammar.proofs.Joining.{Always}
-use Rattle.line_fields.specs.Fields.{after, number_then, is_numbered}
-use Rattle.line_fields.proofs.Fronts.{NoDigit, after_is, after_again, number_follows, follows_number}
-use Rattle.line_fields.proofs.Alone.{numbered_is, numbered_again}
-use Rattle.line_fields.proofs.Decimals.{decimal_number}
-use Rattle.plan_out.specs.Plans.{AreSpaced, cost_word, Row, plan, ops, step, cost, IsSpelled}
+use Rattle.line_grammar.specs.Fields.{after, number_then, is_numbered}
+use Rattle.line_grammar.proofs.Fronts.{NoDigit, after_is, after_again, number_follows, follows_number}
+use Rattle.line_grammar.proofs.Alone.{numbered_is, numbered_again}
+use Rattle.line_grammar.proofs.Decimals.{decimal_number}
+use Rattle.plan_out.specs.Plans.{AreSpaced, cost_word, PlanRow, plan, ops, step, cost, IsPlanRowSpelled}
 use Rattle.plan_out.specs.Reading.{operator_then, spaced_in, plan_in, ops_in, step_in, with_word, cost_in}
 use Rattle.plan_out.proofs.OneOperator.{operator_is, operator_again}
 use Rattle.plan_out.proofs.Spaced.{operator_shorter}
 
-abbrev pub shape_of : Row → Unit {0}
+abbrev pub shape_of : PlanRow → Unit {0}
 shape_of _ = tt
 
-abbrev pub RowIs : {X : Type 0} → (List ℕ → Option X) → (X → Row) → (X → Type 0) → Type 0
-RowIs test row F = grammar.RowIs shape_of IsSpelled tt test row F
+abbrev pub RowIs : {X : Type 0} → (List ℕ → Option X) → (X → PlanRow) → (X → Type 0) → Type 0
+RowIs test row F = grammar.RowIs shape_of IsPlanRowSpelled tt test row F
 
 -- The line that begins a block.
 
@@ -117,7 +117,7 @@ ops_is = record {
   where
     by_after : (l p : List ℕ) (o : Option (List ℕ)) → after (codes "; ops") l ≡ o
         → option_and_then (λ (spaced : List ℕ). spaced_in (length spaced) spaced) o ≡ Some p
-        → All IsSmall p × IsSpelled (ops p) l
+        → All IsSmall p × IsPlanRowSpelled (ops p) l
     by_after l p None t e = cc
     by_after l p (Some spaced) t e = (let h = spaced_is (length spaced) spaced p e in (h.0, (spaced, h.1, after_is (codes "; ops") l spaced t)))
 
@@ -180,16 +180,16 @@ step_is = record {
 
 -- The cost.
 
-cost_read : (l : List ℕ) (x : ℕ × Bool) → cost_in l ≡ Some x → IsSpelled (cost x.0 x.1) l
+cost_read : (l : List ℕ) (x : ℕ × Bool) → cost_in l ≡ Some x → IsPlanRowSpelled (cost x.0 x.1) l
 cost_read l x e = by_number (number_then (codes "; cost = ") l) refl e
   where
     by_word : (c : ℕ) (word : List ℕ) → number_then (codes "; cost = ") l ≡ Some (c, word) → (t u : Bool)
         → bytes_eq word (codes " (unit cost)") ≡ t → bytes_eq word (codes " (general cost)") ≡ u
-        → cond t (Some (c, true)) (cond u (Some (c, false)) None) ≡ Some x → IsSpelled (cost x.0 x.1) l
+        → cond t (Some (c, true)) (cond u (Some (c, false)) None) ≡ Some x → IsPlanRowSpelled (cost x.0 x.1) l
     by_word c word n true u t1 t2 e =
         let same : (c, true) ≡ x = cc in
         let f = number_follows (codes "; cost = ") l c word n in
-        subst (λ (z : ℕ × Bool). IsSpelled (cost z.0 z.1) l) same (
+        subst (λ (z : ℕ × Bool). IsPlanRowSpelled (cost z.0 z.1) l) same (
           f.digits,
           f.number,
           f.whole ∙ ap (λ (z : List ℕ). codes "; cost = " ++ f.digits ++ z)
@@ -198,7 +198,7 @@ cost_read l x e = by_number (number_then (codes "; cost = ") l) refl e
     by_word c word n false true t1 t2 e =
         let same : (c, false) ≡ x = cc in
         let f = number_follows (codes "; cost = ") l c word n in
-        subst (λ (z : ℕ × Bool). IsSpelled (cost z.0 z.1) l) same (
+        subst (λ (z : ℕ × Bool). IsPlanRowSpelled (cost z.0 z.1) l) same (
           f.digits,
           f.number,
           f.whole ∙ ap (λ (z : List ℕ). codes "; cost = " ++ f.digits ++ z)
@@ -206,11 +206,11 @@ cost_read l x e = by_number (number_then (codes "; cost = ") l) refl e
         )
     by_word c word n false false t1 t2 e = cc
 
-    by_number : (o : Option (ℕ × List ℕ)) → number_then (codes "; cost = ") l ≡ o → option_and_then with_word o ≡ Some x → IsSpelled (cost x.0 x.1) l
+    by_number : (o : Option (ℕ × List ℕ)) → number_then (codes "; cost = ") l ≡ o → option_and_then with_word o ≡ Some x → IsPlanRowSpelled (cost x.0 x.1) l
     by_number None t e = cc
     by_number (Some (c, word)) t e = by_word c word t (bytes_eq word (codes " (unit cost)")) (bytes_eq word (codes " (general cost)")) refl refl e
 
-cost_again : (l : List ℕ) (c : ℕ) (unit : Bool) → IsSpelled (cost c unit) l → cost_in l ≡ Some (c, unit)
+cost_again : (l : List ℕ) (c : ℕ) (unit : Bool) → IsPlanRowSpelled (cost c unit) l → cost_in l ≡ Some (c, unit)
 cost_again l c unit (digits, is, whole) =
     ap cost_in whole ∙ ap (λ (o : Option (ℕ × List ℕ)). option_and_then with_word o)
     (follows_number (codes "; cost = ") digits c (cost_word unit) is (no_digit_first unit)) ∙ by_unit unit
@@ -229,6 +229,6 @@ cost_is = record {
   reads = λ l x e. (tt, cost_read l x e);
   again = λ l x f h. cost_again l x.0 x.1 h;
   sample = (
-      let spelled : IsSpelled (cost 0 true) (codes "; cost = " ++ decimal 0 ++ cost_word true) = (decimal 0, decimal_number 0 (omega arith), refl) in
+      let spelled : IsPlanRowSpelled (cost 0 true) (codes "; cost = " ++ decimal 0 ++ cost_word true) = (decimal 0, decimal_number 0 (omega arith), refl) in
       (codes "; cost = " ++ decimal 0 ++ cost_word true, (0, true), cost_again (codes "; cost = " ++ decimal 0 ++ cost_word true) 0 true spelled));
 }

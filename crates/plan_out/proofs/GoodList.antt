@@ -21,7 +21,7 @@ use Rattle.plan_out.specs.declared.check.Why.{Why}
 use Rattle.plan_out.specs.declared.check.Why.TheVariants.{NoSuchOperator, WrongName, StopsAt, MissesGoal, WrongCost, Repeats, Cheaper, Loops}
 use Rattle.plan_out.specs.declared.check.Checked.TheVariants.{Good}
 use Rattle.plan_out.specs.Texts.{is_unit}
-use Rattle.plan_out.specs.Fails.{name_of, IsNamed, AreNamed, IsMisnamed, IsCostLine, IsFirstSame, Recurs, IsFirstReturn, IsFirstReason, Says, Finds}
+use Rattle.plan_out.specs.Fails.{name_of, IsStepNamed, AreNamed, IsMisnamed, IsCostLine, IsFirstSame, Recurs, IsFirstReturn, IsFirstReason, Says, Finds}
 use Rattle.plan_out.specs.Checks.{AreFresh, WalksBack, Passes}
 use Rattle.plan_out.specs.Lists.{plans_of, IsGoodList}
 use Rattle.plan_out.proofs.Reasons.{IsClear, next, below_all}
@@ -85,9 +85,9 @@ module _ (task : TaskParts) (mode : Mode) (before : List ReadBlock) (b : ReadBlo
       ]
 
   names : AreNamed task b
-  names = each_place (IsNamed task.operators b.ops b.names) (length b.ops) at
+  names = each_place (IsStepNamed task.operators b.ops b.names) (length b.ops) at
     where
-      at : (i : ℕ) → i < length b.ops → ((k : ℕ) → k < i → IsNamed task.operators b.ops b.names k) → IsNamed task.operators b.ops b.names i
+      at : (i : ℕ) → i < length b.ops → ((k : ℕ) → k < i → IsStepNamed task.operators b.ops b.names k) → IsStepNamed task.operators b.ops b.names i
       at i lt named = elim (same_list (get_or b.names i []) (name_of task.operators (get_or b.ops i 0))) [
         | inl h ↦ h
         | inr h ↦ absurd (none (WrongName (i + 1)) (

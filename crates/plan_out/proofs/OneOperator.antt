@@ -3,9 +3,9 @@ use Rattle.std.proofs.Common.{◌≡◌, ℕ, ◌^◌, ◌<◌, ◌≤◌, true,
 use Rattle.std.proofs.lemmas.Bool.Decides.{nat_tests}
 use Rattle.std.proofs.lemmas.Option.{cond_some}
 use Rattle.std.specs.Option.{option_and_then}
-use Rattle.line_fields.specs.Numbers.{IsNumber}
-use Rattle.line_fields.specs.Fields.{number_then}
-use Rattle.line_fields.proofs.Fronts.{NoDigit, Follows, number_follows, follows_number}
+use Rattle.line_grammar.specs.Numbers.{IsNumber}
+use Rattle.line_grammar.specs.Fields.{number_then}
+use Rattle.line_grammar.proofs.Fronts.{NoDigit, Follows, number_follows, follows_number}
 use Rattle.plan_out.specs.Reading.{if_operator, operator_then}
 
 pub operator_found : (bytes : List ℕ) (n : ℕ) (rest : List ℕ) → Some (n, rest) ≡ number_then (codes " ") bytes

@@ -10,13 +10,13 @@ use Rattle.line_grammar.specs.declared.Offence.{Offence}
 use Rattle.line_grammar.specs.Rows.{Lines, Spells, IsFront, Offends}
 use Rattle.line_grammar.specs.declared.Stopped.{Stopped}
 use Rattle.line_grammar.specs.declared.Stopped.TheVariants as stopped
-use Rattle.line_grammar.specs.Reading.{Fails}
+use Rattle.line_grammar.specs.Reading.{FailsReading}
 use Rattle.line_grammar.proofs.Exact as grammar
-use Rattle.line_fields.specs.Fields.{is_numbered}
-use Rattle.line_fields.proofs.Alone.{numbered_is, numbered_again}
+use Rattle.line_grammar.specs.Fields.{is_numbered}
+use Rattle.line_grammar.proofs.Alone.{numbered_is, numbered_again}
 use Rattle.plan_out.specs.declared.blocks.ReadBlock.{ReadBlock}
-use Rattle.plan_out.specs.Plans.{Row, plan, IsSpelled, block_rows, rows_from, IsBlock, IsEndLine, IsEnding, IsPlansOf}
-use Rattle.plan_out.specs.Reading.{says_enough, says_all, is_end, begins_with_end, block_at, IsAfterEnd, Refuses}
+use Rattle.plan_out.specs.Plans.{PlanRow, plan, IsPlanRowSpelled, block_rows, rows_from, IsBlock, IsEndLine, IsEnding, IsPlansOf}
+use Rattle.plan_out.specs.Reading.{says_enough, says_all, is_end, begins_with_end, read_block_at, IsAfterEnd, Refuses}
 use Rattle.plan_out.proofs.BlockRows.{shape_of}
 use Rattle.plan_out.proofs.OneBlock.{exact_block}
 
@@ -73,7 +73,7 @@ third_apart : (a b : ℕ) → a ≡ b → a ≢ b → ⊥
 third_apart a b e ne = ne e
 
 -- no end line begins a block
-no_block_there : (n i : ℕ) (line : List ℕ) → IsEndLine n line → IsSpelled (plan i) line → ⊥
+no_block_there : (n i : ℕ) (line : List ℕ) → IsEndLine n line → IsPlanRowSpelled (plan i) line → ⊥
 no_block_there n i line (inl h) k = third_apart 114 112 (ap (λ (z : List ℕ). get_or z 2 0) (sym h.2 ∙ k.2)) (omega arith)
 no_block_there n i line (inr (inl h)) k = third_apart 101 112 (ap (λ (z : List ℕ). get_or z 2 0) (sym h.2 ∙ k.2)) (omega arith)
 no_block_there n i line (inr (inr (inl h))) k = third_apart 109 112 (ap (λ (z : List ℕ). get_or z 2 0) (sym h.2 ∙ k.2)) (omega arith)
@@ -87,7 +87,7 @@ record From (n : ℕ) (lines : Lines) (blocks : List ReadBlock) : Type 0 where
   main : Lines
   ending : Lines
   whole : lines ≡ main ++ ending
-  spelled : Spells IsSpelled (rows_from (n + 1) blocks) main
+  spelled : Spells IsPlanRowSpelled (rows_from (n + 1) blocks) main
   ends : IsEnding (n + length blocks) ending
   each : All IsBlock blocks
 
@@ -108,34 +108,35 @@ nothing_more n lines h = (let same : lines ≡ h.ending = h.whole
     ∙ ap (λ (z : Lines). z ++ h.ending) (none h.main h.spelled) in subst (IsEnding n) (sym same)
     (let k : n + 0 ≡ n = omega arith in subst (λ (z : ℕ). IsEnding z h.ending) k h.ends))
   where
-    none : (main : Lines) → Spells IsSpelled [] main → main ≡ []
+    none : (main : Lines) → Spells IsPlanRowSpelled [] main → main ≡ []
     none [] s = refl
     none (l ∷ main) s = absurd s
 
-number_small : (i : ℕ) (b : ReadBlock) (rows : List Row) (f : Lines) → Spells IsSpelled (block_rows i b ++ rows) f → i < 2 ^ 64
+number_small : (i : ℕ) (b : ReadBlock) (rows : List PlanRow) (f : Lines) → Spells IsPlanRowSpelled (block_rows i b ++ rows) f → i < 2 ^ 64
 number_small i b rows [] h = absurd h
 number_small i b rows (l ∷ f) h = h.0.1.small
 
 -- what a block is read from, and leaves
-again : (i : ℕ) (b : ReadBlock) (f rest : Lines) → i < 2 ^ 64 → IsBlock b → Spells IsSpelled (block_rows i b) f → block_at i (f ++ rest) ≡ Ok (b, rest)
+again : (i : ℕ) (b : ReadBlock) (f rest : Lines) → i < 2 ^ 64 → IsBlock b → Spells IsPlanRowSpelled (block_rows i b) f
+    → read_block_at i (f ++ rest) ≡ Ok (b, rest)
 again i b f rest small is h = (exact_block i small).again b f rest is h
 
 -- the first block of a text, read from its front
 record First (n : ℕ) (lines : Lines) (b : ReadBlock) (blocks : List ReadBlock) : Type 0 where
   left : Lines
-  read : block_at (n + 1) lines ≡ Ok (b, left)
+  read : read_block_at (n + 1) lines ≡ Ok (b, left)
   others : From (n + 1) left blocks
 
 first_of : (n : ℕ) (lines : Lines) (b : ReadBlock) (blocks : List ReadBlock) → From n lines (b ∷ blocks) → First n lines b blocks
 first_of n lines b blocks h =
     let small = number_small (n + 1) b (rows_from (n + 1 + 1) blocks) h.main h.spelled in
-    let parts = grammar.spells_split shape_of IsSpelled (block_rows (n + 1) b) (rows_from (n + 1 + 1) blocks) h.main h.spelled in
+    let parts = grammar.spells_split shape_of IsPlanRowSpelled (block_rows (n + 1) b) (rows_from (n + 1 + 1) blocks) h.main h.spelled in
     let there : lines ≡ parts.one ++ (parts.two ++ h.ending) = h.whole ∙ ap (λ (z : Lines). z ++ h.ending) parts.whole
     ∙ append_assoc parts.one parts.two h.ending in
     let count : n + length (b ∷ blocks) ≡ (n + 1) + length blocks = omega arith in
     record {
       left = parts.two ++ h.ending;
-      read = ap (block_at (n + 1)) there ∙ again (n + 1) b parts.one (parts.two ++ h.ending) small (All-head IsBlock b blocks h.each) parts.first;
+      read = ap (read_block_at (n + 1)) there ∙ again (n + 1) b parts.one (parts.two ++ h.ending) small (All-head IsBlock b blocks h.each) parts.first;
       others = record {
         main = parts.two;
         ending = h.ending;
@@ -148,7 +149,7 @@ first_of n lines b blocks h =
     }
 
 -- lines that begin with a block are no ending
-no_ending : (n i : ℕ) (b : ReadBlock) (f rest : Lines) → Spells IsSpelled (block_rows i b) f → IsEnding n (f ++ rest) → ⊥
+no_ending : (n i : ℕ) (b : ReadBlock) (f rest : Lines) → Spells IsPlanRowSpelled (block_rows i b) f → IsEnding n (f ++ rest) → ⊥
 no_ending n i b [] rest h k = absurd h
 no_ending n i b (l ∷ []) rest h k = absurd h.1
 no_ending n i b (l ∷ m ∷ f) rest h k = k
@@ -161,19 +162,20 @@ record Known (n : ℕ) (list : List ReadBlock) (rest : Lines) (blocks : List Rea
 
 -- a block that comes first is the first of the blocks
 first_known : (n : ℕ) (b : ReadBlock) (f rest : Lines) (blocks : List ReadBlock) → IsBlock b
-    → Spells IsSpelled (block_rows (n + 1) b) f → From n (f ++ rest) blocks → Known (n + 1) (b ∷ []) rest blocks
+    → Spells IsPlanRowSpelled (block_rows (n + 1) b) f → From n (f ++ rest) blocks → Known (n + 1) (b ∷ []) rest blocks
 first_known n b f rest [] is h text = absurd (no_ending n (n + 1) b f rest h (nothing_more n (f ++ rest) text))
 first_known n b f rest (c ∷ blocks) is h text =
     let first = first_of n (f ++ rest) c blocks text in
-    let small = number_small (n + 1) b [] f (subst (λ (rows : List Row). Spells IsSpelled rows f) (sym (append-nil (block_rows (n + 1) b))) h) in
-    let same = grammar.ok_both shape_of IsSpelled (block_at (n + 1) (f ++ rest)) (c, first.left) (b, rest) first.read (again (n + 1) b f rest small is h) in
+    let small = number_small (n + 1) b [] f (subst (λ (rows : List PlanRow). Spells IsPlanRowSpelled rows f) (sym (append-nil (block_rows (n + 1) b))) h) in
+    let same = grammar.ok_both shape_of IsPlanRowSpelled (read_block_at (n + 1) (f ++ rest)) (c, first.left)
+    (b, rest) first.read (again (n + 1) b f rest small is h) in
     record { others = blocks; same = ap (λ (z : ReadBlock). z ∷ blocks) same.0; left = subst (λ (z : Lines). From (n + 1) z blocks) same.1 first.others }
 
 behind : (b : ReadBlock) (blocks rest list others : List ReadBlock) → blocks ≡ b ∷ rest → rest ≡ list ++ others → blocks ≡ b ∷ list ++ others
 behind b blocks rest list others e f = cc
 
 all_known : (n m : ℕ) (list : List ReadBlock) (front rest : Lines) (blocks : List ReadBlock) → m ≡ n + length list
-    → All IsBlock list → Spells IsSpelled (rows_from (n + 1) list) front → From n (front ++ rest) blocks
+    → All IsBlock list → Spells IsPlanRowSpelled (rows_from (n + 1) list) front → From n (front ++ rest) blocks
     → Known m list rest blocks
 all_known n m [] [] rest blocks count each h text = record {
   others = blocks;
@@ -183,7 +185,7 @@ all_known n m [] [] rest blocks count each h text = record {
 }
 all_known n m [] (l ∷ front) rest blocks count each h text = absurd h
 all_known n m (b ∷ list) front rest blocks count each h text =
-    let parts = grammar.spells_split shape_of IsSpelled (block_rows (n + 1) b) (rows_from (n + 1 + 1) list) front h in
+    let parts = grammar.spells_split shape_of IsPlanRowSpelled (block_rows (n + 1) b) (rows_from (n + 1 + 1) list) front h in
     let there : front ++ rest ≡ parts.one ++ (parts.two ++ rest) = ap (λ (z : Lines). z ++ rest) parts.whole ∙ append_assoc parts.one parts.two rest in
     let one = first_known n b parts.one (parts.two ++ rest) blocks (All-head IsBlock b list each) parts.first
     (subst (λ (z : Lines). From n z blocks) there text) in
@@ -195,32 +197,32 @@ all_known n m (b ∷ list) front rest blocks count each h text =
 pub record Begun (lines : Lines) (list : List ReadBlock) (rest : Lines) : Type 0 where
   pub front : Lines
   pub whole : lines ≡ front ++ rest
-  pub spelled : Spells IsSpelled (rows_from 1 list) front
+  pub spelled : Spells IsPlanRowSpelled (rows_from 1 list) front
   pub each : All IsBlock list
 
 -- in a text that begins so, what is left goes on after these blocks
 known : (list : List ReadBlock) (front rest : Lines) (blocks : List ReadBlock) → All IsBlock list
-    → Spells IsSpelled (rows_from 1 list) front → IsPlansOf (front ++ rest) blocks
+    → Spells IsPlanRowSpelled (rows_from 1 list) front → IsPlansOf (front ++ rest) blocks
     → Known (length list) list rest blocks
 known list front rest blocks each h text = all_known 0 (length list) list front rest blocks
     (sym (zero-add (length list))) each h (whole_from (front ++ rest) blocks text)
 
 rows_push : (i m : ℕ) (list : List ReadBlock) (b : ReadBlock) → m ≡ i + length list → rows_from i (list ++ b ∷ []) ≡ rows_from i list ++ block_rows m b
 rows_push i m [] b count = (let k : i ≡ m = omega arith in append-nil (block_rows i b) ∙ ap (λ (z : ℕ). block_rows z b) k)
-rows_push i m (c ∷ list) b count = ap (λ (rows : List Row). block_rows i c ++ rows)
+rows_push i m (c ∷ list) b count = ap (λ (rows : List PlanRow). block_rows i c ++ rows)
     (rows_push (i + 1) m list b (omega arith)) ∙ sym (append_assoc (block_rows i c) (rows_from (i + 1) list)
     (block_rows m b))
 
 -- one block more is spelled
 spelled_more : (list : List ReadBlock) (b : ReadBlock) (front more : Lines)
-    → Spells IsSpelled (rows_from 1 list) front → Spells IsSpelled (block_rows (length list + 1) b) more
-    → Spells IsSpelled (rows_from 1 (list ++ b ∷ [])) (front ++ more)
+    → Spells IsPlanRowSpelled (rows_from 1 list) front → Spells IsPlanRowSpelled (block_rows (length list + 1) b) more
+    → Spells IsPlanRowSpelled (rows_from 1 (list ++ b ∷ [])) (front ++ more)
 spelled_more list b front more h k =
-    subst (λ (rows : List Row). Spells IsSpelled rows (front ++ more)) (sym (rows_push 1 (length list + 1) list b (omega arith)))
-    (grammar.spells_append shape_of IsSpelled (rows_from 1 list) (block_rows (length list + 1) b) front more h k)
+    subst (λ (rows : List PlanRow). Spells IsPlanRowSpelled rows (front ++ more)) (sym (rows_push 1 (length list + 1) list b (omega arith)))
+    (grammar.spells_append shape_of IsPlanRowSpelled (rows_from 1 list) (block_rows (length list + 1) b) front more h k)
 
 pub begun_more : (lines : Lines) (list : List ReadBlock) (rest : Lines) (b : ReadBlock) (after : Lines)
-    → length list + 1 < 2 ^ 64 → block_at (length list + 1) rest ≡ Ok (b, after) → Begun lines list rest
+    → length list + 1 < 2 ^ 64 → read_block_at (length list + 1) rest ≡ Ok (b, after) → Begun lines list rest
     → Begun lines (list ++ b ∷ []) after
 begun_more lines list rest b after small e so_far =
     let t = (exact_block (length list + 1) small).takes rest b after e in
@@ -232,19 +234,19 @@ begun_more lines list rest b after small e so_far =
     }
 
 -- a block takes a line at least
-pub block_shorter : (i : ℕ) (rest : Lines) (b : ReadBlock) (after : Lines) → i < 2 ^ 64 → block_at i rest ≡ Ok (b, after) → length after < length rest
+pub block_shorter : (i : ℕ) (rest : Lines) (b : ReadBlock) (after : Lines) → i < 2 ^ 64 → read_block_at i rest ≡ Ok (b, after) → length after < length rest
 block_shorter i rest b after small e =
     let t = (exact_block i small).takes rest b after e in
     let some : 1 ≤ length t.front = spelled_some t.front t.spelled in
     omega (arith, ap (λ (z : Lines). length z) t.whole, length-append t.front after)
   where
-    spelled_some : (front : Lines) → Spells IsSpelled (block_rows i b) front → 1 ≤ length front
+    spelled_some : (front : Lines) → Spells IsPlanRowSpelled (block_rows i b) front → 1 ≤ length front
     spelled_some [] h = absurd h
     spelled_some (l ∷ front) h = omega arith
 
 -- the front with its end line is a whole text
 with_end : (list : List ReadBlock) (front : Lines) (line : List ℕ) → All IsBlock list
-    → Spells IsSpelled (rows_from 1 list) front → IsEndLine (length list) line → IsPlansOf (front ++ line ∷ []) list
+    → Spells IsPlanRowSpelled (rows_from 1 list) front → IsEndLine (length list) line → IsPlansOf (front ++ line ∷ []) list
 with_end list front line each h is = record { main = front; ending = line ∷ []; whole = refl; spelled = h; ends = is; each = each }
 
 pub end_read : (lines : Lines) (list : List ReadBlock) (rest : Lines) → begins_with_end (length list) rest ≡ true
@@ -296,7 +298,7 @@ offends lines left st =
 
 -- after n blocks neither an end line nor a block is read from these lines
 no_text : (n : ℕ) (lines : Lines) (o : Offence (Unit {0})) → ((line : List ℕ) → lines ≡ line ∷ [] → IsEndLine n line
-    → ⊥) → 1 ≤ length lines → block_at (n + 1) lines ≡ Err o → (blocks : List ReadBlock) → From n lines blocks → ⊥
+    → ⊥) → 1 ≤ length lines → read_block_at (n + 1) lines ≡ Err o → (blocks : List ReadBlock) → From n lines blocks → ⊥
 no_text n lines o no_end some e [] text = at lines some (nothing_more n lines text) (λ line same. no_end line same)
   where
     at : (lines : Lines) → 1 ≤ length lines → IsEnding n lines → ((line : List ℕ) → lines ≡ line ∷ [] → IsEndLine n line → ⊥) → ⊥
@@ -304,7 +306,7 @@ no_text n lines o no_end some e [] text = at lines some (nothing_more n lines te
     at (line ∷ []) some h none = none line refl h
     at (line ∷ next ∷ lines) some h none = h
 no_text n lines o no_end some e (b ∷ blocks) text = (let first = first_of n lines b blocks text in
-    let r : block_at (n + 1) lines ≡ Ok (b, first.left) = first.read in cc)
+    let r : read_block_at (n + 1) lines ≡ Ok (b, first.left) = first.read in cc)
 
 regrouped : (front more : Lines) (l : List ℕ) (tail : Lines) → ((front ++ more) ++ l ∷ []) ++ tail ≡ front ++ (more ++ l ∷ tail)
 regrouped front more l tail = append_assoc (front ++ more) (l ∷ []) tail ∙ append_assoc front more (l ∷ tail)
@@ -325,7 +327,7 @@ first_stays n rest (f ∷ front) tail line t l r whole same is =
 
 pub stops_in_block : (lines : Lines) (list : List ReadBlock) (rest : Lines) (o : Offence (Unit {0}))
     → length list + 1 < 2 ^ 64 → 1 ≤ length rest → begins_with_end (length list) rest ≡ false
-    → block_at (length list + 1) rest ≡ Err o → Begun lines list rest
+    → read_block_at (length list + 1) rest ≡ Err o → Begun lines list rest
     → (o.left ≤ length lines) × Offends IsPlansOf lines (length lines - o.left + 1)
 stops_in_block lines list rest o small some no_end e so_far =
     let n = length list in
@@ -350,14 +352,14 @@ stops_in_block lines list rest o small some no_end e so_far =
       ends = λ none blocks text. (
           let all : rest ≡ st.front = st.whole ∙ ap (λ (z : Lines). st.front ++ z) none ∙ append-nil st.front in
           let k = known list so_far.front st.front blocks so_far.each so_far.spelled text in
-          no_text n st.front (grammar.offence shape_of IsSpelled o.wanted 0)
+          no_text n st.front (grammar.offence shape_of IsPlanRowSpelled o.wanted 0)
           (λ line same is. only rest line no_end (all ∙ same) is) (subst (λ (z : Lines). 1 ≤ length z) all some)
           st.ends k.others k.left);
       dead = λ l r same m. (
           let more = m.0 in
           let k = known list so_far.front (st.front ++ l ∷ more) m.1 so_far.each so_far.spelled
           (subst (λ (z : Lines). IsPlansOf z m.1) (regrouped so_far.front st.front l more) m.2) in
-          no_text n (st.front ++ l ∷ more) (grammar.offence shape_of IsSpelled o.wanted (suc (length more)))
+          no_text n (st.front ++ l ∷ more) (grammar.offence shape_of IsPlanRowSpelled o.wanted (suc (length more)))
           (λ line alone is. first_stays n rest st.front more line no_end l r (st.whole ∙ ap (λ (z : Lines). st.front ++ z) same) alone is)
           (omega (arith, length-append st.front (l ∷ more))) (st.dead l r more same) k.others k.left);
     })
@@ -371,7 +373,7 @@ no_more : (n : ℕ) (line : List ℕ) (next : List ℕ) (tail : Lines) → IsEnd
 no_more n line next tail is [] text = nothing_more n (line ∷ next ∷ tail) text
 no_more n line next tail is (b ∷ blocks) text = at text.main text.whole text.spelled
   where
-    at : (main : Lines) → line ∷ next ∷ tail ≡ main ++ text.ending → Spells IsSpelled (rows_from (n + 1) (b ∷ blocks)) main → ⊥
+    at : (main : Lines) → line ∷ next ∷ tail ≡ main ++ text.ending → Spells IsPlanRowSpelled (rows_from (n + 1) (b ∷ blocks)) main → ⊥
     at [] whole h = absurd h
     at (l ∷ main) whole h = (let same : line ≡ l = cc in no_block_there n (n + 1) l (subst (λ (z : List ℕ). IsEndLine n z) same is) h.0)
 
@@ -405,7 +407,7 @@ stops_after_end lines list (line ∷ rest) left t some count so_far =
 
 no_blocks : (n : ℕ) (lines : Lines) (b : ReadBlock) (blocks : List ReadBlock) → From n lines [] → From n lines (b ∷ blocks) → ⊥
 no_blocks n lines b blocks none some =
-    let parts = grammar.spells_split shape_of IsSpelled (block_rows (n + 1) b) (rows_from (n + 1 + 1) blocks) some.main some.spelled in
+    let parts = grammar.spells_split shape_of IsPlanRowSpelled (block_rows (n + 1) b) (rows_from (n + 1 + 1) blocks) some.main some.spelled in
     let there : lines ≡ parts.one ++ (parts.two ++ some.ending) = some.whole
     ∙ ap (λ (z : Lines). z ++ some.ending) parts.whole ∙ append_assoc parts.one parts.two some.ending in
     no_ending n (n + 1) b parts.one (parts.two ++ some.ending) parts.first (subst (IsEnding n) there (nothing_more n lines none))
@@ -417,7 +419,7 @@ one_list_from n lines (b ∷ one) [] h k = absurd (no_blocks n lines b one k h)
 one_list_from n lines (b ∷ one) (c ∷ other) h k =
     let x = first_of n lines b one h in
     let y = first_of n lines c other k in
-    let same = grammar.ok_both shape_of IsSpelled (block_at (n + 1) lines) (b, x.left) (c, y.left) x.read y.read in
+    let same = grammar.ok_both shape_of IsPlanRowSpelled (read_block_at (n + 1) lines) (b, x.left) (c, y.left) x.read y.read in
     let others : one ≡ other = one_list_from (n + 1) x.left one other x.others (subst (λ (z : Lines). From (n + 1) z other) (sym same.1) y.others) in
     ap (λ (z : ReadBlock). z ∷ one) same.0 ∙ ap (λ (z : List ReadBlock). c ∷ z) others
 
@@ -443,6 +445,6 @@ ended_refuses lines list rest (Err (stopped.Offence o)) h t so_far = stops_after
 
 pub block_refuses : (lines : Lines) (list : List ReadBlock) (rest : Lines) (e : Stopped (Unit {0}))
     → length list + 1 < 2 ^ 64 → 1 ≤ length rest → begins_with_end (length list) rest ≡ false
-    → Fails e (block_at (length list + 1) rest) → Begun lines list rest → Refuses lines e
+    → FailsReading e (read_block_at (length list + 1) rest) → Begun lines list rest → Refuses lines e
 block_refuses lines list rest stopped.Memory small some t fails so_far = tt
 block_refuses lines list rest (stopped.Offence o) small some t fails so_far = stops_in_block lines list rest o small some t fails so_far

@@ -19,18 +19,18 @@ abbrev pub name_of : List Operator → ℕ → List ℕ
 name_of all op = option_map_or (λ operator. operator.name) (slice_get all op) []
 
 -- the line of the step has its operator's name
-abbrev pub IsNamed : List Operator → List ℕ → List (List ℕ) → ℕ → Type 0
-IsNamed all ops names i = slice_index_or names i [] ≡ name_of all (slice_index ops i)
+abbrev pub IsStepNamed : List Operator → List ℕ → List (List ℕ) → ℕ → Type 0
+IsStepNamed all ops names i = slice_index_or names i [] ≡ name_of all (slice_index ops i)
 
 -- each step line has its operator's name
 abbrev pub AreNamed : TaskParts → ReadBlock → Type 0
-AreNamed task b = (k : ℕ) → k < length b.ops → IsNamed task.operators b.ops b.names k
+AreNamed task b = (k : ℕ) → k < length b.ops → IsStepNamed task.operators b.ops b.names k
 
 -- the first step whose line has another name than its operator's
 pub record IsMisnamed (all : List Operator) (ops : List ℕ) (names : List (List ℕ)) (i : ℕ) : Type 0 where
   pub within : i < length ops
-  pub here : ¬ IsNamed all ops names i
-  pub before : (k : ℕ) → k < i → IsNamed all ops names k
+  pub here : ¬ IsStepNamed all ops names i
+  pub before : (k : ℕ) → k < i → IsStepNamed all ops names k
 
 -- the cost line is that of a plan of this cost
 abbrev pub IsCostLine : TaskParts → ReadBlock → ℕ → Type 0

@@ -1,7 +1,7 @@
 -- What a plan text is.
 use Rattle.std.specs.Prelude.{◌≡◌, ℕ, ◌+◌, ◌^◌, ◌<◌, ◌⊎◌, Bool, if◌then◌else◌, List, [], ◌∷◌, ◌++◌, length, map, codes, All}
 use Rattle.line_grammar.specs.Rows.{Lines, Spells}
-use Rattle.line_fields.specs.Numbers.{IsNumber, IsNumbered}
+use Rattle.line_grammar.specs.Numbers.{IsNumber, IsNumbered}
 use Rattle.plan_out.specs.declared.blocks.ReadBlock.{ReadBlock}
 
 -- the bytes are one space and a number for each operator
@@ -14,25 +14,25 @@ abbrev pub cost_word : Bool → List ℕ
 cost_word unit = if unit then codes " (unit cost)" else codes " (general cost)"
 
 -- A row of a block: its number in the list, its operators, the name of one step, or its cost and the word of the cost.
-pub data Row : Type 0 where
-  plan : ℕ → Row
-  ops : List ℕ → Row
-  step : List ℕ → Row
-  cost : ℕ → Bool → Row
+pub data PlanRow : Type 0 where
+  plan : ℕ → PlanRow
+  ops : List ℕ → PlanRow
+  step : List ℕ → PlanRow
+  cost : ℕ → Bool → PlanRow
 
 -- the line spells the row
-abbrev pub IsSpelled : Row → List ℕ → Type 0
-IsSpelled (plan i) line = IsNumbered (codes "; plan ") i line
-IsSpelled (ops p) line = (spaced : List ℕ) × AreSpaced p spaced × (line ≡ codes "; ops" ++ spaced)
-IsSpelled (step name) line = line ≡ codes "(" ++ name ++ codes ")"
-IsSpelled (cost c unit) line = (digits : List ℕ) × IsNumber digits c × (line ≡ codes "; cost = " ++ digits ++ cost_word unit)
+abbrev pub IsPlanRowSpelled : PlanRow → List ℕ → Type 0
+IsPlanRowSpelled (plan i) line = IsNumbered (codes "; plan ") i line
+IsPlanRowSpelled (ops p) line = (spaced : List ℕ) × AreSpaced p spaced × (line ≡ codes "; ops" ++ spaced)
+IsPlanRowSpelled (step name) line = line ≡ codes "(" ++ name ++ codes ")"
+IsPlanRowSpelled (cost c unit) line = (digits : List ℕ) × IsNumber digits c × (line ≡ codes "; cost = " ++ digits ++ cost_word unit)
 
 -- the rows of the block of this number
-abbrev pub block_rows : ℕ → ReadBlock → List Row
+abbrev pub block_rows : ℕ → ReadBlock → List PlanRow
 block_rows i b = plan i ∷ ops b.ops ∷ map step b.names ++ cost b.cost b.unit ∷ []
 
 -- the rows of blocks, of which the first has this number
-abbrev pub rows_from : ℕ → List ReadBlock → List Row
+abbrev pub rows_from : ℕ → List ReadBlock → List PlanRow
 rows_from i [] = []
 rows_from i (b ∷ blocks) = block_rows i b ++ rows_from (i + 1) blocks
 
@@ -56,6 +56,6 @@ pub record IsPlansOf (lines : List (List ℕ)) (blocks : List ReadBlock) : Type 
   pub main : Lines
   pub ending : Lines
   pub whole : lines ≡ main ++ ending
-  pub spelled : Spells IsSpelled (rows_from 1 blocks) main
+  pub spelled : Spells IsPlanRowSpelled (rows_from 1 blocks) main
   pub ends : IsEnding (length blocks) ending
   pub each : All IsBlock blocks

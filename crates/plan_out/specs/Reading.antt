@@ -6,7 +6,7 @@ use Rattle.line_grammar.specs.declared.Stopped.{Stopped}
 use Rattle.line_grammar.specs.declared.Stopped.TheVariants as stopped
 use Rattle.line_grammar.specs.Rows.{Lines, Offends}
 use Rattle.line_grammar.specs.Reading.{Reading, row_at, many_at, both_at, made_at, after_at}
-use Rattle.line_fields.specs.Fields.{after, number_then, is_numbered}
+use Rattle.line_grammar.specs.Fields.{after, number_then, is_numbered}
 use Rattle.plan_out.specs.declared.blocks.ReadBlock.{ReadBlock}
 use Rattle.plan_out.specs.Plans.{IsPlansOf}
 
@@ -61,20 +61,20 @@ begins_with_end n (line ∷ lines) = is_end n line
 
 -- The reading of a block.
 
-abbrev pub kept : {T X : Type 0} → T → X → T
-kept state _ = state
+abbrev pub kept_state : {T X : Type 0} → T → X → T
+kept_state state _ = state
 
 abbrev pub step_at : Unit {0} → Reading (Unit {0}) (List ℕ)
 step_at _ = row_at tt step_in
 
 abbrev pub steps_at : ℕ → Reading (Unit {0}) (List (List ℕ))
-steps_at n = many_at step_at kept n tt
+steps_at n = many_at step_at kept_state n tt
 
-abbrev pub block_of : List ℕ × (List (List ℕ) × (ℕ × Bool)) → ReadBlock
-block_of parts = record { ops = parts.0; names = parts.1.0; cost = parts.1.1.0; unit = parts.1.1.1 }
+abbrev pub read_block_of : List ℕ × (List (List ℕ) × (ℕ × Bool)) → ReadBlock
+read_block_of parts = record { ops = parts.0; names = parts.1.0; cost = parts.1.1.0; unit = parts.1.1.1 }
 
-unfoldable pub block_at : ℕ → Reading (Unit {0}) ReadBlock
-block_at i = made_at block_of (after_at tt (plan_in i) (both_at (row_at tt ops_in) (λ ops. both_at (steps_at (length ops)) (λ _. row_at tt cost_in))))
+unfoldable pub read_block_at : ℕ → Reading (Unit {0}) ReadBlock
+read_block_at i = made_at read_block_of (after_at tt (plan_in i) (both_at (row_at tt ops_in) (λ ops. both_at (steps_at (length ops)) (λ _. row_at tt cost_in))))
 
 -- The line at which the reading of these lines stopped is the first at which no plan text can go on so.
 abbrev pub Refuses : Lines → Stopped (Unit {0}) → Type 0

@@ -4,11 +4,10 @@
 //! `block` for a caller that has found the plan's cost already. `read_plans` gives the blocks of a plan text exactly
 //! where the lines are those of one, and else names the first line at which no plan text can go on so;
 //! `specs/Plans.antt` says what a plan text is, and `text_states_one_list` that its lines are those of one list of
-//! blocks. `check_list` is exact: it calls the blocks good where none fails, and else it names the first that fails
-//! and the first reason that is true of it, as `specs/Fails.antt` defines both; `good_blocks_are_plans` says what
-//! good blocks are. It stands on `symk_text` for lines and numbers, on `line_fields` for what single lines say, on
-//! `line_grammar` for rows, on `symk_task` for the task, on `task_run` for runs, and on `indexmap` for the plans seen
-//! so far.
+//! blocks. `check_list` is exact: it calls the blocks good where none fails, and else it names the first that fails and
+//! the first reason that is true of it, as `specs/Fails.antt` defines both; `good_blocks_are_plans` says what good
+//! blocks are. It stands on `symk_text` for lines and numbers, on `line_grammar` for what single lines say and for
+//! rows, on `symk_task` for the task, on `task_run` for runs, and on `indexmap` for the plans seen so far.
 #![tactic(auto)]
 
 mod blocks;

@@ -4,7 +4,7 @@ ghost use Rattle.std.specs.Prelude.{◌≡◌, ◌<◌, IfSome, IfOk, length};
 ghost use Rattle.std.specs.Option.{option_copied, option_map};
 ghost use Rattle.plan_out.specs.Reading.{operator_then, spaced_in, ops_in, step_in, cost_in, says_enough, says_all, is_end};
 
-use line_fields::{after, is_numbered, number_then};
+use line_grammar::{after, is_numbered, number_then};
 use std::alloc::Global;
 use symk_task::{Memory, Plan};
 

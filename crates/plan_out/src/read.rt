@@ -10,8 +10,7 @@ ghost use Rattle.plan_out.specs.Refused.{PlansRefusedAt};
 use crate::blocks::{Blocks, ReadBlock};
 use crate::line::is_end;
 use crate::rows::block_of;
-use line_fields::{Rest, offence};
-use line_grammar::Stopped;
+use line_grammar::{Rest, Stopped, stopped_at};
 use std::alloc::Global;
 use symk_task::{List, Memory};
 use symk_text::lines_of;
@@ -94,6 +93,6 @@ fn ended(list: List<ReadBlock>, rest: Rest<'_>) -> Result<List<ReadBlock>, Stopp
     if following == 0 {
         Ok(list)
     } else {
-        Err(offence((), following))
+        Err(stopped_at((), following))
     }
 }

@@ -2,7 +2,7 @@
 
 ghost use Rattle.std.specs.Prelude.{◌≡◌, ℕ, ◌<◌, ◌≤◌, ◌-◌, ◌↔◌, All, IsTrue, MatchOption, length};
 ghost use Rattle.task_run.specs.Verdicts.{IsTooLarge};
-ghost use Rattle.plan_out.specs.Fails.{name_of, IsNamed, IsMisnamed, IsCostLine};
+ghost use Rattle.plan_out.specs.Fails.{name_of, IsStepNamed, IsMisnamed, IsCostLine};
 
 use crate::blocks::ReadBlock;
 use crate::print::is_unit;
@@ -26,7 +26,7 @@ pub fn wrong_name(all: &[Operator], operators: &[u32], names: &[Name]) -> Option
     requires operators { All (λ op. op < length all.now) operators.now }
     requires names { length names.now ≡ length operators.now }
     ensures { MatchOption result
-        ((k : ℕ) → k < length operators.now → IsNamed all.now operators.now names.now k)
+        ((k : ℕ) → k < length operators.now → IsStepNamed all.now operators.now names.now k)
         (λ step. (1 ≤ step) × IsMisnamed all.now operators.now names.now (step - 1)) }
 {
     for i in 0..operators.len() {

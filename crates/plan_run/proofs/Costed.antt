@@ -8,10 +8,10 @@ use Rattle.symk_task.specs.declared.parts.TaskParts.{TaskParts}
 use Rattle.symk_task.specs.Plans.{cost_of}
 use Rattle.symk_task.specs.Fits.{Fits}
 use Rattle.task_system.specs.Computed.{system_of}
-use Rattle.lazy_plans.specs.Law.{Gave, NoneLeft, Stops}
+use Rattle.lazy_plans.specs.Law.{Gave, NoneLeft, MayStop}
 use Rattle.lazy_plans.specs.declared.stop.Stop.TheVariants.{CostRange}
 use Rattle.plan_run.proofs.Given.{IsGiven, gave_listable, given_more, list_exhausted, list_in_range}
-use Rattle.plan_run.specs.Costs.{IsLeast, IsGreatest, HasMore}
+use Rattle.plan_run.specs.Costs.{IsLeast, IsGreatest, HasMorePlans}
 
 -- the least and the greatest number, and for none the last u64 and 0
 abbrev pub IsLeastOr : List ℕ → ℕ → Type 0
@@ -121,14 +121,14 @@ costed_as {task = task} a b d c = record {
 
 -- fewer plans than the task has more of are not all
 pub costed_not_all : (task : TaskParts) (pends : List ℕ → Type 0) (cheapest dearest total count : ℕ) → Fits task → Costed task pends cheapest dearest total count → count < 20
-    → HasMore task 20 → NoneLeft (system_of task) None pends → ⊥
+    → HasMorePlans task 20 → NoneLeft (system_of task) None pends → ⊥
 costed_not_all task pends cheapest dearest total count fits c lt more none =
     let number = c.number in
     more c.plans (omega (arith, number, lt)) (λ p plan within. (list_exhausted task TopK None pends c.plans 0 fits c.given none).end.1 p plan)
 
 -- nor all whose cost 64 bits hold
 pub costed_not_in_range : (task : TaskParts) (pends : List ℕ → Type 0) (cheapest dearest total count : ℕ) → Fits task → Costed task pends cheapest dearest total count → count < 20
-    → HasMore task 20 → Stops (system_of task) None pends CostRange → ⊥
+    → HasMorePlans task 20 → MayStop (system_of task) None pends CostRange → ⊥
 costed_not_in_range task pends cheapest dearest total count fits c lt more stops =
     let number = c.number in
     more c.plans (omega (arith, number, lt)) (list_in_range task TopK None pends c.plans fits c.given stops).end.1

@@ -6,14 +6,14 @@ use Rattle.symk_task.specs.declared.parts.TaskParts.{TaskParts}
 use Rattle.symk_task.specs.Plans.{cost_of}
 use Rattle.symk_task.specs.Fits.{Fits}
 use Rattle.task_system.specs.Computed.{system_of}
-use Rattle.lazy_plans.specs.Law.{Gave, NoneLeft, Stops}
+use Rattle.lazy_plans.specs.Law.{Gave, NoneLeft, MayStop}
 use Rattle.lazy_plans.specs.declared.stop.Stop.TheVariants.{CostRange}
 use Rattle.plan_out.specs.declared.end.End.{End}
 use Rattle.plan_out.specs.declared.end.End.TheVariants as end
 use Rattle.plan_out.specs.Texts.{block, end_line}
 use Rattle.run_status.specs.Sent.{TookPiece, TookFront}
-use Rattle.run_status.specs.Ends.{Ends, Puts}
-use Rattle.plan_run.specs.Missed.{Misses}
+use Rattle.run_status.specs.Ends.{EndsWithText, PutsOutWith}
+use Rattle.plan_run.specs.Missed.{MissesPlan}
 use Rattle.plan_run.specs.Lists.{Aim, aim_after, OrPart, IsEndOf, all_end, asked, end_status, gap_text}
 use Rattle.plan_run.specs.declared.options.Wanted.{Wanted}
 use Rattle.plan_run.specs.declared.earlier.Earlier.{Earlier}
@@ -32,8 +32,10 @@ on_by_not true e = refl
 on_by_not false e = absurd (cc)
 
 -- the same end
-pub ended_as : (why other : End) (old new : SinkView) (result : Status) → why ≡ other → Ends (end_status why) (end_line why) old new result → Ends (end_status other) (end_line other) old new result
-ended_as why other old new result e ends = subst (λ (w : End). Ends (end_status w) (end_line w) old new result) e ends
+pub ended_as : (why other : End) (old new : SinkView) (result : Status) → why ≡ other
+    → EndsWithText (end_status why) (end_line why) old new result
+    → EndsWithText (end_status other) (end_line other) old new result
+ended_as why other old new result e ends = subst (λ (w : End). EndsWithText (end_status w) (end_line w) old new result) e ends
 
 -- more are asked for than are listed so far
 asked_by : (more : Bool) (count n : ℕ) → n < count → n < cond more (count + 1) count
@@ -67,14 +69,17 @@ module _ (task : TaskParts) (mode : Mode) (wanted : Wanted) (limit : Option ℕ)
   abbrev Whole : SinkView → ℕ → Type 0
   Whole mid count = Listed here (Joined task mode limit earlier.plans pends) old mid count
 
-  owed_stops : (new : SinkView) (count : ℕ) (result : Status) → (result ≡ status.WriteFault) ⊎ (result ≡ status.Memory) → count ≤ wanted.count → (l : So new count) → Owed task mode limit earlier pends l.plans → Puts (OrPart here) old new result
+  owed_stops : (new : SinkView) (count : ℕ) (result : Status) → (result ≡ status.WriteFault)
+      ⊎ (result ≡ status.Memory) → count ≤ wanted.count → (l : So new count)
+      → Owed task mode limit earlier pends l.plans → PutsOutWith (OrPart here) old new result
   owed_stops new count result why le l (inl h) = none_stops here l.plans old new result h.0 why l.took
   owed_stops new count result why le l (inr f) =
       let whole : Whole new count = record { plans = l.plans; holds = f.given; number = l.number; took = l.took } in
       listed_stops here (Joined task mode limit earlier.plans pends) old new count result (λ plans h. h.promise) why whole le
 
   -- the list stops after so many plans
-  pub given_stops : (new : SinkView) (count : ℕ) (result : Status) → (result ≡ status.WriteFault) ⊎ (result ≡ status.Memory) → So new count → count ≤ wanted.count → Puts (OrPart here) old new result
+  pub given_stops : (new : SinkView) (count : ℕ) (result : Status) → (result ≡ status.WriteFault)
+      ⊎ (result ≡ status.Memory) → So new count → count ≤ wanted.count → PutsOutWith (OrPart here) old new result
   given_stops new count result why l le = owed_stops new count result why le l l.holds
 
   some_listed : (mid : SinkView) (count : ℕ) → So mid count → 1 ≤ wanted.count → count ≡ wanted.count → Whole mid count
@@ -84,7 +89,7 @@ module _ (task : TaskParts) (mode : Mode) (wanted : Wanted) (limit : Option ℕ)
 
   -- as many plans as were asked for are listed, and no more was looked for
   pub reached_ends : (mid new : SinkView) (count : ℕ) (result : Status) → So mid count → 1 ≤ wanted.count → count ≡ wanted.count → wanted.more ≡ false
-      → Ends status.Reached (end_line (end.Reached (length earlier.plans + wanted.count))) mid new result → Puts (OrPart here) old new result
+      → EndsWithText status.Reached (end_line (end.Reached (length earlier.plans + wanted.count))) mid new result → PutsOutWith (OrPart here) old new result
   reached_ends mid new count result l least e no_more ends =
       let n : length earlier.plans + wanted.count ≡ length earlier.plans + count = omega (arith, e) in
       list_ends here (end.Reached (length earlier.plans + wanted.count)) new result (some_listed mid count l least e)
@@ -92,7 +97,9 @@ module _ (task : TaskParts) (mode : Mode) (wanted : Wanted) (limit : Option ℕ)
 
   -- no plan is left
   pub none_ends : (mid new : SinkView) (count : ℕ) (result : Status) → So mid count → count < asked wanted → NoneLeft (system_of task) limit pends
-      → Ends (end_status (all_end limit (length earlier.plans + count))) (end_line (all_end limit (length earlier.plans + count))) mid new result → Puts (OrPart here) old new result
+      → EndsWithText (end_status (all_end limit (length earlier.plans + count)))
+      (end_line (all_end limit (length earlier.plans + count))) mid new result
+      → PutsOutWith (OrPart here) old new result
   none_ends mid new count result l lt none ends =
       let why = all_end limit (length earlier.plans + count) in
       let whole = listed_as here (Owed task mode limit earlier pends) (Joined task mode limit earlier.plans pends) old mid count (joined_end task mode earlier fits pends limit none) l in
@@ -100,8 +107,8 @@ module _ (task : TaskParts) (mode : Mode) (wanted : Wanted) (limit : Option ℕ)
       (λ plans h. list_exhausted task mode limit pends (earlier.plans ++ plans) (length earlier.plans + count) fits h none) (fewer limit wanted (length earlier.plans) count lt) ends
 
   -- only plans that 64 bits don't hold the cost of are left
-  pub range_ends : (mid new : SinkView) (count : ℕ) (result : Status) → So mid count → count < asked wanted → Stops (system_of task) limit pends CostRange
-      → Ends status.CostRange (end_line end.CostRange) mid new result → Puts (OrPart here) old new result
+  pub range_ends : (mid new : SinkView) (count : ℕ) (result : Status) → So mid count → count < asked wanted → MayStop (system_of task) limit pends CostRange
+      → EndsWithText status.CostRange (end_line end.CostRange) mid new result → PutsOutWith (OrPart here) old new result
   range_ends mid new count result l lt stops ends =
       let whole = listed_as here (Owed task mode limit earlier pends) (Joined task mode limit earlier.plans pends) old mid count (joined_range task mode earlier fits pends limit stops) l in
       list_ends here end.CostRange new result whole
@@ -110,7 +117,7 @@ module _ (task : TaskParts) (mode : Mode) (wanted : Wanted) (limit : Option ℕ)
   module _ (after : List ℕ → Type 0) (plan : List ℕ) (gave : Gave (system_of task) mode limit pends after plan) where
     -- there is another
     pub more_ends : (mid new : SinkView) (count : ℕ) (result : Status) → So mid count → 1 ≤ wanted.count → count ≡ wanted.count → wanted.more ≡ true
-        → Ends status.MoreLeft (end_line (end.More (length earlier.plans + wanted.count))) mid new result → Puts (OrPart here) old new result
+        → EndsWithText status.MoreLeft (end_line (end.More (length earlier.plans + wanted.count))) mid new result → PutsOutWith (OrPart here) old new result
     more_ends mid new count result l least e more ends =
         let n : length earlier.plans + wanted.count ≡ length earlier.plans + count = omega (arith, e) in
         list_ends here (end.More (length earlier.plans + wanted.count)) new result (some_listed mid count l least e)
@@ -118,11 +125,14 @@ module _ (task : TaskParts) (mode : Mode) (wanted : Wanted) (limit : Option ℕ)
 
     -- the earlier list misses the plan
     pub gave_gap : {E : Type 0} (made : Result Bytes E) (mid new : SinkView) (count cost : ℕ) (result : Status) → So mid count → cost ≡ cost_of task plan → cost < earlier.dearest
-        → IfOk made (λ text. text ≡ gap_text cost) → MatchResult made (λ text. Ends status.Gap text mid new result) (λ _. (result ≡ status.Memory) × (new ≡ mid)) → Puts (OrPart here) old new result
+        → IfOk made (λ text. text ≡ gap_text cost)
+        → MatchResult made (λ text. EndsWithText status.Gap text mid new result)
+        (λ _. (result ≡ status.Memory) × (new ≡ mid)) → PutsOutWith (OrPart here) old new result
     gave_gap made mid new count cost result l e lt is ends =
         let below : cost_of task plan < earlier.dearest = omega (arith, e, lt) in
         gap_ends here cost made new result l
-        (λ plans h. (let m = misses task mode limit earlier fits pends after plan gave below plans h in (m.0, subst (λ (n : ℕ). Misses task mode earlier.plans n) (sym e) m.1))) is ends
+        (λ plans h. (let m = misses task mode limit earlier fits pends after plan gave below plans h in
+        (m.0, subst (λ (n : ℕ). MissesPlan task mode earlier.plans n) (sym e) m.1))) is ends
 
     module _ (le : earlier.dearest ≤ cost_of task plan) where
       joined : (mid : SinkView) (count : ℕ) → So mid count → Whole mid count
@@ -139,6 +149,6 @@ module _ (task : TaskParts) (mode : Mode) (wanted : Wanted) (limit : Option ℕ)
 
       -- a part of one more block went out
       pub given_breaks : (then new : SinkView) (count : ℕ) (result : Status) → (result ≡ status.WriteFault) ⊎ (result ≡ status.Memory) → So then count → count < wanted.count
-          → TookFront (block task (next_number here count) plan) then new → Puts (OrPart here) old new result
+          → TookFront (block task (next_number here count) plan) then new → PutsOutWith (OrPart here) old new result
       given_breaks then new count result why l lt put =
           block_stops here (Joined task mode limit earlier.plans after) new plan result (λ plans h. h.promise) why (λ plans h. (further plans h).given) (joined then count l) lt put

@@ -6,14 +6,14 @@ use Rattle.symk_task.specs.declared.parts.Mode.TheVariants.{TopK, Loopless, Unor
 use Rattle.symk_task.specs.declared.parts.TaskParts.{TaskParts}
 use Rattle.symk_task.specs.Fits.{Fits}
 use Rattle.symk_task.specs.Plans.{Same, IsListed, cost_of}
-use Rattle.task_system.specs.System.{State, System, IsPlanOf, Runs}
-use Rattle.task_system.specs.System.{cost_of as system_cost}
+use Rattle.task_system.specs.System.{State, System, IsSystemPlanOf, RunsInSystem}
+use Rattle.task_system.specs.System.{cost_in_system as system_cost}
 use Rattle.task_system.specs.Computed.{system_of}
 use Rattle.task_system.proofs.RunsLaw.{cost_law}
 use Rattle.task_system.proofs.TraceLaw.{mode_law}
 use Rattle.task_system.proofs.GrowLaw.{none_right}
 use Rattle.task_system.proofs.ListsLaw.{right_law, listed_law, range_law, dearer_law}
-use Rattle.lazy_plans.specs.Law.{Fair, Gave, NoneLeft, Stops, top}
+use Rattle.lazy_plans.specs.Law.{Fair, Gave, NoneLeft, MayStop, top}
 use Rattle.lazy_plans.specs.Rest.{Rest}
 use Rattle.lazy_plans.specs.declared.stop.Stop.TheVariants.{CostRange}
 use Rattle.lazy_plans.proofs.ListLaw.{rest_first, rest_more, right_more, exhausted, all_up_to, out_of_range}
@@ -28,7 +28,7 @@ pub record IsGiven (task : TaskParts) (mode : Mode) (limit : Option ℕ) (pends 
   pub rest : Rest (system_of task) mode plans pends
 
 -- the operators of a run are the system's
-run_operators : (system : System) (p : List ℕ) (s t : State) → Runs system s p t → All (λ a. a < system.operators) p
+run_operators : (system : System) (p : List ℕ) (s t : State) → RunsInSystem system s p t → All (λ a. a < system.operators) p
 run_operators system [] s t r = All-nil (λ a. a < system.operators)
 run_operators system (a ∷ p) s t r = first (run_operators system p r.0 t r.2)
   where
@@ -36,7 +36,7 @@ run_operators system (a ∷ p) s t r = first (run_operators system p r.0 t r.2)
     first rest zero d lt = r.1.number
     first rest (suc k) d lt = rest k d (omega (arith, lt))
 
-pub plan_operators : (system : System) (mode : Mode) (p : List ℕ) → IsPlanOf system mode p → All (λ a. a < system.operators) p
+pub plan_operators : (system : System) (mode : Mode) (p : List ℕ) → IsSystemPlanOf system mode p → All (λ a. a < system.operators) p
 plan_operators system TopK p h = run_operators system p system.initial h.0 h.1
 plan_operators system Unordered p h = run_operators system p system.initial h.0 h.1
 plan_operators system Loopless p h = run_operators system p system.initial h.0.0 h.0.1
@@ -50,7 +50,8 @@ held None within = omega arith
 held (Some most) within = within
 
 -- a plan of the mode that was given can be printed
-pub listable_plan : (task : TaskParts) (mode : Mode) (limit : Option ℕ) (pends after : List ℕ → Type 0) (p : List ℕ) → IsHeld limit → IsPlanOf (system_of task) mode p
+pub listable_plan : (task : TaskParts) (mode : Mode) (limit : Option ℕ) (pends after : List ℕ → Type 0) (p : List ℕ)
+    → IsHeld limit → IsSystemPlanOf (system_of task) mode p
     → Gave (system_of task) mode limit pends after p → IsListable task p
 listable_plan task mode limit pends after p held plan gave =
     let same = cost_law task p in
@@ -78,10 +79,10 @@ more_within task mode (Some most) pends after plans p gave within =
 
 -- nothing was given yet
 pub given_none : (task : TaskParts) (mode : Mode) (limit : Option ℕ) (pends : List ℕ → Type 0) → Fits task → Fair (system_of task) mode limit pends
-    → ((p : List ℕ) → IsPlanOf (system_of task) mode p → pends p) → IsGiven task mode limit pends []
+    → ((p : List ℕ) → IsSystemPlanOf (system_of task) mode p → pends p) → IsGiven task mode limit pends []
 given_none task mode limit pends fits fair all = record {
   promise = record {
-    right = (right_law task mode [] fits).0 (none_right (IsPlanOf (system_of task) mode) (Same mode) (system_cost (system_of task)));
+    right = (right_law task mode [] fits).0 (none_right (IsSystemPlanOf (system_of task) mode) (Same mode) (system_cost (system_of task)));
     listable = All-nil (IsListable task);
     within = none_within task limit;
     end = tt;
@@ -114,7 +115,8 @@ pub list_reached : (task : TaskParts) (mode : Mode) (limit : Option ℕ) (plans 
 list_reached task mode limit plans n promise = ends_with task mode limit plans (end.Reached n) promise tt
 
 -- each plan of the system that is wanted is one of the task
-wanted_law : (task : TaskParts) (mode : Mode) (limit : Option ℕ) (plans : List (List ℕ)) (p : List ℕ) → Fits task → AllWanted task mode limit plans → IsPlanOf (system_of task) mode p
+wanted_law : (task : TaskParts) (mode : Mode) (limit : Option ℕ) (plans : List (List ℕ)) (p : List ℕ) → Fits task
+    → AllWanted task mode limit plans → IsSystemPlanOf (system_of task) mode p
     → system_cost (system_of task) p ≤ top limit → IsListed mode plans p
 wanted_law task mode None plans p fits all plan within =
     let below : system_cost (system_of task) p < 2 ^ 64 = omega (arith, within) in
@@ -141,7 +143,7 @@ list_exhausted task mode (Some most) pends plans n fits given none =
 
 -- only dearer plans are left
 pub list_in_range : (task : TaskParts) (mode : Mode) (limit : Option ℕ) (pends : List ℕ → Type 0) (plans : List (List ℕ)) → Fits task
-    → IsGiven task mode limit pends plans → Stops (system_of task) limit pends CostRange → IsListOf task mode limit plans (Some end.CostRange)
+    → IsGiven task mode limit pends plans → MayStop (system_of task) limit pends CostRange → IsListOf task mode limit plans (Some end.CostRange)
 list_in_range task mode (Some most) pends plans fits given stops = absurd stops
 list_in_range task mode None pends plans fits given stops =
     let far = out_of_range (system_of task) mode plans pends given.rest stops in

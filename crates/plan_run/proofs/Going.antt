@@ -9,19 +9,19 @@ use Rattle.symk_task.specs.declared.parts.TaskParts.{TaskParts}
 use Rattle.symk_task.specs.Fits.{Fits}
 use Rattle.symk_task.specs.Plans as meaning
 use Rattle.symk_task.specs.Plans.{cost_of}
-use Rattle.task_system.specs.System.{IsPlanOf, IsRight}
-use Rattle.task_system.specs.System.{cost_of as system_cost}
+use Rattle.task_system.specs.System.{IsSystemPlanOf, IsRightOfSystem}
+use Rattle.task_system.specs.System.{cost_in_system as system_cost}
 use Rattle.task_system.specs.Computed.{system_of}
 use Rattle.task_system.proofs.RunsLaw.{cost_law}
 use Rattle.task_system.proofs.TraceLaw.{mode_law}
 use Rattle.task_system.proofs.ListsLaw.{right_law}
-use Rattle.lazy_plans.specs.Law.{Gave, NoneLeft, Stops, top}
+use Rattle.lazy_plans.specs.Law.{Gave, NoneLeft, MayStop, top}
 use Rattle.lazy_plans.specs.Rest.{Rest, IsGood, EndsBy}
 use Rattle.lazy_plans.specs.declared.stop.Stop.TheVariants.{CostRange}
 use Rattle.lazy_plans.proofs.ListLaw.{right_up_to, right_all, exhausted}
 use Rattle.plan_run.specs.declared.earlier.Earlier.{Earlier}
 use Rattle.plan_run.specs.Earlier.{IsEarlier, last_cost}
-use Rattle.plan_run.specs.Missed.{Misses}
+use Rattle.plan_run.specs.Missed.{MissesPlan}
 use Rattle.plan_run.specs.Listable.{IsListable}
 use Rattle.plan_run.proofs.Given.{IsGiven, IsHeld, none_within, plan_operators, given_more}
 
@@ -82,7 +82,7 @@ module _ (task : TaskParts) (mode : Mode) (limit : Option ℕ) (earlier : Earlie
 
   good : IsEarlier task mode limit earlier → IsGood (system_of task) mode earlier.plans
   good e = record {
-    each = All-weaker (meaning.IsPlanOf task mode) (IsPlanOf (system_of task) mode) (λ p. (mode_law task mode p fits).1) earlier.plans e.each;
+    each = All-weaker (meaning.IsPlanOf task mode) (IsSystemPlanOf (system_of task) mode) (λ p. (mode_law task mode p fits).1) earlier.plans e.each;
     different = e.different;
     costs = subst IsNonDecreasing (sym (map_same (system_cost (system_of task)) (cost_of task) (cost_law task) earlier.plans)) e.costs;
   }
@@ -91,7 +91,7 @@ module _ (task : TaskParts) (mode : Mode) (limit : Option ℕ) (earlier : Earlie
   ends_by e c le = ends_at task (slice_get earlier.plans (length earlier.plans - 1)) c (subst (λ (n : ℕ). n ≤ c) e.last le)
 
   module _ (pends : List ℕ → Type 0) where
-    right_begun : IsBegun task mode limit earlier pends → IsRight (system_of task) mode earlier.plans → IsGiven task mode limit pends earlier.plans
+    right_begun : IsBegun task mode limit earlier pends → IsRightOfSystem (system_of task) mode earlier.plans → IsGiven task mode limit pends earlier.plans
     right_begun b right = record {
       promise = record { right = (right_law task mode earlier.plans fits).0 right; listable = listable b.is; within = b.is.within; end = tt };
       rest = b.rest;
@@ -129,19 +129,21 @@ module _ (task : TaskParts) (mode : Mode) (earlier : Earlier) (fits : Fits task)
   joined_end limit none plans (inl h) = joined_none task mode limit earlier fits pends plans h.0 (right_none limit none h.1)
   joined_end limit none plans (inr f) = f.given
 
-  right_range : (limit : Option ℕ) → Stops (system_of task) limit pends CostRange → IsBegun task mode limit earlier pends → IsGiven task mode limit pends earlier.plans
+  right_range : (limit : Option ℕ) → MayStop (system_of task) limit pends CostRange
+      → IsBegun task mode limit earlier pends → IsGiven task mode limit pends earlier.plans
   right_range (Some most) stops b = absurd stops
   right_range None stops b =
       right_by task mode None earlier fits pends b (2 ^ 64 - 1) b.is.top (λ q h. lt_le (2 ^ 64 - 1) (system_cost (system_of task) q) (stops.1 q h))
 
   -- where each that is left is too dear
-  pub joined_range : (limit : Option ℕ) → Stops (system_of task) limit pends CostRange → (plans : List (List ℕ)) → Owed task mode limit earlier pends plans → Joined task mode limit earlier.plans pends plans
+  pub joined_range : (limit : Option ℕ) → MayStop (system_of task) limit pends CostRange → (plans : List (List ℕ))
+      → Owed task mode limit earlier pends plans → Joined task mode limit earlier.plans pends plans
   joined_range limit stops plans (inl h) = joined_none task mode limit earlier fits pends plans h.0 (right_range limit stops h.1)
   joined_range limit stops plans (inr f) = f.given
 
 module _ (task : TaskParts) (mode : Mode) (limit : Option ℕ) (earlier : Earlier) (fits : Fits task) (pends after : List ℕ → Type 0) (p : List ℕ) (gave : Gave (system_of task) mode limit pends after p) where
   -- what pends is a plan
-  pub owed_plan : (plans : List (List ℕ)) → Owed task mode limit earlier pends plans → IsPlanOf (system_of task) mode p
+  pub owed_plan : (plans : List (List ℕ)) → Owed task mode limit earlier pends plans → IsSystemPlanOf (system_of task) mode p
   owed_plan plans (inl h) = ((h.1.rest p).0 gave.pended).0
   owed_plan plans (inr f) = ((f.given.rest p).0 gave.pended).0
 
@@ -155,7 +157,8 @@ module _ (task : TaskParts) (mode : Mode) (limit : Option ℕ) (earlier : Earlie
       }
 
   -- the earlier list misses the plan that is given, if it is cheaper than the last one, and nothing was given before
-  pub misses : cost_of task p < earlier.dearest → (plans : List (List ℕ)) → Owed task mode limit earlier pends plans → (plans ≡ []) × Misses task mode earlier.plans (cost_of task p)
+  pub misses : cost_of task p < earlier.dearest → (plans : List (List ℕ)) → Owed task mode limit earlier pends plans
+      → (plans ≡ []) × MissesPlan task mode earlier.plans (cost_of task p)
   misses lt plans (inl h) =
       let here = (h.1.rest p).0 gave.pended in
       let below : cost_of task p < last_cost task earlier.plans = subst (λ (n : ℕ). cost_of task p < n) h.1.is.last lt in (

@@ -6,9 +6,9 @@ use Rattle.symk_task.specs.declared.parts.TaskParts.{TaskParts}
 use Rattle.plan_out.specs.declared.end.End.{End}
 use Rattle.plan_out.specs.declared.end.End.TheVariants as end
 use Rattle.plan_out.specs.Texts.{block, end_line}
-use Rattle.plan_run.specs.Missed.{Misses}
-use Rattle.run_status.specs.Sent.{Sent, nothing, Took, TookPiece, TookFront, IsFront}
-use Rattle.run_status.specs.Ends.{Ends, FrontOf, Puts}
+use Rattle.plan_run.specs.Missed.{MissesPlan}
+use Rattle.run_status.specs.Sent.{Sent, nothing, Took, TookPiece, TookFront, IsFrontOfPieces}
+use Rattle.run_status.specs.Ends.{EndsWithText, FrontOf, PutsOutWith}
 use Rattle.plan_run.specs.Lists.{Aim, blocks_from, list_pieces, IsListOf, IsEndOf, end_status, gap_text, Listing, MayCome, PartListing, OrPart}
 use Rattle.run_status.specs.declared.status.Status.{Status}
 use Rattle.run_status.specs.declared.status.Status.TheVariants as status
@@ -65,7 +65,7 @@ stopped_is_part a result out (inl e) p = subst (λ s. OrPart a s out) (sym e) p
 stopped_is_part a result out (inr e) p = subst (λ s. OrPart a s out) (sym e) p
 
 -- nothing goes out, when out of memory
-pub memory_lists : (a : Aim) (old : SinkView) → Puts (OrPart a) old old status.Memory
+pub memory_lists : (a : Aim) (old : SinkView) → PutsOutWith (OrPart a) old old status.Memory
 memory_lists a old = (nothing, took_nothing old, inl (inl refl))
 
 -- where no block went out, nothing did
@@ -74,12 +74,12 @@ took_none a plans old new e took = subst (λ (l : List (List ℕ)). Took (all_of
 
 -- the list stops before its first plan
 pub none_stops : (a : Aim) (plans : List (List ℕ)) (old new : SinkView) (result : Status) → plans ≡ [] → (result ≡ status.WriteFault) ⊎ (result ≡ status.Memory) → Took (all_of (list_pieces a plans)) old new
-    → Puts (OrPart a) old new result
+    → PutsOutWith (OrPart a) old new result
 none_stops a plans old new result e why took = (nothing, took_none a plans old new e took, stopped_is_part a result nothing why (inl (inl refl)))
 
 -- the list stops after so many plans
 pub listed_stops : (a : Aim) (Holds : List (List ℕ) → Type 0) (old new : SinkView) (count : ℕ) (result : Status) → Promises a Holds None
-    → (result ≡ status.WriteFault) ⊎ (result ≡ status.Memory) → Listed a Holds old new count → count ≤ a.wanted.count → Puts (OrPart a) old new result
+    → (result ≡ status.WriteFault) ⊎ (result ≡ status.Memory) → Listed a Holds old new count → count ≤ a.wanted.count → PutsOutWith (OrPart a) old new result
 listed_stops a Holds old new count result promises why l le =
     let n : length l.plans ≤ a.wanted.count = omega (arith, l.number, le) in
     let part : PartListing a (all_of (list_pieces a l.plans)) = record { plans = l.plans; promise = promises l.plans l.holds; number = n; front = front_of_all (list_pieces a l.plans) } in
@@ -88,14 +88,15 @@ listed_stops a Holds old new count result promises why l le =
 -- a part of one more block went out
 pub block_stops : (a : Aim) {Holds : List (List ℕ) → Type 0} (After : List (List ℕ) → Type 0) {old then : SinkView} (new : SinkView) {count : ℕ} (plan : List ℕ) (result : Status)
     → Promises a After None → (result ≡ status.WriteFault) ⊎ (result ≡ status.Memory) → ((plans : List (List ℕ)) → Holds plans → After (plans ++ plan ∷ []))
-    → Listed a Holds old then count → count < a.wanted.count → TookFront (block a.task (next_number a count) plan) then new → Puts (OrPart a) old new result
+    → Listed a Holds old then count → count < a.wanted.count
+    → TookFront (block a.task (next_number a count) plan) then new → PutsOutWith (OrPart a) old new result
 block_stops a After {old = old} {then = then} new {count = count} plan result promises why more l lt put =
     let text = block a.task (next_number a count) plan in
     let p = took_front text then new put in
     let plans = l.plans ++ (plan ∷ []) in
     let n : length plans ≤ a.wanted.count = omega (arith, length_push l.plans plan, l.number, lt) in
     let out : Sent = record { pieces = list_pieces a l.plans ++ []; rest = take p.0 text } in
-    let front : IsFront out (list_pieces a plans) = front_of_last (list_pieces a l.plans) text p.0 _ (pieces_push a l.plans plan count l.number) in
+    let front : IsFrontOfPieces out (list_pieces a plans) = front_of_last (list_pieces a l.plans) text p.0 _ (pieces_push a l.plans plan count l.number) in
     let part : PartListing a out = record { plans = plans; promise = promises plans (more l.plans l.holds); number = n; front = front } in
     (out, took_after (list_pieces a l.plans) _ old then new l.took p.1, stopped_is_part a result out why (inr part))
 
@@ -121,19 +122,20 @@ whole_lists a end.CostRange pieces l = (inl l, refl)
 
 ending_stops : (a : Aim) {Holds : List (List ℕ) → Type 0} {count : ℕ} (why : End) {old mid : SinkView} (new : SinkView) (result : Status)
     → (result ≡ status.WriteFault) ⊎ (result ≡ status.Memory) → Listed a Holds old mid count → Promises a Holds (Some why) → IsEndOf a.wanted (length a.earlier) count why
-    → TookFront (end_line why) mid new → Puts (OrPart a) old new result
+    → TookFront (end_line why) mid new → PutsOutWith (OrPart a) old new result
 ending_stops a {Holds = Holds} {count = count} why {old = old} {mid = mid} new result stop l promises fits took =
     let whole = list_pieces a l.plans ++ (end_line why ∷ []) in
     let p = took_front (end_line why) mid new took in
     let out : Sent = record { pieces = list_pieces a l.plans ++ []; rest = take p.0 (end_line why) } in
-    let front : IsFront out whole = front_of_last (list_pieces a l.plans) (end_line why) p.0 whole refl in
+    let front : IsFrontOfPieces out whole = front_of_last (list_pieces a l.plans) (end_line why) p.0 whole refl in
     let listing = listing_of a Holds count why old mid l promises fits in
     (out, took_after (list_pieces a l.plans) _ old mid new l.took p.1, stopped_is_part a result out stop (inl (inr (end_status why, whole, inl listing, front))))
 
 -- the line that ends the list
 pub list_ends : (a : Aim) {Holds : List (List ℕ) → Type 0} {count : ℕ} (why : End) {old mid : SinkView} (new : SinkView) (result : Status)
-    → Listed a Holds old mid count → Promises a Holds (Some why) → IsEndOf a.wanted (length a.earlier) count why → Ends (end_status why) (end_line why) mid new result
-    → Puts (OrPart a) old new result
+    → Listed a Holds old mid count → Promises a Holds (Some why) → IsEndOf a.wanted (length a.earlier) count why
+    → EndsWithText (end_status why) (end_line why) mid new result
+    → PutsOutWith (OrPart a) old new result
 list_ends a {Holds = Holds} {count = count} why {old = old} {mid = mid} new result l promises fits (inl h) = (
   all_of (list_pieces a l.plans ++ (end_line why ∷ [])),
   took_after (list_pieces a l.plans) _ old mid new l.took (took_piece (end_line why) mid new h.1),
@@ -144,33 +146,39 @@ list_ends a why new result l promises fits (inr (inl h)) = ending_stops a why ne
 list_ends a why new result l promises fits (inr (inr h)) = ending_stops a why new result (inr h.0) l promises fits h.1
 
 -- what the earlier list misses
-gap_of : (a : Aim) (cost : ℕ) → Misses a.task a.mode a.earlier cost → MayCome a status.Gap (gap_text cost ∷ [])
+gap_of : (a : Aim) (cost : ℕ) → MissesPlan a.task a.mode a.earlier cost → MayCome a status.Gap (gap_text cost ∷ [])
 gap_of a cost misses = inr (record { cost = cost; misses = misses; says = refl; pieces = refl })
 
-gap_stops : (a : Aim) (cost : ℕ) (mid new : SinkView) (result : Status) → Misses a.task a.mode a.earlier cost → (result ≡ status.WriteFault) ⊎ (result ≡ status.Memory) → TookFront (gap_text cost) mid new
-    → Puts (OrPart a) mid new result
+gap_stops : (a : Aim) (cost : ℕ) (mid new : SinkView) (result : Status) → MissesPlan a.task a.mode a.earlier cost
+    → (result ≡ status.WriteFault) ⊎ (result ≡ status.Memory) → TookFront (gap_text cost) mid new
+    → PutsOutWith (OrPart a) mid new result
 gap_stops a cost mid new result misses why took =
     let p = took_front (gap_text cost) mid new took in
     let whole : List Bytes = gap_text cost ∷ [] in
     (record { pieces = []; rest = take p.0 (gap_text cost) }, p.1, stopped_is_part a result _ why (inl (inr (status.Gap, whole, gap_of a cost misses, front_of_last [] (gap_text cost) p.0 whole refl))))
 
-gap_puts : (a : Aim) (cost : ℕ) (mid new : SinkView) (result : Status) → Misses a.task a.mode a.earlier cost → Ends status.Gap (gap_text cost) mid new result → Puts (OrPart a) mid new result
+gap_puts : (a : Aim) (cost : ℕ) (mid new : SinkView) (result : Status) → MissesPlan a.task a.mode a.earlier cost
+    → EndsWithText status.Gap (gap_text cost) mid new result → PutsOutWith (OrPart a) mid new result
 gap_puts a cost mid new result misses (inl h) =
     (all_of (gap_text cost ∷ []), took_piece (gap_text cost) mid new h.1, subst (λ s. OrPart a s (all_of (gap_text cost ∷ []))) (sym h.0) (gap_of a cost misses, refl))
 gap_puts a cost mid new result misses (inr (inl h)) = gap_stops a cost mid new result misses (inl h.0) h.1
 gap_puts a cost mid new result misses (inr (inr h)) = gap_stops a cost mid new result misses (inr h.0) h.1
 
 -- the same after nothing
-puts_on : (a : Aim) (old mid new : SinkView) (result : Status) → Took nothing old mid → Puts (OrPart a) mid new result → Puts (OrPart a) old new result
+puts_on : (a : Aim) (old mid new : SinkView) (result : Status) → Took nothing old mid
+    → PutsOutWith (OrPart a) mid new result → PutsOutWith (OrPart a) old new result
 puts_on a old mid new result none p = (p.0, took_after [] p.0 old mid new none p.1, p.2)
 
 -- the line that says so, if there was memory for it
 pub gap_ends : {E : Type 0} (a : Aim) {Holds : List (List ℕ) → Type 0} {count : ℕ} (cost : ℕ) (made : Result Bytes E) {old mid : SinkView} (new : SinkView) (result : Status)
-    → Listed a Holds old mid count → ((plans : List (List ℕ)) → Holds plans → (plans ≡ []) × Misses a.task a.mode a.earlier cost)
-    → IfOk made (λ text. text ≡ gap_text cost) → MatchResult made (λ text. Ends status.Gap text mid new result) (λ _. (result ≡ status.Memory) × (new ≡ mid)) → Puts (OrPart a) old new result
+    → Listed a Holds old mid count → ((plans : List (List ℕ)) → Holds plans → (plans ≡ []) × MissesPlan a.task a.mode a.earlier cost)
+    → IfOk made (λ text. text ≡ gap_text cost)
+    → MatchResult made (λ text. EndsWithText status.Gap text mid new result)
+    (λ _. (result ≡ status.Memory) × (new ≡ mid)) → PutsOutWith (OrPart a) old new result
 gap_ends a cost (Ok text) {old = old} {mid = mid} new result l misses is ends =
     let m = misses l.plans l.holds in
-    puts_on a old mid new result (took_none a l.plans old mid m.0 l.took) (gap_puts a cost mid new result m.1 (subst (λ (t : Bytes). Ends status.Gap t mid new result) is ends))
+    puts_on a old mid new result (took_none a l.plans old mid m.0 l.took)
+    (gap_puts a cost mid new result m.1 (subst (λ (t : Bytes). EndsWithText status.Gap t mid new result) is ends))
 gap_ends a cost (Err e) {old = old} new result l misses is ends =
     let m = misses l.plans l.holds in
     let stayed : Took (all_of (list_pieces a l.plans)) old new = subst (λ (v : SinkView). Took (all_of (list_pieces a l.plans)) old v) (sym ends.1) l.took in

@@ -10,7 +10,7 @@ use Rattle.task_system.specs.Computed.{system_of}
 use Rattle.task_system.proofs.RunsLaw.{cost_law}
 use Rattle.task_system.proofs.TraceLaw.{mode_law}
 use Rattle.lazy_plans.proofs.ListLaw.{any_none}
-use Rattle.lazy_plans.specs.Law.{Gave, NoneLeft, Stops}
+use Rattle.lazy_plans.specs.Law.{Gave, NoneLeft, MayStop}
 use Rattle.lazy_plans.specs.declared.stop.Stop.TheVariants.{CostRange}
 use Rattle.plan_out.specs.declared.end.End.{End}
 use Rattle.plan_out.specs.declared.end.End.TheVariants as end
@@ -21,7 +21,7 @@ use Rattle.plan_run.specs.declared.options.Reach.TheVariants.{Percent}
 use Rattle.run_status.specs.declared.status.Status.{Status}
 use Rattle.run_status.specs.declared.status.Status.TheVariants as status
 use Rattle.run_status.specs.Sent.{Sent, nothing, TookFront}
-use Rattle.run_status.specs.Ends.{Ends, FrontOf, Puts}
+use Rattle.run_status.specs.Ends.{EndsWithText, FrontOf, PutsOutWith}
 use Rattle.plan_run.specs.Lists.{aim, end_status, Listing, MayCome, PartListing, WholeOrPart, OrPart}
 use Rattle.plan_run.specs.Reaches.{IsLeastCost, AllDear, NoPlan, IsLimit, IsEndOfNone, MayList, MayPart, OrReached}
 use Rattle.plan_run.proofs.Given.{IsGiven}
@@ -65,7 +65,7 @@ no_gap task mode wanted limit result pieces (inr g) = absurd g.misses.missed.che
 
 -- a list up to a greatest cost, or to none, is one that is asked for
 pub limited_lists : (task : TaskParts) (mode : Mode) (wanted : Wanted) (reach : Reach) (limit : Option ℕ) (old new : SinkView) (result : Status) → IsLimit task reach limit
-    → Puts (OrPart (aim task mode wanted limit)) old new result → Puts (OrReached task mode wanted reach) old new result
+    → PutsOutWith (OrPart (aim task mode wanted limit)) old new result → PutsOutWith (OrReached task mode wanted reach) old new result
 limited_lists task mode wanted reach limit old new result is p = (
   p.0,
   p.1,
@@ -74,7 +74,8 @@ limited_lists task mode wanted reach limit old new result is p = (
 )
 
 -- out of memory, before anything is put
-pub memory_reaches : (task : TaskParts) (mode : Mode) (wanted : Wanted) (reach : Reach) (old : SinkView) → Puts (OrReached task mode wanted reach) old old status.Memory
+pub memory_reaches : (task : TaskParts) (mode : Mode) (wanted : Wanted) (reach : Reach) (old : SinkView)
+    → PutsOutWith (OrReached task mode wanted reach) old old status.Memory
 memory_reaches task mode wanted reach old = (nothing, took_nothing old, inl (inl refl))
 
 -- the line that says why no plan is listed
@@ -90,19 +91,23 @@ stopped_end Whole Part result out (inl e) f = subst (λ s. WholeOrPart Whole Par
 stopped_end Whole Part result out (inr e) f = subst (λ s. WholeOrPart Whole Part s out) (sym e) (inl f)
 
 part_end : (Whole : Status → List Bytes → Type 0) (Part : Sent → Type 0) (why : End) (old new : SinkView) (result : Status) → Whole (end_status why) (end_line why ∷ []) → (result ≡ status.WriteFault) ⊎ (result ≡ status.Memory)
-    → TookFront (end_line why) old new → Puts (WholeOrPart Whole Part) old new result
+    → TookFront (end_line why) old new → PutsOutWith (WholeOrPart Whole Part) old new result
 part_end Whole Part why old new result whole stop took =
     let p = took_front (end_line why) old new took in
     (record { pieces = []; rest = _ }, p.1, stopped_end Whole Part result _ stop (inr (end_status why, end_line why ∷ [], whole, front_of_last [] (end_line why) p.0 _ refl)))
 
-line_puts : (Whole : Status → List Bytes → Type 0) (Part : Sent → Type 0) (why : End) (old new : SinkView) (result : Status) → Whole (end_status why) (end_line why ∷ []) → Ends (end_status why) (end_line why) old new result → Puts (WholeOrPart Whole Part) old new result
+line_puts : (Whole : Status → List Bytes → Type 0) (Part : Sent → Type 0) (why : End) (old new : SinkView)
+    (result : Status) → Whole (end_status why) (end_line why ∷ [])
+    → EndsWithText (end_status why) (end_line why) old new result
+    → PutsOutWith (WholeOrPart Whole Part) old new result
 line_puts Whole Part why old new result whole (inl h) =
     (all_of (end_line why ∷ []), took_piece (end_line why) old new h.1, subst (λ s. WholeOrPart Whole Part s (all_of (end_line why ∷ []))) (sym h.0) (whole_end Whole Part why (end_line why ∷ []) whole))
 line_puts Whole Part why old new result whole (inr (inl h)) = part_end Whole Part why old new result whole (inl h.0) h.1
 line_puts Whole Part why old new result whole (inr (inr h)) = part_end Whole Part why old new result whole (inr h.0) h.1
 
-pub none_lists : (task : TaskParts) (mode : Mode) (wanted : Wanted) (percent : ℕ) (why : End) (old new : SinkView) (result : Status) → IsEndOfNone task why → Ends (end_status why) (end_line why) old new result
-    → Puts (OrReached task mode wanted (Percent percent)) old new result
+pub none_lists : (task : TaskParts) (mode : Mode) (wanted : Wanted) (percent : ℕ) (why : End) (old new : SinkView)
+    (result : Status) → IsEndOfNone task why → EndsWithText (end_status why) (end_line why) old new result
+    → PutsOutWith (OrReached task mode wanted (Percent percent)) old new result
 none_lists task mode wanted percent why old new result is ends =
     line_puts (MayList task mode wanted (Percent percent)) (MayPart task mode wanted (Percent percent)) why old new result (inr (record { ended = why; why = is; says = refl; pieces = refl })) ends
 
@@ -123,7 +128,7 @@ module _ (task : TaskParts) (fits : Fits task) (pends : List ℕ → Type 0) (gi
   pub never_given : NoneLeft (system_of task) None pends → NoPlan task
   never_given none p plan = none p (open_plan p plan)
 
-  pub dear_given : Stops (system_of task) None pends CostRange → AllDear task
+  pub dear_given : MayStop (system_of task) None pends CostRange → AllDear task
   dear_given stops =
       let some = stops.0 in (
         (some.0, (mode_law task TopK some.0 fits).0 ((given.rest some.0).0 some.1).0),

@@ -4,9 +4,9 @@ use Rattle.std.proofs.lemmas.Bool.{ne_eqb}
 use Rattle.symk_task.specs.declared.parts.Mode.{Mode}
 use Rattle.symk_task.specs.declared.parts.TaskParts.{TaskParts}
 use Rattle.symk_task.specs.Fits.{Fits}
-use Rattle.task_system.specs.System.{System, IsPlanOf}
+use Rattle.task_system.specs.System.{System, IsSystemPlanOf}
 use Rattle.task_system.specs.Computed.{system_of}
-use Rattle.lazy_plans.specs.Law.{Fair, Turned, Gave, NoneLeft, Stops, Last}
+use Rattle.lazy_plans.specs.Law.{Fair, Turned, Gave, NoneLeft, MayStop, Last}
 use Rattle.lazy_plans.specs.Rest.{Rest}
 use Rattle.lazy_plans.specs.Asked.{Asked}
 use Rattle.lazy_plans.specs.declared.stop.Stop.{Stop}
@@ -66,7 +66,7 @@ module _ {I : Type 0} (system : I → System) (mode : I → Mode) (most : I → 
 
   -- each that is left is too dear
   pub limit_range : (k n : ℕ) (x z : Limit I) (given : Result (List ℕ) Stop) (stop : Stop) → given ≡ Err stop → stop ≡ CostRange → Stands k n x → n < k → LimitedGives system mode most pends lawful last x (Some given) z
-      → Stops (system_of task) limit (pends x.inner) CostRange
+      → MayStop (system_of task) limit (pends x.inner) CostRange
   limit_range k n x z given stop e f s lt h =
       let stopped = e ∙ ap (λ (t : Stop). Err t) f in
       (subst (λ (r : Result (List ℕ) Stop). Turned (system_of task) wanted limit (pends x.inner) (pends z.inner) (answer_of (Some r))) stopped (limit_turned k n x z (Some given) s lt h)).0
@@ -118,10 +118,13 @@ module _ {I J : Type 0} {system : I → System} {mode : I → Mode} {most : I �
     {system' : J → System} {mode' : J → Mode} {most' : J → Option ℕ} {pends' : J → List ℕ → Type 0} {lawful' : J → Type 0} where
   -- where the engine below owes all, it owes the rest of the list that it goes on from
   pub rest_owed : {task : TaskParts} {wanted : Mode} {limit : Option ℕ} (earlier : List (List ℕ)) {below : I} (a : J) → OwesAll system mode most pends lawful task wanted limit below → lawful' a → system' a ≡ system below
-      → mode' a ≡ wanted → most' a ≡ most below → (((p : List ℕ) → IsPlanOf (system below) wanted p → pends below p) → Rest (system below) wanted earlier (pends' a)) → OwesRest system' mode' most' pends' lawful' task wanted limit earlier a
+      → mode' a ≡ wanted → most' a ≡ most below → (((p : List ℕ) → IsSystemPlanOf (system below) wanted p
+      → pends below p) → Rest (system below) wanted earlier (pends' a))
+      → OwesRest system' mode' most' pends' lawful' task wanted limit earlier a
   rest_owed {wanted = wanted} earlier {below = below} a owes ok same in_mode limited rest =
       let of_task = owes.serves.of_task in
-      let all : (p : List ℕ) → IsPlanOf (system below) wanted p → pends below p = λ p plan. owes.all p (subst (λ (y : System). IsPlanOf y wanted p) of_task plan) in
+      let all : (p : List ℕ) → IsSystemPlanOf (system below) wanted p
+      → pends below p = λ p plan. owes.all p (subst (λ (y : System). IsSystemPlanOf y wanted p) of_task plan) in
       record {
         serves = record { holds = ok; of_task = same ∙ of_task; in_mode = in_mode; limited = limited ∙ owes.serves.limited };
         rest = subst (λ (y : System). Rest y wanted earlier (pends' a)) of_task (rest all);

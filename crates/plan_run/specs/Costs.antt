@@ -21,8 +21,8 @@ pub record HaveCosts (task : TaskParts) (plans : List (List ℕ)) (cheapest dear
   pub all : total ≡ sum (map (cost_of task) plans)
 
 -- no list of fewer than n plans has all of the task whose cost 64 bits hold
-abbrev pub HasMore : TaskParts → ℕ → Type 0
-HasMore task n = (plans : List (List ℕ)) → length plans < n → ¬ AllInRange task TopK plans
+abbrev pub HasMorePlans : TaskParts → ℕ → Type 0
+HasMorePlans task n = (plans : List (List ℕ)) → length plans < n → ¬ AllInRange task TopK plans
 
 -- 20 plans of the task have these costs
 pub record HasPlans (task : TaskParts) (cheapest dearest total : ℕ) : Type 0 where

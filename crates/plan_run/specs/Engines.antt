@@ -2,10 +2,10 @@
 use Rattle.std.specs.Prelude.{◌≡◌, ℕ, List, Option}
 use Rattle.symk_task.specs.declared.parts.Mode.{Mode}
 use Rattle.symk_task.specs.declared.parts.TaskParts.{TaskParts}
-use Rattle.task_system.specs.System.{System, IsPlanOf}
+use Rattle.task_system.specs.System.{System, IsSystemPlanOf}
 use Rattle.task_system.specs.Computed.{system_of}
 use Rattle.lazy_plans.specs.Rest.{Rest}
-use Rattle.class_plans.specs.Members.{HasEach}
+use Rattle.selectors.specs.Members.{HasEachClass}
 
 module _ {I : Type 0} (system : I → System) (mode : I → Mode) (most : I → Option ℕ) (pends : I → List ℕ → Type 0) (lawful : I → Type 0) where
   -- It is lawful, gives plans of the task in a mode, and has this greatest cost, or none.
@@ -18,7 +18,7 @@ module _ {I : Type 0} (system : I → System) (mode : I → Mode) (most : I → 
   -- And it has given none: each plan of the task in the mode pends.
   pub record OwesAll (task : TaskParts) (wanted : Mode) (limit : Option ℕ) (engine : I) : Type 0 where
     pub serves : Serves task wanted limit engine
-    pub all : (p : List ℕ) → IsPlanOf (system_of task) wanted p → pends engine p
+    pub all : (p : List ℕ) → IsSystemPlanOf (system_of task) wanted p → pends engine p
 
   -- Or it has given those of an earlier list: each plan of the task in the mode pends that counts as one with none of them.
   pub record OwesRest (task : TaskParts) (wanted : Mode) (limit : Option ℕ) (earlier : List (List ℕ)) (engine : I) : Type 0 where
@@ -32,4 +32,4 @@ module _ {I : Type 0} (system : I → System) (most : I → Option ℕ) (pends :
     pub holds : lawful engine
     pub of_task : system engine ≡ system_of task
     pub limited : most engine ≡ limit
-    pub each : HasEach (system engine) (pends engine)
+    pub each : HasEachClass (system engine) (pends engine)

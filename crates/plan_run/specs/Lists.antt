@@ -7,9 +7,9 @@ use Rattle.symk_task.specs.Plans.{IsPlanOf, IsListed, IsRight, AllListed, AllInR
 use Rattle.plan_out.specs.declared.end.End.{End}
 use Rattle.plan_out.specs.declared.end.End.TheVariants as end
 use Rattle.plan_out.specs.Texts.{block, end_line}
-use Rattle.plan_run.specs.Missed.{Misses}
+use Rattle.plan_run.specs.Missed.{MissesPlan}
 use Rattle.run_status.specs.Ends.{FrontOf}
-use Rattle.run_status.specs.Sent.{Sent, IsWhole, IsFront}
+use Rattle.run_status.specs.Sent.{Sent, AreWholePieces, IsFrontOfPieces}
 use Rattle.plan_run.specs.Listable.{IsListable}
 use Rattle.plan_run.specs.declared.options.Wanted.{Wanted}
 use Rattle.run_status.specs.declared.status.Status.{Status}
@@ -106,7 +106,7 @@ pub record PartListing (a : Aim) (out : Sent) : Type 0 where
   pub plans : List (List ℕ)
   pub promise : IsListOf a.task a.mode a.limit (a.earlier ++ plans) None
   pub number : length plans ≤ a.wanted.count
-  pub front : IsFront out (list_pieces a plans)
+  pub front : IsFrontOfPieces out (list_pieces a plans)
 
 -- the line that says what the earlier list misses
 unfoldable pub gap_text : ℕ → Bytes
@@ -115,7 +115,7 @@ gap_text cost = codes "plans miss a plan of cost " ++ decimal cost ++ codes "\n"
 -- The earlier list misses a plan, and the one piece says what the cheapest such plan costs.
 pub record Gaps (a : Aim) (result : Status) (out : List Bytes) : Type 0 where
   pub cost : ℕ
-  pub misses : Misses a.task a.mode a.earlier cost
+  pub misses : MissesPlan a.task a.mode a.earlier cost
   pub says : result ≡ status.Gap
   pub pieces : out ≡ gap_text cost ∷ []
 
@@ -127,7 +127,7 @@ MayCome a result out = Listing a result out ⊎ Gaps a result out
 abbrev pub WholeOrPart : (Status → List Bytes → Type 0) → (Sent → Type 0) → Status → Sent → Type 0
 WholeOrPart Whole Part status.WriteFault out = FrontOf Whole out ⊎ Part out
 WholeOrPart Whole Part status.Memory out = FrontOf Whole out ⊎ Part out
-WholeOrPart Whole Part result out = IsWhole (Whole result) out
+WholeOrPart Whole Part result out = AreWholePieces (Whole result) out
 
 -- the list goes out, or a front of it, or what the earlier one misses
 abbrev pub OrPart : Aim → Status → Sent → Type 0

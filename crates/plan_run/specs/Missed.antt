@@ -11,7 +11,7 @@ pub record IsMissed (task : TaskParts) (mode : Mode) (plans : List (List ℕ)) (
   pub cheaper : IsSomeAnd (slice_get plans (length plans - 1)) (λ last. cost_of task p < cost_of task last)
 
 -- The list misses a plan of this cost, and none that is cheaper.
-pub record Misses (task : TaskParts) (mode : Mode) (plans : List (List ℕ)) (cost : ℕ) : Type 0 where
+pub record MissesPlan (task : TaskParts) (mode : Mode) (plans : List (List ℕ)) (cost : ℕ) : Type 0 where
   pub plan : List ℕ
   pub missed : IsMissed task mode plans plan
   pub costs : cost_of task plan ≡ cost

@@ -9,12 +9,11 @@ ghost use Rattle.plan_run.specs.Engines.{OwesAll, KeepsEach};
 
 use crate::choice::Patient;
 use crate::options::{Direction, Search};
-use class_plans::{Classes, LazyMembers};
 use loopless::LooplessPlans;
 use member_plans::MemberPlans;
 use prefix_plans::PrefixPlans;
 use reconstruct::TopPlans;
-use selectors::LazyPlans;
+use selectors::{Classes, LazyMembers, LazyPlans};
 use space_api::Space;
 use std::alloc::Global;
 use symk_task::{Memory, Task};

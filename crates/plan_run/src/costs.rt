@@ -3,7 +3,7 @@
 ghost use Rattle.std.specs.Prelude.{◌≡◌, ◌+◌, ◌^◌, ◌<◌, IfOk, None, min, max};
 ghost use Rattle.symk_task.specs.declared.parts.Mode.TheVariants.{TopK};
 ghost use Rattle.plan_run.specs.Engines.{OwesAll};
-ghost use Rattle.plan_run.specs.Costs.{HasMore, HasPlans};
+ghost use Rattle.plan_run.specs.Costs.{HasMorePlans, HasPlans};
 
 use crate::beginning::top_plans;
 use crate::options::{Direction, Search};
@@ -51,7 +51,7 @@ impl Costs {
 /// What 20 plans cost of an engine that owes all plans of the task.
 fn costs_of<I: LazyPlans + Drop>(alloc: Global, task: &Task, engine: I) -> Result<Costs, Memory>
     requires owes { OwesAll I.system I.mode I.most I.pends I.lawful task.now TopK None engine }
-    requires many { HasMore task.now 20 }
+    requires many { HasMorePlans task.now 20 }
     ensures { IfOk result (λ costs. HasPlans task.now costs.cheapest costs.dearest costs.total) }
 {
     // A task fits.
@@ -75,7 +75,7 @@ fn costs_of<I: LazyPlans + Drop>(alloc: Global, task: &Task, engine: I) -> Resul
 
 /// What the 20 cheapest plans cost of a task that has more, in the direction that is chosen without being asked for.
 pub fn costs_found(alloc: Global, task: &Task) -> Result<Costs, Memory>
-    requires { HasMore task.now 20 }
+    requires { HasMorePlans task.now 20 }
     ensures { IfOk result (λ costs. HasPlans task.now costs.cheapest costs.dearest costs.total) }
 {
     let space = BddSpace::of(alloc, task)?;

@@ -4,7 +4,7 @@ ghost use Rattle.std.specs.Prelude.{◌≡◌, IsFalse};
 ghost use Rattle.symk_task.specs.declared.parts.Mode.TheVariants.{TopK, Unordered, Loopless};
 ghost use Rattle.task_system.specs.Computed.{system_of};
 ghost use Rattle.space_api.specs.View.{View};
-ghost use Rattle.run_status.specs.Ends.{HasCauses, Puts};
+ghost use Rattle.run_status.specs.Ends.{HasCauses, PutsOutWith};
 ghost use Rattle.plan_run.specs.Engines.{OwesAll};
 ghost use Rattle.plan_run.specs.Jobs.{IsLawfulJob, aim_of};
 ghost use Rattle.plan_run.specs.Lists.{OrPart};
@@ -25,7 +25,7 @@ use symk_task::Mode;
 /// cheapest such plan costs.
 pub fn list_found<K: Sink>(alloc: Global, job: Job<'_>, sink: &mut K) -> Status
     requires { IsLawfulJob job }
-    ensures lists { Puts (OrPart (aim_of job.entry)) (K.view sink.old) (K.view sink.new) result }
+    ensures lists { PutsOutWith (OrPart (aim_of job.entry)) (K.view sink.old) (K.view sink.new) result }
     ensures causes { HasCauses result 0 0 (K.view sink.old).faults (K.view sink.new).faults }
 {
     let Ok(space) = BddSpace::of(alloc, job.task) else {
@@ -50,7 +50,7 @@ fn list_loopless<S: Space + Drop, K: Sink>(
     requires none { (a : S.Set) → IsFalse ((S.view space).valid a) }
     requires lawful { IsLawfulJob job }
     requires mode { job.mode ≡ Loopless }
-    ensures lists { Puts (OrPart (aim_of job.entry)) (K.view sink.old) (K.view sink.new) result }
+    ensures lists { PutsOutWith (OrPart (aim_of job.entry)) (K.view sink.old) (K.view sink.new) result }
     ensures causes { HasCauses result 0 0 (K.view sink.old).faults (K.view sink.new).faults }
 {
     match loopless_plans(alloc, job.task, job.search, space, job.limit) {
@@ -66,7 +66,7 @@ fn list_all<S: Space + Drop, K: Sink>(alloc: Global, job: Job<'_>, space: S, sin
     requires none { (a : S.Set) → IsFalse ((S.view space).valid a) }
     requires lawful { IsLawfulJob job }
     requires mode { job.mode ≡ TopK }
-    ensures lists { Puts (OrPart (aim_of job.entry)) (K.view sink.old) (K.view sink.new) result }
+    ensures lists { PutsOutWith (OrPart (aim_of job.entry)) (K.view sink.old) (K.view sink.new) result }
     ensures causes { HasCauses result 0 0 (K.view sink.old).faults (K.view sink.new).faults }
 {
     if costs_are_wide(job.task) {
@@ -94,7 +94,7 @@ fn list_classes<S: Space + Drop, K: Sink>(
     requires none { (a : S.Set) → IsFalse ((S.view space).valid a) }
     requires lawful { IsLawfulJob job }
     requires mode { job.mode ≡ Unordered }
-    ensures lists { Puts (OrPart (aim_of job.entry)) (K.view sink.old) (K.view sink.new) result }
+    ensures lists { PutsOutWith (OrPart (aim_of job.entry)) (K.view sink.old) (K.view sink.new) result }
     ensures causes { HasCauses result 0 0 (K.view sink.old).faults (K.view sink.new).faults }
 {
     match class_plans(alloc, job.task, job.search, space, job.limit) {
@@ -112,7 +112,7 @@ fn list_rest<I: LazyPlans + Drop, K: Sink>(
 ) -> Status
     requires owes { OwesAll I.system I.mode I.most I.pends I.lawful job.task.now job.mode job.limit engine }
     requires lawful { IsLawfulJob job }
-    ensures lists { Puts (OrPart (aim_of job.entry)) (K.view sink.old) (K.view sink.new) result }
+    ensures lists { PutsOutWith (OrPart (aim_of job.entry)) (K.view sink.old) (K.view sink.new) result }
     ensures causes { HasCauses result 0 0 (K.view sink.old).faults (K.view sink.new).faults }
 {
     match After::new(alloc, engine, job.mode, &job.earlier.plans) {

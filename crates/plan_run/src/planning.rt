@@ -3,7 +3,7 @@
 ghost use Rattle.std.specs.Prelude.{◌≡◌, ◌⊎◌, ◌↔◌, IfOk, IfErr, IsTrue, OnOk, OnErr};
 ghost use Rattle.symk_task.specs.Plans.{IsUnit, cost_of};
 ghost use Rattle.plan_out.specs.Texts.{block as block_text, end_line as end_text};
-ghost use Rattle.run_status.specs.Ends.{Ends, HasCauses, Puts};
+ghost use Rattle.run_status.specs.Ends.{EndsWithText, HasCauses, PutsOutWith};
 ghost use Rattle.plan_run.specs.Engines.{OwesRest};
 ghost use Rattle.plan_run.specs.Jobs.{IsLawfulJob, aim_of};
 ghost use Rattle.run_status.specs.Sent.{TookPiece, TookFront};
@@ -34,7 +34,7 @@ pub fn list_plans<I: LazyPlans + Drop, K: Sink>(
     requires owes { OwesRest I.system I.mode I.most I.pends I.lawful
         job.task.now job.mode job.limit job.earlier.now.plans engine }
     requires lawful { IsLawfulJob job }
-    ensures lists { Puts (OrPart (aim_of job.entry)) (K.view sink.old) (K.view sink.new) result }
+    ensures lists { PutsOutWith (OrPart (aim_of job.entry)) (K.view sink.old) (K.view sink.new) result }
     ensures causes { HasCauses result 0 0 (K.view sink.old).faults (K.view sink.new).faults }
 {
     let Job {
@@ -131,7 +131,7 @@ fn put_block<K: Sink>(
 
 /// Puts the line that ends a list.
 pub fn end_list<K: Sink>(alloc: Global, sink: &mut K, why: End) -> Status
-    ensures ends { Ends (end_status why) (end_text why) (K.view sink.old) (K.view sink.new) result }
+    ensures ends { EndsWithText (end_status why) (end_text why) (K.view sink.old) (K.view sink.new) result }
     ensures causes { HasCauses result 0 0 (K.view sink.old).faults (K.view sink.new).faults }
 {
     match end_line(alloc, why) {

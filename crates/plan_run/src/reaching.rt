@@ -2,7 +2,7 @@
 
 ghost use Rattle.std.specs.Prelude.{◌≡◌, ◌≤◌, ◌<◌, ◌^◌, IfOk, IfSome};
 ghost use Rattle.symk_task.specs.declared.parts.Mode.TheVariants.{TopK};
-ghost use Rattle.run_status.specs.Ends.{HasCauses, Puts};
+ghost use Rattle.run_status.specs.Ends.{HasCauses, PutsOutWith};
 ghost use Rattle.plan_run.specs.Engines.{OwesAll};
 ghost use Rattle.plan_run.specs.Lists.{OrPart, aim};
 ghost use Rattle.plan_run.specs.Reaches.{OrReached, HasLeast, IsNear, share};
@@ -46,7 +46,7 @@ pub fn list_reached<K: Sink>(
     requires least { 1 ≤ wanted.count }
     requires count { wanted.count ≤ 1000000000 }
     requires near { IsNear reach }
-    ensures lists { Puts (OrReached task.now mode wanted reach) (K.view sink.old) (K.view sink.new) result }
+    ensures lists { PutsOutWith (OrReached task.now mode wanted reach) (K.view sink.old) (K.view sink.new) result }
     ensures causes { HasCauses result 0 0 (K.view sink.old).faults (K.view sink.new).faults }
 {
     match reach {
@@ -77,7 +77,7 @@ fn list_first<K: Sink>(
     requires least { 1 ≤ wanted.count }
     requires count { wanted.count ≤ 1000000000 }
     requires limit { IfSome limit (λ most. most < 2 ^ 64) }
-    ensures lists { Puts (OrPart (aim task.now mode wanted limit)) (K.view sink.old) (K.view sink.new) result }
+    ensures lists { PutsOutWith (OrPart (aim task.now mode wanted limit)) (K.view sink.old) (K.view sink.new) result }
     ensures causes { HasCauses result 0 0 (K.view sink.old).faults (K.view sink.new).faults }
 {
     let earlier = Earlier::none(alloc);

@@ -7,15 +7,15 @@ use Rattle.std.proofs.lemmas.Bool.Decides.{nat_tests}
 use Rattle.std.proofs.lemmas.List.Sums.{sum_by-cons}
 use Rattle.space_api.specs.View.{View}
 use Rattle.cost_to_go.specs.declared.search.CostToGo.{CostToGo}
-use Rattle.prefix_laws.specs.Queue.{Replaced}
+use Rattle.lazy_plans.specs.Queue.{Replaced}
 use Rattle.prefix_tree.specs.Order.{IsNoLater}
 use Rattle.prefix_tree.specs.declared.tree.Node.{Node}
 use Rattle.prefix_tree.specs.declared.entry.Entry.{Entry}
-use Rattle.prefix_ends.specs.Left.{Known}
-use Rattle.prefix_ends.specs.Children.{IsEntry, outdated}
-use Rattle.prefix_ends.specs.Standing.{all_outdated}
-use Rattle.prefix_ends.proofs.Dating.{outdated_replaced}
-use Rattle.prefix_plans.specs.Standing.{farness, farthest, nearest, work}
+use Rattle.prefix_plans.specs.Left.{KnownToGo}
+use Rattle.prefix_plans.specs.EndChildren.{IsEndEntry, outdated}
+use Rattle.prefix_plans.specs.EndStanding.{all_outdated}
+use Rattle.prefix_plans.proofs.Dating.{outdated_replaced}
+use Rattle.prefix_plans.specs.Standing.{farness, farthest, nearest, prefix_work}
 
 next_times : (a b c : ℕ) → a < b → a * c + c ≤ b * c
 next_times a b c lt = grind (arith, mul-le-mul_right c lt)
@@ -48,12 +48,12 @@ module _ (D R : ℕ) where
 same_or : (a b : ℕ) → a ≤ b → (a < b) ⊎ (a ≡ b)
 same_or a b le = grind arith
 
-far_below : {Set : Type 0} (v : View Set) (f : CostToGo Set) (nodes : List Node) (e : Entry) → IsEntry v f nodes e → farness e < farthest
+far_below : {Set : Type 0} (v : View Set) (f : CostToGo Set) (nodes : List Node) (e : Entry) → IsEndEntry v f nodes e → farness e < farthest
 far_below v f nodes e z = far_most (2 ^ 64 + 1) (2 ^ 64) e.bound.0 (e.bound.0 - e.cost) e.ring.0 (2 ^ 128) z.range (omega (arith, z.span)) z.ring
 
 -- an entry that is handed out no later is no farther
-no_farther : {Set : Type 0} (v : View Set) (f : CostToGo Set) (nodes : List Node) (e k : Entry) → IsEntry v f nodes e
-    → IsEntry v f nodes k → IsNoLater e k → farness e ≤ farness k
+no_farther : {Set : Type 0} (v : View Set) (f : CostToGo Set) (nodes : List Node) (e k : Entry) → IsEndEntry v f nodes e
+    → IsEndEntry v f nodes k → IsNoLater e k → farness e ≤ farness k
 no_farther v f nodes e k z w (inl less) =
     let l = far_first (2 ^ 64 + 1) (2 ^ 64) e.bound.0 k.bound.0 (e.bound.0 - e.cost) (k.bound.0 - k.cost) e.ring.0
     k.ring.0 less (omega (arith, z.span)) z.ring in
@@ -141,12 +141,12 @@ none_nearer n (e ∷ es) top a = min_both (farness e) (nearest es) n a.0 (none_n
 
 -- the first entry is the nearest
 module _ {Set : Type 0} (v : View Set) (f : CostToGo Set) (nodes : List Node) where
-  none_before : (e : Entry) (es : List Entry) → IsEntry v f nodes e → AllByRecursion (IsEntry v f nodes) es
+  none_before : (e : Entry) (es : List Entry) → IsEndEntry v f nodes e → AllByRecursion (IsEndEntry v f nodes) es
       → AllByRecursion (IsNoLater e) es → AllByRecursion (λ k. farness e ≤ farness k) es
   none_before e [] z a b = tt
   none_before e (k ∷ es) z a b = (no_farther v f nodes e k z a.0 b.0, none_before e es z a.1 b.1)
 
-  pub first_nearest : (e : Entry) (es : List Entry) → IsEntry v f nodes e → AllByRecursion (IsEntry v f nodes) es
+  pub first_nearest : (e : Entry) (es : List Entry) → IsEndEntry v f nodes e → AllByRecursion (IsEndEntry v f nodes) es
       → AllByRecursion (IsNoLater e) es → farness e ≤ nearest es
   first_nearest e es z a b = none_nearer (farness e) es (weaker (farness e) farthest (far_below v f nodes e z)) (none_before e es z a b)
     where
@@ -157,9 +157,9 @@ near_replaced : (n : ℕ) (es kids new : List Entry) (e : Entry) → Replaced es
 near_replaced n es kids new e taken = rw (near_sum n es, near_sum n kids, near_sum n new) (taken (one_near n))
 
 -- e gave way to its children, of which none is out of date and one is nearer
-pub open_less : (known : Known) (es kids new : List Entry) (e : Entry) → Replaced es kids e new
+pub open_less : (known : KnownToGo) (es kids new : List Entry) (e : Entry) → Replaced es kids e new
     → farness e ≤ nearest es → outdated known e ≡ 0 → all_outdated known kids ≡ 0 → 0 < near (farness e) kids
-    → work known new < work known es
+    → prefix_work known new < prefix_work known es
 open_less known es kids new e taken first own fresh nearer =
     up_to (all_outdated known new) (all_outdated known es) (nearest new) (nearest es) (farthest + 1)
     (few (all_outdated known es) (all_outdated known kids) (outdated known e) (all_outdated known new) (outdated_replaced known es kids new e taken) fresh)
@@ -181,8 +181,8 @@ open_less known es kids new e taken first own fresh nearer =
     many o k s n h z lt = omega (arith, h, z, lt)
 
 -- e gave way to what is known of it now
-pub learn_less : (known : Known) (es others new : List Entry) (e : Entry) → Replaced es others e new
-    → outdated known e ≡ 1 → all_outdated known others ≡ 0 → work known new < work known es
+pub learn_less : (known : KnownToGo) (es others new : List Entry) (e : Entry) → Replaced es others e new
+    → outdated known e ≡ 1 → all_outdated known others ≡ 0 → prefix_work known new < prefix_work known es
 learn_less known es others new e taken own fresh =
     lex (all_outdated known new) (all_outdated known es) (nearest new) (nearest es) (farthest + 1)
     (fewer (all_outdated known es) (all_outdated known others) (outdated known e) (all_outdated known new)

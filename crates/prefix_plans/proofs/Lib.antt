@@ -6,3 +6,12 @@ pub mod Ranging
 pub mod Walking
 pub mod Asks
 pub mod First
+pub mod Ranking
+pub mod Moving
+pub mod EndsGrowing
+pub mod Reaching
+pub mod Bettering
+pub mod Dating
+pub mod Replacing
+pub mod Dearest
+pub mod EndsFirst

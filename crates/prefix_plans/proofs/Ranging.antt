@@ -9,17 +9,17 @@ use Rattle.task_system.specs.System.{State, System}
 use Rattle.lazy_plans.specs.Law.{NoneLeft}
 use Rattle.lazy_plans.specs.Law as law
 use Rattle.lazy_plans.proofs.Given.{stays_trans}
-use Rattle.prefix_laws.specs.Queue.{Hopeless, Replaced, Right, Pending}
-use Rattle.prefix_laws.proofs.Traces.{leads_on, stuck}
-use Rattle.prefix_laws.proofs.Turns as turns
-use Rattle.prefix_tree.specs.StateGraph.{state_at}
-use Rattle.prefix_tree.specs.Tree.{IsTree, path_at, number_at}
+use Rattle.lazy_plans.specs.Queue.{Hopeless, Replaced, Right, Pending}
+use Rattle.lazy_plans.proofs.Traces.{leads_on, stuck}
+use Rattle.lazy_plans.proofs.Turns as turns
+use Rattle.prefix_tree.specs.StateGraph.{numbered_state}
+use Rattle.prefix_tree.specs.Tree.{IsTree, path_at, state_number_at}
 use Rattle.prefix_tree.specs.Entries.{prefixes}
 use Rattle.prefix_tree.specs.declared.tree.Node.{Node}
 use Rattle.prefix_tree.specs.declared.entry.Entry.{Entry}
 use Rattle.prefix_tree.proofs.Entries.{first_is, first_in, replaced_by, each_new}
-use Rattle.prefix_ends.specs.Leading.{GoesOnFrom, IsDear}
-use Rattle.prefix_ends.proofs.Dearest.{bounds_dear}
+use Rattle.prefix_plans.specs.Leading.{GoesOnFrom, IsDear}
+use Rattle.prefix_plans.proofs.Dearest.{bounds_dear}
 use Rattle.prefix_plans.specs.Standing.{KeepsPending}
 use Rattle.prefix_plans.specs.Turned.{TellsLeft}
 
@@ -27,7 +27,7 @@ pub keeps_all : (y : System) (most : Option ℕ) (ps : List (List ℕ)) → Righ
 keeps_all y most ps right = record { right = right; stays = λ q. ((λ h. h), (λ h. h)) }
 
 none_left : (y : System) (nodes : List Node) (old new : List Entry)
-    → law.Stays (Pending y TopK (prefixes nodes old)) (Pending y TopK (prefixes nodes new)) → new ≡ []
+    → law.PendsAlike (Pending y TopK (prefixes nodes old)) (Pending y TopK (prefixes nodes new)) → new ≡ []
     → NoneLeft y None (Pending y TopK (prefixes nodes old))
 none_left y nodes old new stays none q h =
     let now = subst (λ (es : List Entry). Pending y TopK (prefixes nodes es) q) none ((stays q).1 h) in
@@ -60,8 +60,8 @@ module _ (y : System) (ss : List State) (nodes : List Node) (z : IsTree y TopK s
       lost : Hopeless y TopK (path_at nodes e.node)
       lost =
           let n = z.each e.node dear_inside in
-          stuck y TopK (path_at nodes e.node) (state_at ss (number_at nodes e.node)) n.runs
-          (λ q t run goal. off (state_at ss (number_at nodes e.node), n.runs, (q, t, run, goal)))
+          stuck y TopK (path_at nodes e.node) (numbered_state ss (state_number_at nodes e.node)) n.runs
+          (λ q t run goal. off (numbered_state ss (state_number_at nodes e.node), n.runs, (q, t, run, goal)))
 
       taken : Replaced (prefixes nodes es) [] (path_at nodes e.node) (prefixes nodes new)
       taken = replaced_by es [] new e gone nodes

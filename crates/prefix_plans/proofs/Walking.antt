@@ -11,20 +11,20 @@ use Rattle.lazy_plans.specs.declared.stop.Stop.TheVariants.{Memory, CostRange}
 use Rattle.lazy_plans.proofs.Given.{turned_from, stays_trans}
 use Rattle.cost_to_go.specs.Standing.{next_key_of}
 use Rattle.cost_to_go.specs.declared.search.CostToGo.{CostToGo}
-use Rattle.prefix_laws.specs.Queue.{Right, Pending}
-use Rattle.prefix_laws.proofs.Owed.{memory_stops}
-use Rattle.prefix_laws.proofs.Turns as turns
-use Rattle.prefix_tree.specs.Entries.{entries_of}
+use Rattle.lazy_plans.specs.Queue.{Right, Pending}
+use Rattle.lazy_plans.proofs.Owed.{memory_stops}
+use Rattle.lazy_plans.proofs.Turns as turns
+use Rattle.prefix_tree.specs.Entries.{queued_entries}
 use Rattle.prefix_tree.specs.declared.entry.Entry.{Entry}
 use Rattle.prefix_tree.specs.declared.queue.Queue.{Queue}
 use Rattle.prefix_tree.proofs.Entries.{first_is}
-use Rattle.prefix_ends.specs.Left.{Known, known_of}
-use Rattle.prefix_ends.specs.Children.{IsEntry}
-use Rattle.prefix_ends.proofs.Moving.{ready_stays}
-use Rattle.prefix_ends.proofs.Dearest.{bounds_past, something_waits}
-use Rattle.prefix_plans.specs.Standing.{waiting, Stands, IsFirst, KeepsPending}
+use Rattle.prefix_plans.specs.Left.{KnownToGo, known_to_go}
+use Rattle.prefix_plans.specs.EndChildren.{IsEndEntry}
+use Rattle.prefix_plans.proofs.Moving.{ready_stays}
+use Rattle.prefix_plans.proofs.Dearest.{bounds_past, something_waits}
+use Rattle.prefix_plans.specs.Standing.{waiting_prefixes, PrefixFrontStands, IsPrefixFirst, KeepsPending}
 use Rattle.prefix_plans.specs.declared.front.Front.{Front}
-use Rattle.prefix_plans.specs.Turned.{Acts, TurnOf, HaltsAt}
+use Rattle.prefix_plans.specs.Turned.{Acts, IsPrefixTurn, HaltsAt}
 use Rattle.prefix_plans.specs.declared.walk.Halt.{Halt}
 use Rattle.prefix_plans.specs.declared.walk.Halt.TheVariants.{Gives, Waits, Ends, OutOfRange}
 use Rattle.prefix_plans.proofs.Ranging.{keeps_all}
@@ -40,42 +40,42 @@ keeps_trans {y} {most} {a} {b} {c} k h = record {
 }
 
 -- each entry is dearer than what is wanted
-pub past_ends : {Set : Type 0} (v : View Set) (f : CostToGo Set) (known : Known) (most : Option ℕ) (m : ℕ) (x : Front)
-    → most ≡ Some m → Stands v f x → AllByRecursion (λ (k : Entry). top most < k.bound.0) (entries_of x.queue)
-    → Right v.system TopK most (waiting x)
-    → HaltsAt v.system known most (waiting x) (waiting x) Ends
+pub past_ends : {Set : Type 0} (v : View Set) (f : CostToGo Set) (known : KnownToGo) (most : Option ℕ) (m : ℕ) (x : Front)
+    → most ≡ Some m → PrefixFrontStands v f x → AllByRecursion (λ (k : Entry). top most < k.bound.0) (queued_entries x.queue)
+    → Right v.system TopK most (waiting_prefixes x)
+    → HaltsAt v.system known most (waiting_prefixes x) (waiting_prefixes x) Ends
 past_ends v f known None m x is z dear right = absurd (none_some is)
   where
     none_some : None ≡ Some m → ⊥
     none_some e = cc
 past_ends v f known (Some n) m x is z dear right = (
-  keeps_all v.system (Some n) (waiting x) right,
-  turns.past v.system TopK n (n + 1) (waiting x) (bounds_past v f x.tree.items n (entries_of x.queue) z.each dear) (omega arith),
+  keeps_all v.system (Some n) (waiting_prefixes x) right,
+  turns.past v.system TopK n (n + 1) (waiting_prefixes x) (bounds_past v f x.tree.items n (queued_entries x.queue) z.each dear) (omega arith),
 )
 
 -- what was done with the first entry is a turn
 module _ {Set : Type 0} (v : View Set) (f : CostToGo Set) (most : Option ℕ) (e : Entry) (x w : Front)
-    (z : Stands v f x) (first : IsFirst e (entries_of x.queue)) (cheap : e.bound.0 ≤ top most)
-    (range : top most < 2 ^ 64) (right : Right v.system TopK most (waiting x)) where
-  turn_acts : (o : Option Halt) → Acts v f e x w o → TurnOf v.system (known_of f) most x w o
+    (z : PrefixFrontStands v f x) (first : IsPrefixFirst e (queued_entries x.queue)) (cheap : e.bound.0 ≤ top most)
+    (range : top most < 2 ^ 64) (right : Right v.system TopK most (waiting_prefixes x)) where
+  turn_acts : (o : Option Halt) → Acts v f e x w o → IsPrefixTurn v.system (known_to_go f) most x w o
   turn_acts None h = h most right
   turn_acts (Some (Gives p)) h =
-      let k = first_is (IsEntry v f x.tree.items) (entries_of x.queue) e first.some first.first z.each in
+      let k = first_is (IsEndEntry v f x.tree.items) (queued_entries x.queue) e first.some first.first z.each in
       h most right (omega (arith, k.least, cheap))
   turn_acts (Some Waits) h = (
-    keeps_same v.system most (waiting x) (waiting w) right (ap waiting h.0),
+    keeps_same v.system most (waiting_prefixes x) (waiting_prefixes w) right (ap waiting_prefixes h.0),
     something_waits
         (next_key_of f) e.cost e.bound.0 (top most) cheap range (λ lt. h.1 (inr lt)),
   )
   turn_acts (Some Ends) h = absurd h
   turn_acts (Some OutOfRange) h = absurd h
 
-  pub acts_ok : {E : Type 0} (r : Result (Option Halt) E) → IfOk r (Acts v f e x w) → IfOk r (TurnOf v.system (known_of f) most x w)
+  pub acts_ok : {E : Type 0} (r : Result (Option Halt) E) → IfOk r (Acts v f e x w) → IfOk r (IsPrefixTurn v.system (known_to_go f) most x w)
   acts_ok (Ok o) h = turn_acts o h
   acts_ok (Err u) h = h
 
 -- after turns that went on
-module _ {y : System} {most : Option ℕ} {a b : List (List ℕ)} (known : Known) (c : List (List ℕ)) (keeps : KeepsPending y most a b) where
+module _ {y : System} {most : Option ℕ} {a b : List (List ℕ)} (known : KnownToGo) (c : List (List ℕ)) (keeps : KeepsPending y most a b) where
   turned : (r : Result (Option (List ℕ)) Stop) → Turned y TopK most (Pending y TopK b) (Pending y TopK c) r
       → Turned y TopK most (Pending y TopK a) (Pending y TopK c) r
   turned r h = turned_from y TopK most (Pending y TopK a) (Pending y TopK b) (Pending y TopK c) r keeps.stays h
@@ -87,15 +87,15 @@ module _ {y : System} {most : Option ℕ} {a b : List (List ℕ)} (known : Known
   halts_after OutOfRange h = (keeps_trans keeps h.0, (turned (Err CostRange) (h.1, h.0.stays)).0)
 
 -- the same, of turns whose system is known to be the same
-pub halts_same : {x y : System} {most : Option ℕ} {a b : List (List ℕ)} (known : Known) (c : List (List ℕ))
+pub halts_same : {x y : System} {most : Option ℕ} {a b : List (List ℕ)} (known : KnownToGo) (c : List (List ℕ))
     (halt : Halt) → x ≡ y → KeepsPending y most a b → HaltsAt x known most b c halt → HaltsAt y known most a c halt
 halts_same {x} {y} {most} {a} {b} known c halt same keeps h = halts_after known c keeps halt (subst (λ (z : System). HaltsAt z known most b c halt) same h)
 
 -- the queue has other entries, and the space other sets
 pub ready_left : {Set : Type 0} (v w : View Set) (f : CostToGo Set) (x : Front) (q : Queue) → frames.Stays v w
-    → Stands v f x → (AllByRecursion (IsEntry v f x.tree.items) (entries_of x.queue)
-    → AllByRecursion (IsEntry v f x.tree.items) (entries_of q)) → Stands w f (record x { queue = q })
-ready_left v w f x q stays z each = ready_stays v w f x.graph x.tree.items (entries_of q) stays
+    → PrefixFrontStands v f x → (AllByRecursion (IsEndEntry v f x.tree.items) (queued_entries x.queue)
+    → AllByRecursion (IsEndEntry v f x.tree.items) (queued_entries q)) → PrefixFrontStands w f (record x { queue = q })
+ready_left v w f x q stays z each = ready_stays v w f x.graph x.tree.items (queued_entries q) stays
     (record { alone = z.alone; graph = z.graph; tree = z.tree; each = each z.each })
 
 -- memory was refused

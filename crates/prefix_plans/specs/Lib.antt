@@ -3,3 +3,9 @@ pub mod Standing
 pub mod Turned
 pub mod Sound
 pub mod Engine
+pub mod Left
+pub mod Reach
+pub mod EndChildren
+pub mod EndStanding
+pub mod Leading
+pub mod Owned

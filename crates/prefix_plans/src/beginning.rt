@@ -2,16 +2,15 @@
 
 ghost use Rattle.std.specs.Prelude.{◌≡◌, IfOk, None, Some};
 ghost use Rattle.space_api.specs.View.{View, Valid};
-ghost use Rattle.prefix_ends.specs.Owned.{HasNone, HasAlone, HasUseful};
-ghost use Rattle.prefix_plans.specs.Engine.{system_of, most_of, ended_of, IsEngine, OwesAll};
+ghost use Rattle.prefix_plans.specs.Owned.{HasNoSet, IsOnlyValid, CoversUseful};
+ghost use Rattle.prefix_plans.specs.Engine.{prefix_system, prefix_most, prefix_ended, IsPrefixEngine, OwesAllPrefix};
 
 use crate::engine::PrefixPlans;
 use crate::front::Front;
+use crate::ranks::Ranks;
 use cost_to_go::CostToGo;
-use prefix_ends::Ranks;
 use prefix_tree::{Entry, Node, Queue, StateGraph, number_of_start};
-use single_states::goal_at;
-use space_api::Space;
+use space_api::{Space, goal_at};
 use std::alloc::Global;
 use std::cmp::Reverse;
 use symk_task::Memory;
@@ -28,13 +27,13 @@ impl<S: Space + Drop> PrefixPlans<S> {
         within: S::Set,
     ) -> Result<PrefixPlans<S>, Memory>
         requires within { Valid (S.view space) within }
-        requires alone { HasAlone (S.view space) within }
-        requires wide { HasUseful (S.view space) within }
-        ensures lawful { IfOk result (λ x. IsEngine S.view x) }
-        ensures system { IfOk result (λ x. system_of S.view x ≡ (S.view space).system) }
-        ensures all { IfOk result (λ x. OwesAll S.view (S.view space).system x) }
-        ensures most { IfOk result (λ x. most_of x ≡ most) }
-        ensures last { IfOk result (λ x. ended_of x ≡ None) }
+        requires alone { IsOnlyValid (S.view space) within }
+        requires wide { CoversUseful (S.view space) within }
+        ensures lawful { IfOk result (λ x. IsPrefixEngine S.view x) }
+        ensures system { IfOk result (λ x. prefix_system S.view x ≡ (S.view space).system) }
+        ensures all { IfOk result (λ x. OwesAllPrefix S.view (S.view space).system x) }
+        ensures most { IfOk result (λ x. prefix_most x ≡ most) }
+        ensures last { IfOk result (λ x. prefix_ended x ≡ None) }
     {
         let mut space = space;
         let search = CostToGo::new(alloc, &mut space, within)?;
@@ -77,13 +76,13 @@ impl<S: Space + Drop> PrefixPlans<S> {
     /// The search is kept to `within`, which the caller knows to have each useful state and to be the one valid set.
     pub fn new_within(alloc: Global, space: S, within: S::Set) -> Result<PrefixPlans<S>, Memory>
         requires within { Valid (S.view space) within }
-        requires alone { HasAlone (S.view space) within }
-        requires wide { HasUseful (S.view space) within }
-        ensures lawful { IfOk result (λ x. IsEngine S.view x) }
-        ensures system { IfOk result (λ x. system_of S.view x ≡ (S.view space).system) }
-        ensures all { IfOk result (λ x. OwesAll S.view (S.view space).system x) }
-        ensures most { IfOk result (λ x. most_of x ≡ None) }
-        ensures last { IfOk result (λ x. ended_of x ≡ None) }
+        requires alone { IsOnlyValid (S.view space) within }
+        requires wide { CoversUseful (S.view space) within }
+        ensures lawful { IfOk result (λ x. IsPrefixEngine S.view x) }
+        ensures system { IfOk result (λ x. prefix_system S.view x ≡ (S.view space).system) }
+        ensures all { IfOk result (λ x. OwesAllPrefix S.view (S.view space).system x) }
+        ensures most { IfOk result (λ x. prefix_most x ≡ None) }
+        ensures last { IfOk result (λ x. prefix_ended x ≡ None) }
     {
         PrefixPlans::begin(alloc, space, None, within)
     }
@@ -96,25 +95,25 @@ impl<S: Space + Drop> PrefixPlans<S> {
         within: S::Set,
     ) -> Result<PrefixPlans<S>, Memory>
         requires within { Valid (S.view space) within }
-        requires alone { HasAlone (S.view space) within }
-        requires wide { HasUseful (S.view space) within }
-        ensures lawful { IfOk result (λ x. IsEngine S.view x) }
-        ensures system { IfOk result (λ x. system_of S.view x ≡ (S.view space).system) }
-        ensures all { IfOk result (λ x. OwesAll S.view (S.view space).system x) }
-        ensures most { IfOk result (λ x. most_of x ≡ Some most) }
-        ensures last { IfOk result (λ x. ended_of x ≡ None) }
+        requires alone { IsOnlyValid (S.view space) within }
+        requires wide { CoversUseful (S.view space) within }
+        ensures lawful { IfOk result (λ x. IsPrefixEngine S.view x) }
+        ensures system { IfOk result (λ x. prefix_system S.view x ≡ (S.view space).system) }
+        ensures all { IfOk result (λ x. OwesAllPrefix S.view (S.view space).system x) }
+        ensures most { IfOk result (λ x. prefix_most x ≡ Some most) }
+        ensures last { IfOk result (λ x. prefix_ended x ≡ None) }
     {
         PrefixPlans::begin(alloc, space, Some(most), within)
     }
 
     /// The same inside all states, with the greatest cost that is wanted, if there is one.
     fn begin_anywhere(alloc: Global, space: S, most: Option<u64>) -> Result<PrefixPlans<S>, Memory>
-        requires { HasNone (S.view space) }
-        ensures lawful { IfOk result (λ x. IsEngine S.view x) }
-        ensures system { IfOk result (λ x. system_of S.view x ≡ (S.view space).system) }
-        ensures all { IfOk result (λ x. OwesAll S.view (S.view space).system x) }
-        ensures most { IfOk result (λ x. most_of x ≡ most) }
-        ensures last { IfOk result (λ x. ended_of x ≡ None) }
+        requires { HasNoSet (S.view space) }
+        ensures lawful { IfOk result (λ x. IsPrefixEngine S.view x) }
+        ensures system { IfOk result (λ x. prefix_system S.view x ≡ (S.view space).system) }
+        ensures all { IfOk result (λ x. OwesAllPrefix S.view (S.view space).system x) }
+        ensures most { IfOk result (λ x. prefix_most x ≡ most) }
+        ensures last { IfOk result (λ x. prefix_ended x ≡ None) }
     {
         let mut space = space;
         let within = space.all()?;
@@ -125,24 +124,24 @@ impl<S: Space + Drop> PrefixPlans<S> {
     ///
     /// The caller knows that no set of the space is valid yet.
     pub fn new(alloc: Global, space: S) -> Result<PrefixPlans<S>, Memory>
-        requires { HasNone (S.view space) }
-        ensures lawful { IfOk result (λ x. IsEngine S.view x) }
-        ensures system { IfOk result (λ x. system_of S.view x ≡ (S.view space).system) }
-        ensures all { IfOk result (λ x. OwesAll S.view (S.view space).system x) }
-        ensures most { IfOk result (λ x. most_of x ≡ None) }
-        ensures last { IfOk result (λ x. ended_of x ≡ None) }
+        requires { HasNoSet (S.view space) }
+        ensures lawful { IfOk result (λ x. IsPrefixEngine S.view x) }
+        ensures system { IfOk result (λ x. prefix_system S.view x ≡ (S.view space).system) }
+        ensures all { IfOk result (λ x. OwesAllPrefix S.view (S.view space).system x) }
+        ensures most { IfOk result (λ x. prefix_most x ≡ None) }
+        ensures last { IfOk result (λ x. prefix_ended x ≡ None) }
     {
         PrefixPlans::begin_anywhere(alloc, space, None)
     }
 
     /// The same, with the greatest cost that is wanted.
     pub fn within(alloc: Global, space: S, most: u64) -> Result<PrefixPlans<S>, Memory>
-        requires { HasNone (S.view space) }
-        ensures lawful { IfOk result (λ x. IsEngine S.view x) }
-        ensures system { IfOk result (λ x. system_of S.view x ≡ (S.view space).system) }
-        ensures all { IfOk result (λ x. OwesAll S.view (S.view space).system x) }
-        ensures most { IfOk result (λ x. most_of x ≡ Some most) }
-        ensures last { IfOk result (λ x. ended_of x ≡ None) }
+        requires { HasNoSet (S.view space) }
+        ensures lawful { IfOk result (λ x. IsPrefixEngine S.view x) }
+        ensures system { IfOk result (λ x. prefix_system S.view x ≡ (S.view space).system) }
+        ensures all { IfOk result (λ x. OwesAllPrefix S.view (S.view space).system x) }
+        ensures most { IfOk result (λ x. prefix_most x ≡ Some most) }
+        ensures last { IfOk result (λ x. prefix_ended x ≡ None) }
     {
         PrefixPlans::begin_anywhere(alloc, space, Some(most))
     }

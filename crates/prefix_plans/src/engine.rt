@@ -2,7 +2,7 @@
 
 use crate::front::Front;
 use cost_to_go::CostToGo;
-use lazy_plans::Stop;
+use lazy_plans::{LazyPlans, Steps, Stop};
 use space_api::Space;
 use symk_task::Plan;
 
@@ -27,12 +27,11 @@ pub struct PrefixPlans<S: Space> {
 ghost use Rattle.std.specs.Prelude.{◌≡◌, ◌≢◌, None, IfOk};
 ghost use Rattle.symk_task.specs.declared.parts.Mode.TheVariants.{TopK};
 ghost use Rattle.lazy_plans.specs.Law.{Turned, last_of};
-ghost use Rattle.prefix_plans.specs.Standing.{waiting};
-ghost use Rattle.prefix_plans.specs.Engine.{system_of, most_of, ended_of, Pends, tells, IsEngine, KeepsAll, HasRoom, Answers};
-ghost use Rattle.prefix_laws.proofs.Owed.{owed_fair, owed_told};
+ghost use Rattle.prefix_plans.specs.Standing.{waiting_prefixes};
+ghost use Rattle.prefix_plans.specs.Engine.{prefix_system, prefix_most, prefix_ended, PendsPrefix, prefix_tells, IsPrefixEngine, KeepsAllPrefix, HasPrefixRoom, AnswersByPrefix};
+ghost use Rattle.lazy_plans.proofs.Owed.{owed_fair, owed_told};
 
 use crate::walk::walk;
-use lazy_plans::{LazyPlans, Steps};
 use std::alloc::Global;
 use std::sync::ledger::Ledger;
 
@@ -40,10 +39,10 @@ impl<S: Space> PrefixPlans<S> {
     /// Asks for the next plan, and tidies the space before it is handed out. Where that is refused the plan is
     /// held, and the engine stops.
     fn ask<L: Ledger>(&mut self, alloc: Global, steps: &mut Steps<L>) -> Result<Option<Plan>, Stop>
-        requires engine { IsEngine S.view self.old }
-        requires goes_on { ended_of self.old ≡ None }
-        ensures answers { Answers S.view self.old self.new result }
-        ensures most { most_of self.new ≡ most_of self.old }
+        requires engine { IsPrefixEngine S.view self.old }
+        requires goes_on { prefix_ended self.old ≡ None }
+        ensures answers { AnswersByPrefix S.view self.old self.new result }
+        ensures most { prefix_most self.new ≡ prefix_most self.old }
     {
         match walk(
             alloc,
@@ -77,19 +76,19 @@ impl<S: Space> PrefixPlans<S> {
 }
 
 impl<S: Space> LazyPlans for PrefixPlans<S> {
-    ghost system = { λ x. system_of S.view x };
+    ghost system = { λ x. prefix_system S.view x };
 
     ghost mode = { λ x. TopK };
 
-    ghost most = { λ x. most_of x };
+    ghost most = { λ x. prefix_most x };
 
-    ghost pends = { λ x. Pends S.view x };
+    ghost pends = { λ x. PendsPrefix S.view x };
 
-    ghost tells = { λ x. tells S.view x };
+    ghost tells = { λ x. prefix_tells S.view x };
 
-    ghost lawful = { λ x. IsEngine S.view x };
+    ghost lawful = { λ x. IsPrefixEngine S.view x };
 
-    ghost last = { λ x. ended_of x };
+    ghost last = { λ x. prefix_ended x };
 
     /// The next plan. One turn is one step. After each call, also one that is refused, every valid set is one
     /// of the search, or the one that it is kept to. After a plan or None the space is tidy.
@@ -98,17 +97,17 @@ impl<S: Space> LazyPlans for PrefixPlans<S> {
         alloc: Global,
         steps: &mut Steps<L>,
     ) -> Result<Option<Plan>, Stop>
-        requires { IsEngine S.view self.old }
-        ensures lawful { IsEngine S.view self.new }
-        ensures system { system_of S.view self.new ≡ system_of S.view self.old }
+        requires { IsPrefixEngine S.view self.old }
+        ensures lawful { IsPrefixEngine S.view self.new }
+        ensures system { prefix_system S.view self.new ≡ prefix_system S.view self.old }
         ensures mode { TopK ≡ TopK }
-        ensures most { most_of self.new ≡ most_of self.old }
-        ensures law { Turned (system_of S.view self.old) TopK (most_of self.old) (Pends S.view self.old)
-            (Pends S.view self.new) result }
-        ensures last { ended_of self.new ≡ last_of result }
-        ensures again { ended_of self.old ≢ None → ended_of self.new ≡ ended_of self.old }
-        ensures keeps { KeepsAll S.view self.new }
-        ensures tidy { IfOk result (λ o. HasRoom S.view self.new) }
+        ensures most { prefix_most self.new ≡ prefix_most self.old }
+        ensures law { Turned (prefix_system S.view self.old) TopK (prefix_most self.old) (PendsPrefix S.view self.old)
+            (PendsPrefix S.view self.new) result }
+        ensures last { prefix_ended self.new ≡ last_of result }
+        ensures again { prefix_ended self.old ≢ None → prefix_ended self.new ≡ prefix_ended self.old }
+        ensures keeps { KeepsAllPrefix S.view self.new }
+        ensures tidy { IfOk result (λ o. HasPrefixRoom S.view self.new) }
     {
         match self.ended {
             None => self.ask(alloc, steps),
@@ -117,8 +116,9 @@ impl<S: Space> LazyPlans for PrefixPlans<S> {
         }
     }
 
-    ghost fair = { λ x l. owed_fair (S.view x.space).system TopK x.most (waiting x.front) x.held x.ended l.right
+    ghost fair = { λ x l. owed_fair (S.view x.space).system TopK x.most
+        (waiting_prefixes x.front) x.held x.ended l.right
         l.holds };
 
-    ghost told = { λ x l p. owed_told (S.view x.space).system TopK (waiting x.front) x.held p };
+    ghost told = { λ x l p. owed_told (S.view x.space).system TopK (waiting_prefixes x.front) x.held p };
 }

@@ -3,17 +3,18 @@
 ghost use Rattle.std.specs.Prelude.{◌≡◌, IfOk, length};
 ghost use Rattle.symk_task.specs.declared.parts.Mode.TheVariants.{TopK};
 ghost use Rattle.space_api.specs.View.{View};
-ghost use Rattle.prefix_tree.specs.Tree.{IsTree, Grows, path_at, end_at};
-ghost use Rattle.prefix_tree.specs.StateGraph.{states_of, IsStateGraph, AreMoves};
-ghost use Rattle.prefix_tree.specs.Entries.{HasRoom, entries_of};
+ghost use Rattle.prefix_tree.specs.Tree.{IsTree, GrowsTree, path_at, end_at};
+ghost use Rattle.prefix_tree.specs.StateGraph.{states_of, IsStateGraph, AreGraphMoves};
+ghost use Rattle.prefix_tree.specs.Entries.{HasQueueRoom, queued_entries};
 ghost use Rattle.cost_to_go.specs.Standing.{IsCostToGo};
-ghost use Rattle.prefix_ends.specs.Children.{IsEntry};
-ghost use Rattle.prefix_plans.specs.Children.{AreChildren};
-ghost use Rattle.prefix_plans.specs.Standing.{Stands};
+ghost use Rattle.prefix_plans.specs.EndChildren.{IsEndEntry};
+ghost use Rattle.prefix_plans.specs.Children.{ArePrefixChildren};
+ghost use Rattle.prefix_plans.specs.Standing.{PrefixFrontStands};
 
 use crate::front::Front;
+use crate::left::Heuristic;
+use crate::ranks::Ranks;
 use cost_to_go::CostToGo;
-use prefix_ends::{Heuristic, Ranks};
 use prefix_tree::{Entry, Move, Node, find_moves, node_at};
 use space_api::{Space, SpaceFault};
 use std::alloc::Global;
@@ -31,25 +32,18 @@ fn add_all<S: Space>(
     requires graph { IsStateGraph (S.view heuristic.now.space.now).system heuristic.now.graph.now }
     requires tree { IsTree (S.view heuristic.now.space.now).system TopK (states_of heuristic.now.graph.now)
         tree.old.items }
-    requires entry { IsEntry (S.view heuristic.now.space.now) heuristic.now.search.now tree.old.items entry }
-    requires moves { AreMoves (S.view heuristic.now.space.now).system (states_of heuristic.now.graph.now)
+    requires entry { IsEndEntry (S.view heuristic.now.space.now) heuristic.now.search.now tree.old.items entry }
+    requires moves { AreGraphMoves (S.view heuristic.now.space.now).system (states_of heuristic.now.graph.now)
         (end_at (states_of heuristic.now.graph.now) tree.old.items entry.node) moves.now }
-    ensures grows { Grows (S.view heuristic.now.space.now).system TopK (states_of heuristic.now.graph.now)
+    ensures grows { GrowsTree (S.view heuristic.now.space.now).system TopK (states_of heuristic.now.graph.now)
         tree.old.items tree.new.items }
-    ensures children { IfOk result (λ kids. AreChildren (S.view heuristic.now.space.now) heuristic.now.search.now
+    ensures children { IfOk result (λ kids. ArePrefixChildren (S.view heuristic.now.space.now) heuristic.now.search.now
         tree.new.items (path_at tree.old.items entry.node) (S.view heuristic.now.space.now).system.operators
         kids.items) }
 {
     let mut children = Vec::new(alloc);
     'moves: for step in moves {
-        ranks.add_child(
-            alloc,
-            heuristic,
-            tree,
-            entry,
-            *step,
-            &mut children,
-        )?;
+        ranks.add_child(alloc, heuristic, tree, entry, *step, &mut children)?;
     }
     Ok(children)
 }
@@ -62,14 +56,14 @@ pub(crate) fn expand<S: Space>(
     front: &mut Front,
     entry: Entry,
 ) -> Result<Vec<Entry>, SpaceFault>
-    requires ready { Stands (S.view space.now) search.now front.old }
-    requires entry { IsEntry (S.view space.now) search.now front.old.tree.items entry }
+    requires ready { PrefixFrontStands (S.view space.now) search.now front.old }
+    requires entry { IsEndEntry (S.view space.now) search.now front.old.tree.items entry }
     ensures graph { IsStateGraph (S.view space.now).system front.new.graph }
-    ensures queue { entries_of front.new.queue ≡ entries_of front.old.queue }
-    ensures grows { Grows (S.view space.now).system TopK (states_of front.new.graph) front.old.tree.items
+    ensures queue { queued_entries front.new.queue ≡ queued_entries front.old.queue }
+    ensures grows { GrowsTree (S.view space.now).system TopK (states_of front.new.graph) front.old.tree.items
         front.new.tree.items }
-    ensures room { IfOk result (λ kids. HasRoom front.new.queue (length kids.items)) }
-    ensures children { IfOk result (λ kids. AreChildren (S.view space.now) search.now front.new.tree.items
+    ensures room { IfOk result (λ kids. HasQueueRoom front.new.queue (length kids.items)) }
+    ensures children { IfOk result (λ kids. ArePrefixChildren (S.view space.now) search.now front.new.tree.items
         (path_at front.old.tree.items entry.node) (S.view space.now).system.operators kids.items) }
 {
     let here = node_at(&front.tree, entry.node);

@@ -1,6 +1,6 @@
 //! What turns change.
 
-use prefix_ends::Ranks;
+use crate::ranks::Ranks;
 use prefix_tree::{Node, Queue, StateGraph};
 
 /// Prefixes, and those that wait.

@@ -6,24 +6,24 @@ ghost use Rattle.symk_task.specs.declared.parts.Mode.TheVariants.{TopK};
 ghost use Rattle.space_api.specs.View.{View, Valid};
 ghost use Rattle.space_api.specs.Frames.{Stays};
 ghost use Rattle.cost_to_go.specs.declared.search.CostToGo.{CostToGo};
-ghost use Rattle.prefix_laws.specs.Queue.{Right};
-ghost use Rattle.prefix_tree.specs.Entries.{entries_of, prefixes};
+ghost use Rattle.lazy_plans.specs.Queue.{Right};
+ghost use Rattle.prefix_tree.specs.Entries.{queued_entries, prefixes};
 ghost use Rattle.prefix_tree.specs.StateGraph.{states_of, IsStateGraph};
 ghost use Rattle.prefix_tree.specs.Tree.{IsTree};
-ghost use Rattle.prefix_ends.specs.Children.{IsEntry};
-ghost use Rattle.prefix_ends.specs.Owned.{HasUseful};
-ghost use Rattle.prefix_ends.specs.Leading.{TellsLeading, IsDear};
+ghost use Rattle.prefix_plans.specs.EndChildren.{IsEndEntry};
+ghost use Rattle.prefix_plans.specs.Owned.{CoversUseful};
+ghost use Rattle.prefix_plans.specs.Leading.{TellsLeading, IsDear};
 ghost use Rattle.prefix_plans.specs.Standing.{KeepsPending};
 ghost use Rattle.prefix_plans.specs.Turned.{TellsLeft};
 
+use crate::leading::goes_on;
+use cost_layers::reach;
 use lazy_plans::Steps;
-use prefix_ends::goes_on;
 use prefix_tree::{Node, Queue, StateGraph};
 use run_graph::Side;
 use space_api::{Space, SpaceFault};
 use std::alloc::{AllocError, Global};
 use std::sync::ledger::Ledger;
-use useful_states::reach;
 
 /// Whether a plan goes on from some entry, each of which is too dear. The first ones from which none does are taken out,
 /// each by a turn.
@@ -40,13 +40,13 @@ fn some_goes_on<S: Space, L: Ledger>(
     requires tells { TellsLeading (S.view space.now) leading }
     requires graph { IsStateGraph (S.view space.now).system graph.now }
     requires tree { IsTree (S.view space.now).system TopK (states_of graph.now) tree.now }
-    requires right { Right (S.view space.now).system TopK None (prefixes tree.now (entries_of queue.old)) }
-    requires dear { AllByRecursion (IsDear (S.view space.now).system tree.now) (entries_of queue.old) }
-    ensures each { (w : View S.Set) (f : CostToGo S.Set) → AllByRecursion (IsEntry w f tree.now)
-        (entries_of queue.old) → AllByRecursion (IsEntry w f tree.now) (entries_of queue.new) }
-    ensures keeps { KeepsPending (S.view space.now).system None (prefixes tree.now (entries_of queue.old))
-        (prefixes tree.now (entries_of queue.new)) }
-    ensures told { IfOk result (TellsLeft (S.view space.now).system (prefixes tree.now (entries_of queue.old))) }
+    requires right { Right (S.view space.now).system TopK None (prefixes tree.now (queued_entries queue.old)) }
+    requires dear { AllByRecursion (IsDear (S.view space.now).system tree.now) (queued_entries queue.old) }
+    ensures each { (w : View S.Set) (f : CostToGo S.Set) → AllByRecursion (IsEndEntry w f tree.now)
+        (queued_entries queue.old) → AllByRecursion (IsEndEntry w f tree.now) (queued_entries queue.new) }
+    ensures keeps { KeepsPending (S.view space.now).system None (prefixes tree.now (queued_entries queue.old))
+        (prefixes tree.now (queued_entries queue.new)) }
+    ensures told { IfOk result (TellsLeft (S.view space.now).system (prefixes tree.now (queued_entries queue.old))) }
     ensures steps { steps.old ≤ steps.new }
 {
     'entries: loop {
@@ -75,17 +75,17 @@ pub(crate) fn is_left<S: Space, L: Ledger>(
     steps: &mut Steps<L>,
 ) -> Result<bool, SpaceFault>
     requires within { Valid (S.view space.old) within }
-    requires wide { HasUseful (S.view space.old) within }
+    requires wide { CoversUseful (S.view space.old) within }
     requires graph { IsStateGraph (S.view space.old).system graph.now }
     requires tree { IsTree (S.view space.old).system TopK (states_of graph.now) tree.now }
-    requires right { Right (S.view space.old).system TopK None (prefixes tree.now (entries_of queue.old)) }
-    requires dear { AllByRecursion (IsDear (S.view space.old).system tree.now) (entries_of queue.old) }
+    requires right { Right (S.view space.old).system TopK None (prefixes tree.now (queued_entries queue.old)) }
+    requires dear { AllByRecursion (IsDear (S.view space.old).system tree.now) (queued_entries queue.old) }
     ensures stays { Stays (S.view space.old) (S.view space.new) }
-    ensures each { (w : View S.Set) (f : CostToGo S.Set) → AllByRecursion (IsEntry w f tree.now)
-        (entries_of queue.old) → AllByRecursion (IsEntry w f tree.now) (entries_of queue.new) }
-    ensures keeps { KeepsPending (S.view space.old).system None (prefixes tree.now (entries_of queue.old))
-        (prefixes tree.now (entries_of queue.new)) }
-    ensures told { IfOk result (TellsLeft (S.view space.old).system (prefixes tree.now (entries_of queue.old))) }
+    ensures each { (w : View S.Set) (f : CostToGo S.Set) → AllByRecursion (IsEndEntry w f tree.now)
+        (queued_entries queue.old) → AllByRecursion (IsEndEntry w f tree.now) (queued_entries queue.new) }
+    ensures keeps { KeepsPending (S.view space.old).system None (prefixes tree.now (queued_entries queue.old))
+        (prefixes tree.now (queued_entries queue.new)) }
+    ensures told { IfOk result (TellsLeft (S.view space.old).system (prefixes tree.now (queued_entries queue.old))) }
     ensures steps { steps.old ≤ steps.new }
 {
     let leading = reach(space, Side::Back, within)?;

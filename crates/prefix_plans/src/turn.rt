@@ -2,14 +2,14 @@
 
 ghost use Rattle.std.specs.Prelude.{◌≡◌, ◌+◌, IsTrue, IfOk, OnOk, OnErr};
 ghost use Rattle.space_api.specs.View.{View};
-ghost use Rattle.prefix_tree.specs.Entries.{entries_of};
-ghost use Rattle.prefix_plans.specs.Standing.{waiting, Stands, IsFirst, Opens};
+ghost use Rattle.prefix_tree.specs.Entries.{queued_entries};
+ghost use Rattle.prefix_plans.specs.Standing.{waiting_prefixes, PrefixFrontStands, IsPrefixFirst, OpensPrefix};
 
 use crate::expand::expand;
 use crate::front::Front;
+use crate::turns::plan_of;
 use cost_to_go::CostToGo;
 use lazy_plans::Steps;
-use prefix_ends::plan_of;
 use prefix_tree::Entry;
 use space_api::{Space, SpaceFault};
 use std::alloc::Global;
@@ -26,12 +26,12 @@ pub(crate) fn open<S: Space, L: Ledger>(
     entry: Entry,
     steps: &mut Steps<L>,
 ) -> Result<Option<Plan>, SpaceFault>
-    requires ready { Stands (S.view space.now) search.now front.old }
-    requires first { IsFirst entry (entries_of front.old.queue) }
+    requires ready { PrefixFrontStands (S.view space.now) search.now front.old }
+    requires first { IsPrefixFirst entry (queued_entries front.old.queue) }
     requires ranked { IsTrue entry.settled }
-    ensures ready { Stands (S.view space.now) search.now front.new }
-    ensures ok { IfOk result (Opens (S.view space.now) search.now entry front.old front.new) }
-    ensures err { OnErr result (waiting front.new ≡ waiting front.old) }
+    ensures ready { PrefixFrontStands (S.view space.now) search.now front.new }
+    ensures ok { IfOk result (OpensPrefix (S.view space.now) search.now entry front.old front.new) }
+    ensures err { OnErr result (waiting_prefixes front.new ≡ waiting_prefixes front.old) }
     ensures one { OnOk result (steps.new ≡ steps.old + 1) }
     ensures none { OnErr result (steps.new ≡ steps.old) }
 {

@@ -5,20 +5,21 @@ ghost use Rattle.std.specs.List.{AllByRecursion};
 ghost use Rattle.symk_task.specs.declared.parts.Mode.TheVariants.{TopK};
 ghost use Rattle.space_api.specs.View.{View};
 ghost use Rattle.lazy_plans.specs.Law.{Turned, top};
-ghost use Rattle.cost_to_go.specs.Standing.{within_of};
-ghost use Rattle.prefix_laws.specs.Queue.{Right, Pending};
-ghost use Rattle.prefix_tree.specs.Entries.{entries_of};
+ghost use Rattle.cost_to_go.specs.Standing.{to_go_within};
+ghost use Rattle.lazy_plans.specs.Queue.{Right, Pending};
+ghost use Rattle.prefix_tree.specs.Entries.{queued_entries};
 ghost use Rattle.prefix_tree.specs.declared.entry.Entry.{Entry};
-ghost use Rattle.prefix_ends.specs.Left.{known_of};
-ghost use Rattle.prefix_plans.specs.Standing.{waiting, Stands, IsFirst, KeepsPending};
-ghost use Rattle.prefix_plans.specs.Turned.{Acts, TurnOf, HaltsAt, CountsTurn};
+ghost use Rattle.prefix_plans.specs.Left.{known_to_go};
+ghost use Rattle.prefix_plans.specs.Standing.{waiting_prefixes, PrefixFrontStands, IsPrefixFirst, KeepsPending};
+ghost use Rattle.prefix_plans.specs.Turned.{Acts, IsPrefixTurn, HaltsAt, CountsPrefixTurn};
 
 use crate::front::Front;
+use crate::knowing::{go_on, is_outdated, top_of};
+use crate::left::Heuristic;
 use crate::range::is_left;
 use crate::turn::open;
 use cost_to_go::CostToGo;
 use lazy_plans::{Steps, Stop};
-use prefix_ends::{Heuristic, go_on, is_outdated, top_of};
 use prefix_tree::Entry;
 use space_api::{Space, SpaceFault};
 use std::alloc::Global;
@@ -48,12 +49,12 @@ fn act<S: Space, L: Ledger>(
     entry: Entry,
     steps: &mut Steps<L>,
 ) -> Result<Option<Halt>, SpaceFault>
-    requires ready { Stands (S.view space.now) search.now front.old }
-    requires first { IsFirst entry (entries_of front.old.queue) }
-    ensures ready { Stands (S.view space.now) search.now front.new }
+    requires ready { PrefixFrontStands (S.view space.now) search.now front.old }
+    requires first { IsPrefixFirst entry (queued_entries front.old.queue) }
+    ensures ready { PrefixFrontStands (S.view space.now) search.now front.new }
     ensures ok { IfOk result (Acts (S.view space.now) search.now entry front.old front.new) }
-    ensures err { OnErr result (waiting front.new ≡ waiting front.old) }
-    ensures one { IfOk result (CountsTurn steps.old steps.new) }
+    ensures err { OnErr result (waiting_prefixes front.new ≡ waiting_prefixes front.old) }
+    ensures one { IfOk result (CountsPrefixTurn steps.old steps.new) }
     ensures none { OnErr result (steps.new ≡ steps.old) }
 {
     if entry.settled {
@@ -91,16 +92,18 @@ fn end<S: Space, L: Ledger>(
     front: &mut Front,
     steps: &mut Steps<L>,
 ) -> Result<Halt, SpaceFault>
-    requires ready { Stands (S.view space.old) search.now front.old }
-    requires within { within ≡ within_of search.now }
-    requires right { Right (S.view space.old).system TopK most (waiting front.old) }
-    requires dear { AllByRecursion (λ (k : Entry). top most < k.bound.0) (entries_of front.old.queue) }
+    requires ready { PrefixFrontStands (S.view space.old) search.now front.old }
+    requires within { within ≡ to_go_within search.now }
+    requires right { Right (S.view space.old).system TopK most (waiting_prefixes front.old) }
+    requires dear { AllByRecursion (λ (k : Entry). top most < k.bound.0) (queued_entries front.old.queue) }
     ensures system { (S.view space.new).system ≡ (S.view space.old).system }
-    ensures ready { Stands (S.view space.new) search.now front.new }
-    ensures ok { IfOk result (HaltsAt (S.view space.old).system (known_of search.now) most (waiting front.old)
-        (waiting front.new)) }
-    ensures last { IfOk result (λ halt. CountsTurn steps.old steps.new (Some halt)) }
-    ensures err { OnErr result (KeepsPending (S.view space.old).system most (waiting front.old) (waiting front.new)) }
+    ensures ready { PrefixFrontStands (S.view space.new) search.now front.new }
+    ensures ok { IfOk result (HaltsAt (S.view space.old).system (known_to_go search.now) most
+        (waiting_prefixes front.old)
+        (waiting_prefixes front.new)) }
+    ensures last { IfOk result (λ halt. CountsPrefixTurn steps.old steps.new (Some halt)) }
+    ensures err { OnErr result (KeepsPending (S.view space.old).system most (waiting_prefixes front.old)
+        (waiting_prefixes front.new)) }
 {
     match most {
         Some(_) => Ok(Halt::Ends),
@@ -131,14 +134,16 @@ fn take_turn<S: Space, L: Ledger>(
     front: &mut Front,
     steps: &mut Steps<L>,
 ) -> Result<Option<Halt>, SpaceFault>
-    requires ready { Stands (S.view space.old) search.now front.old }
-    requires within { within ≡ within_of search.now }
-    requires right { Right (S.view space.old).system TopK most (waiting front.old) }
+    requires ready { PrefixFrontStands (S.view space.old) search.now front.old }
+    requires within { within ≡ to_go_within search.now }
+    requires right { Right (S.view space.old).system TopK most (waiting_prefixes front.old) }
     ensures system { (S.view space.new).system ≡ (S.view space.old).system }
-    ensures ready { Stands (S.view space.new) search.now front.new }
-    ensures ok { IfOk result (TurnOf (S.view space.old).system (known_of search.now) most front.old front.new) }
-    ensures one { IfOk result (CountsTurn steps.old steps.new) }
-    ensures err { OnErr result (KeepsPending (S.view space.old).system most (waiting front.old) (waiting front.new)) }
+    ensures ready { PrefixFrontStands (S.view space.new) search.now front.new }
+    ensures ok { IfOk result (IsPrefixTurn (S.view space.old).system
+        (known_to_go search.now) most front.old front.new) }
+    ensures one { IfOk result (CountsPrefixTurn steps.old steps.new) }
+    ensures err { OnErr result (KeepsPending (S.view space.old).system most (waiting_prefixes front.old)
+        (waiting_prefixes front.new)) }
 {
     match front.queue.first() {
         None => Ok(Some(Halt::Ends)),
@@ -162,14 +167,16 @@ fn take_turns<S: Space, L: Ledger>(
     front: &mut Front,
     steps: &mut Steps<L>,
 ) -> Result<Halt, SpaceFault>
-    requires ready { Stands (S.view space.old) search.now front.old }
-    requires within { within ≡ within_of search.now }
-    requires right { Right (S.view space.old).system TopK most (waiting front.old) }
+    requires ready { PrefixFrontStands (S.view space.old) search.now front.old }
+    requires within { within ≡ to_go_within search.now }
+    requires right { Right (S.view space.old).system TopK most (waiting_prefixes front.old) }
     ensures system { (S.view space.new).system ≡ (S.view space.old).system }
-    ensures ready { Stands (S.view space.new) search.now front.new }
-    ensures ok { IfOk result (HaltsAt (S.view space.old).system (known_of search.now) most (waiting front.old)
-        (waiting front.new)) }
-    ensures err { OnErr result (KeepsPending (S.view space.old).system most (waiting front.old) (waiting front.new)) }
+    ensures ready { PrefixFrontStands (S.view space.new) search.now front.new }
+    ensures ok { IfOk result (HaltsAt (S.view space.old).system (known_to_go search.now) most
+        (waiting_prefixes front.old)
+        (waiting_prefixes front.new)) }
+    ensures err { OnErr result (KeepsPending (S.view space.old).system most (waiting_prefixes front.old)
+        (waiting_prefixes front.new)) }
 {
     'turns: loop {
         if let Some(halt) = take_turn(alloc, space, search, within, most, front, steps)? {
@@ -188,16 +195,16 @@ pub(crate) fn walk<S: Space, L: Ledger>(
     front: &mut Front,
     steps: &mut Steps<L>,
 ) -> Result<Option<Plan>, Stop>
-    requires ready { Stands (S.view space.old) search.old front.old }
-    requires within { within ≡ within_of search.old }
-    requires right { Right (S.view space.old).system TopK most (waiting front.old) }
+    requires ready { PrefixFrontStands (S.view space.old) search.old front.old }
+    requires within { within ≡ to_go_within search.old }
+    requires right { Right (S.view space.old).system TopK most (waiting_prefixes front.old) }
     ensures system { (S.view space.new).system ≡ (S.view space.old).system }
-    ensures ready { Stands (S.view space.new) search.new front.new }
-    ensures within { within ≡ within_of search.new }
-    ensures right { Right (S.view space.old).system TopK most (waiting front.new) }
+    ensures ready { PrefixFrontStands (S.view space.new) search.new front.new }
+    ensures within { within ≡ to_go_within search.new }
+    ensures right { Right (S.view space.old).system TopK most (waiting_prefixes front.new) }
     ensures law { Turned (S.view space.old).system TopK most
-        (Pending (S.view space.old).system TopK (waiting front.old))
-        (Pending (S.view space.old).system TopK (waiting front.new)) result }
+        (Pending (S.view space.old).system TopK (waiting_prefixes front.old))
+        (Pending (S.view space.old).system TopK (waiting_prefixes front.new)) result }
 {
     'steps: loop {
         match take_turns(alloc, space, search, within, most, front, steps) {

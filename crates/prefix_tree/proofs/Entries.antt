@@ -6,7 +6,7 @@ use Rattle.std.proofs.lemmas.List.Elements.{recursion_from_All, All-from_recursi
 use Rattle.std.proofs.lemmas.List.Sorted.{All-permutation, sum_by-IsPermutation}
 use Rattle.std.proofs.lemmas.List.Sums.{sum_by-cons, sum_by-append}
 use Rattle.task_system.specs.System.{Listed}
-use Rattle.prefix_laws.specs.Queue.{Replaced}
+use Rattle.lazy_plans.specs.Queue.{Replaced}
 use Rattle.prefix_tree.specs.Tree.{path_at}
 use Rattle.prefix_tree.specs.Entries.{prefixes}
 use Rattle.prefix_tree.specs.declared.tree.Node.{Node}

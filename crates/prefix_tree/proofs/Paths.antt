@@ -2,10 +2,10 @@
 use Rattle.std.proofs.Common.{◌≡◌, ℕ, zero, suc, ◌+◌, ◌<◌, ◌⊎◌, inl, inr, List, [], ◌∷◌, ◌++◌, length, slice_index_or, refl, sym, ◌∙◌, ap, subst, arith}
 use Rattle.std.proofs.lemmas.List.{length-append}
 use Rattle.symk_task.specs.declared.parts.Mode.{Mode}
-use Rattle.task_system.specs.System.{State, System, Runs}
-use Rattle.prefix_laws.specs.Queue.{Good}
-use Rattle.prefix_tree.specs.StateGraph.{state_at, Prolongs}
-use Rattle.prefix_tree.specs.Tree.{paths_on, path_at, IsLinked, AreLinked, number_at, IsNode, IsTree, Grows}
+use Rattle.task_system.specs.System.{State, System, RunsInSystem}
+use Rattle.lazy_plans.specs.Queue.{Good}
+use Rattle.prefix_tree.specs.StateGraph.{numbered_state, Prolongs}
+use Rattle.prefix_tree.specs.Tree.{paths_on, path_at, IsLinked, AreLinked, state_number_at, IsNode, IsTree, GrowsTree}
 use Rattle.prefix_tree.specs.declared.tree.Node.{Node}
 
 front_at : {X : Type 0} (xs ys : List X) (i : ℕ) (d : X) → i < length xs → slice_index_or (xs ++ ys) i d ≡ slice_index_or xs i d
@@ -79,12 +79,12 @@ module _ (nodes : List Node) (n : Node) (z : AreLinked nodes) (some : 0 < length
       [ inl h ↦ linked_old i d h | inr e ↦ linked_new i d e ]
 
 -- where the prefixes end, in the longer tree
-number_front : (nodes : List Node) (n : Node) (i : ℕ) → i < length nodes → number_at (nodes ++ n ∷ []) i ≡ number_at nodes i
+number_front : (nodes : List Node) (n : Node) (i : ℕ) → i < length nodes → state_number_at (nodes ++ n ∷ []) i ≡ state_number_at nodes i
 number_front [] n i lt = absurd (omega arith)
 number_front (r ∷ nodes) n zero lt = refl
 number_front (r ∷ nodes) n (suc i) lt = number_front nodes n i (omega arith)
 
-number_last : (nodes : List Node) (n : Node) (i : ℕ) → i ≡ length nodes → number_at (nodes ++ n ∷ []) i ≡ n.state
+number_last : (nodes : List Node) (n : Node) (i : ℕ) → i ≡ length nodes → state_number_at (nodes ++ n ∷ []) i ≡ n.state
 number_last [] n zero e = refl
 number_last [] n (suc i) e = absurd (omega arith)
 number_last (r ∷ nodes) n zero e = absurd (omega arith)
@@ -93,15 +93,15 @@ number_last (r ∷ nodes) n (suc i) e = number_last nodes n i (omega arith)
 -- a tree stays a tree, where the new prefix is good
 module _ (y : System) (m : Mode) (ss : List State) (nodes : List Node) (n : Node) (z : IsTree y m ss nodes)
     (behind : n.parent < length nodes) (good : Good y m (path_at nodes n.parent ++ n.op ∷ []))
-    (within : n.state < length ss) (runs : Runs y y.initial (path_at nodes n.parent ++ n.op ∷ [])
-    (state_at ss n.state)) where
-  node_old : (i : ℕ) → i < length nodes → IsNode y m ss i (path_at (nodes ++ n ∷ []) i) (number_at (nodes ++ n ∷ []) i)
-  node_old i lt = subst (λ (p : List ℕ). IsNode y m ss i p (number_at (nodes ++ n ∷ []) i))
+    (within : n.state < length ss) (runs : RunsInSystem y y.initial (path_at nodes n.parent ++ n.op ∷ [])
+    (numbered_state ss n.state)) where
+  node_old : (i : ℕ) → i < length nodes → IsNode y m ss i (path_at (nodes ++ n ∷ []) i) (state_number_at (nodes ++ n ∷ []) i)
+  node_old i lt = subst (λ (p : List ℕ). IsNode y m ss i p (state_number_at (nodes ++ n ∷ []) i))
       (sym (path_front nodes n i lt)) (subst (λ (k : ℕ). IsNode y m ss i (path_at nodes i) k)
       (sym (number_front nodes n i lt)) (z.each i lt))
 
-  node_new : (i : ℕ) → i ≡ length nodes → IsNode y m ss i (path_at (nodes ++ n ∷ []) i) (number_at (nodes ++ n ∷ []) i)
-  node_new i e = subst (λ (p : List ℕ). IsNode y m ss i p (number_at (nodes ++ n ∷ []) i))
+  node_new : (i : ℕ) → i ≡ length nodes → IsNode y m ss i (path_at (nodes ++ n ∷ []) i) (state_number_at (nodes ++ n ∷ []) i)
+  node_new i e = subst (λ (p : List ℕ). IsNode y m ss i p (state_number_at (nodes ++ n ∷ []) i))
       (sym (path_last nodes n i z.some e))
       (subst (λ (k : ℕ). IsNode y m ss i (path_at nodes n.parent ++ n.op ∷ []) k)
       (sym (number_last nodes n i e)) (record {
@@ -118,7 +118,7 @@ module _ (y : System) (m : Mode) (ss : List State) (nodes : List Node) (n : Node
     each = λ i lt. elim (before_or_at i (length nodes) (omega (arith, lt, length-append nodes (n ∷ [])))) [ inl h ↦ node_old i h | inr e ↦ node_new i e ];
   }
 
-  pub grows_more : Grows y m ss nodes (nodes ++ n ∷ [])
+  pub grows_more : GrowsTree y m ss nodes (nodes ++ n ∷ [])
   grows_more = record {
     longer = omega (arith, length-append nodes (n ∷ []));
     paths =
@@ -127,10 +127,10 @@ module _ (y : System) (m : Mode) (ss : List State) (nodes : List Node) (n : Node
     tree = tree_more;
   }
 
-pub grows_refl : (y : System) (m : Mode) (ss : List State) (nodes : List Node) → IsTree y m ss nodes → Grows y m ss nodes nodes
+pub grows_refl : (y : System) (m : Mode) (ss : List State) (nodes : List Node) → IsTree y m ss nodes → GrowsTree y m ss nodes nodes
 grows_refl y m ss nodes z = record { longer = omega arith; paths = λ i lt. refl; ends = λ i lt. refl; tree = z }
 
-pub grows_trans : (y : System) (m : Mode) (ss : List State) (a b c : List Node) → Grows y m ss a b → Grows y m ss b c → Grows y m ss a c
+pub grows_trans : (y : System) (m : Mode) (ss : List State) (a b c : List Node) → GrowsTree y m ss a b → GrowsTree y m ss b c → GrowsTree y m ss a c
 grows_trans y m ss a b c j k = record {
   longer = omega (arith, j.longer, k.longer);
   paths = λ i lt. k.paths i (omega (arith, lt, j.longer)) ∙ j.paths i lt;
@@ -148,7 +148,7 @@ tree_prolonged y m ss tt nodes p z = record {
       record {
         good = n.good;
         within = omega (arith, n.within, p.longer);
-        runs = subst (λ (s : State). Runs y y.initial (path_at nodes i) s) (sym (p.same (number_at nodes i) n.within)) n.runs;
+        runs = subst (λ (s : State). RunsInSystem y y.initial (path_at nodes i) s) (sym (p.same (state_number_at nodes i) n.within)) n.runs;
         deep = n.deep;
       };
 }

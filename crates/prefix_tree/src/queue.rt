@@ -4,7 +4,7 @@ mod calls;
 
 ghost use Rattle.std.specs.BinaryHeap.{IsHeap, heap_items};
 ghost use Rattle.std.proofs.Props.{props};
-ghost use Rattle.prefix_tree.specs.Order.{entry_order};
+ghost use Rattle.prefix_tree.specs.Order.{queue_order};
 
 use crate::entry::Entry;
 use std::collections::BinaryHeap;
@@ -14,5 +14,5 @@ use std::collections::BinaryHeap;
 #[derive(Drop)]
 pub struct Queue {
     heap: BinaryHeap<Entry>,
-    ghost ordered: { IsHeap entry_order (heap_items heap) } by { Prim.hlevel props },
+    ghost ordered: { IsHeap queue_order (heap_items heap) } by { Prim.hlevel props },
 }

@@ -4,7 +4,7 @@ ghost use Rattle.std.specs.Prelude.{◌≡◌, ◌<◌, ◌∷◌, ◌++◌, [],
 ghost use Rattle.std.specs.Bool.{Decides};
 ghost use Rattle.symk_task.specs.declared.parts.Mode.{Mode};
 ghost use Rattle.task_system.specs.System.{State, System, Listed, trace};
-ghost use Rattle.prefix_tree.specs.StateGraph.{AreOnce, state_at};
+ghost use Rattle.prefix_tree.specs.StateGraph.{AreDistinctStates, numbered_state};
 ghost use Rattle.prefix_tree.specs.Tree.{IsTree, AreLinked, path_at};
 
 use std::alloc::{AllocError, Global};
@@ -33,8 +33,8 @@ pub fn passes(tree: &[Node], node: usize, state: usize) -> bool
     requires linked { AreLinked tree.now }
     requires node { node < length tree.now }
     ensures { (y : System) (m : Mode) (states : List State) → IsTree y m states tree.now
-        → AreOnce states → state < length states
-        → Decides result (Listed (trace y y.initial (path_at tree.now node)) (state_at states state)) }
+        → AreDistinctStates states → state < length states
+        → Decides result (Listed (trace y y.initial (path_at tree.now node)) (numbered_state states state)) }
 {
     let mut at = node;
     'up: loop {

@@ -1,22 +1,22 @@
 -- On to the next cost.
 use Rattle.std.proofs.Common.{◌≡◌, ℕ, ◌+◌, ◌<◌, ◌≤◌, ◌⊎◌, ◌↔◌, inl, inr, Bool, true, false, List, [], Option, Some, None, sym, ap, subst, arith}
-use Rattle.task_system.specs.System.{System, IsPlan, cost_of}
+use Rattle.task_system.specs.System.{System, IsSystemPlan, cost_in_system}
 use Rattle.space_api.specs.View.{View, Valid}
 use Rattle.space_api.specs.Owned.{Trades}
 use Rattle.space_api.proofs.Trading.{trades_trans, trades_beside}
 use Rattle.cost_layers.specs.Layers.{known_of}
 use Rattle.cost_layers.specs.declared.layers.Layers.{Layers}
-use Rattle.entry_laws.specs.Entries.{Owed}
-use Rattle.entry_turns.specs.Entries.{SetIn, member_in}
-use Rattle.entry_turns.specs.declared.entries.Entry.{Entry}
-use Rattle.entry_turns.specs.Walked.{IsLawful, IsOwed}
-use Rattle.entry_laws.specs.Drawing.{undrawn, Above}
-use Rattle.entry_laws.proofs.Draws.{next_lawful, next_owed}
+use Rattle.plan_cuts.specs.Entries.{Owed}
+use Rattle.reconstruct.specs.Entries.{SetIn, member_in}
+use Rattle.reconstruct.specs.declared.entries.Entry.{Entry}
+use Rattle.reconstruct.specs.Walked.{IsLawful, IsOwed}
+use Rattle.plan_cuts.specs.Drawing.{undrawn, Above}
+use Rattle.plan_cuts.proofs.Draws.{next_lawful, next_owed}
 use Rattle.reconstruct.specs.Sides.{AreRightLayers, IsNextCost}
 use Rattle.reconstruct.specs.Listing.{AreReady, IsListing, OwedAt}
 use Rattle.reconstruct.specs.declared.drawing.Place.{Place}
 use Rattle.reconstruct.proofs.Placing.{sides_of, at_place}
-use Rattle.reconstruct.specs.Going.{cost_at, HasMore, IsFilled}
+use Rattle.reconstruct.specs.Going.{place_cost, HasMore, IsFilled}
 
 -- a new cost, nothing drawn
 pub record IsFresh (place : Place) (cost : ℕ) : Type 0 where
@@ -39,24 +39,24 @@ first_listing {v = v} {front = front} {back = back} {cost = cost} {place = place
   ready = subst (AreReady v.system (known_of back) place.cost place.after) (sym f.ready) tt;
 }
 
-from_cost : (y : System) (l : Option ℕ) (q p : List ℕ) → Above y l q → IsPlan y p → cost_of y q ≤ cost_of y p → Above y l p
+from_cost : (y : System) (l : Option ℕ) (q p : List ℕ) → Above y l q → IsSystemPlan y p → cost_in_system y q ≤ cost_in_system y p → Above y l p
 from_cost y None q p h plan le = plan
 from_cost y (Some c) q p h plan le = (plan, omega (arith, h.1, le))
 
 module _ {Set : Type 0} (v v1 w : View Set) (Uses : Set → Type 0) (front back : Layers Set) (most : Option ℕ)
     (old : Option Place) (cost : ℕ) (place : Place) (queue : List (Entry Set)) (sys : v1.system ≡ v.system)
-    (w_sys : w.system ≡ v.system) (n : IsNextCost v.system (cost_at old) most front back cost)
+    (w_sys : w.system ≡ v.system) (n : IsNextCost v.system (place_cost old) most front back cost)
     (l : IsListing w Uses front back place queue) (same : place.cost ≡ cost)
     (start : Place) (f : IsFresh start cost) (owes : (p : List ℕ) → OwedAt w back place queue p ↔ OwedAt v1 back start [] p) where
-  first_owed : (p : List ℕ) → OwedAt v1 back start [] p ↔ Above v.system (cost_at old) p
+  first_owed : (p : List ℕ) → OwedAt v1 back start [] p ↔ Above v.system (place_cost old) p
   first_owed p =
-      let base = next_owed v.system (known_of back) (known_of back) (cost_at old) cost n.least
-      (λ q plan le. from_cost v.system (cost_at old) n.plan.0 q n.plan.1 plan (omega (arith, n.plan.2, le)))
+      let base = next_owed v.system (known_of back) (known_of back) (place_cost old) cost n.least
+      (λ q plan le. from_cost v.system (place_cost old) n.plan.0 q n.plan.1 plan (omega (arith, n.plan.2, le)))
       p in
-      at_place (λ c o x. IsOwed v1 back c [] (undrawn x o) p ↔ Above v.system (cost_at old) p) start cost None true f.cost_is f.after f.left
-      (subst (λ (y : System). Owed y (known_of back) cost [] (undrawn true None) p ↔ Above v.system (cost_at old) p) (sym sys) base)
+      at_place (λ c o x. IsOwed v1 back c [] (undrawn x o) p ↔ Above v.system (place_cost old) p) start cost None true f.cost_is f.after f.left
+      (subst (λ (y : System). Owed y (known_of back) cost [] (undrawn true None) p ↔ Above v.system (place_cost old) p) (sym sys) base)
 
-  all_owed : (p : List ℕ) → OwedAt w back place queue p ↔ Above v.system (cost_at old) p
+  all_owed : (p : List ℕ) → OwedAt w back place queue p ↔ Above v.system (place_cost old) p
   all_owed p = ((λ h. (first_owed p).0 ((owes p).0 h)), (λ h. (owes p).1 ((first_owed p).1 h)))
 
   -- the cost has a plan, so a cut was there
@@ -66,7 +66,7 @@ module _ {Set : Type 0} (v v1 w : View Set) (Uses : Set → Type 0) (front back 
       let o = (all_owed p.0).1 p.1 in
       let o2 = subst (λ (q : List (Entry Set)). OwedAt w back place q p.0) h.0 o in
       let o3 = subst (λ (b : Bool). IsOwed w back place.cost [] (undrawn b place.after) p.0) h.1 o2 in
-      let is : cost_of w.system p.0 ≡ cost_of v.system p.0 = ap (λ (y : System). cost_of y p.0) w_sys in
+      let is : cost_in_system w.system p.0 ≡ cost_in_system v.system p.0 = ap (λ (y : System). cost_in_system y p.0) w_sys in
       elim o3.1 [ inl a ↦ omega (arith, a, is, p.2, same) | inr k ↦ omega (arith, k.1) ]
 
   pub filled : HasMore queue (Some place) → IsFilled v w Uses front back most old place queue

@@ -1,36 +1,36 @@
 -- The first entry of a cut is put into the queue.
 use Rattle.std.proofs.Common.{◌≡◌, ℕ, ◌+◌, ◌<◌, ◌↔◌, inl, inr, Bool, true, false, List, [], ◌∷◌, drop, slice_get, Option, Some, None, Result, Ok, Err, OnOk, OnErr, refl, sym, ◌∙◌, subst, arith}
-use Rattle.task_system.specs.System.{State, System, Runs, IsPlan, cost_of}
+use Rattle.task_system.specs.System.{State, System, RunsInSystem, IsSystemPlan, cost_in_system}
 use Rattle.space_api.specs.View.{View, Valid}
 use Rattle.space_api.specs.Frames.{Kept, Stays}
 use Rattle.space_api.specs.Owned.{Trades}
-use Rattle.cost_layers.specs.Layers.{whole_at, known_of, Held}
+use Rattle.cost_layers.specs.Layers.{union_at, known_of, Held}
 use Rattle.cost_layers.specs.declared.layers.Layers.{Layers}
 use Rattle.plan_cuts.specs.declared.Cut.{Cut}
 use Rattle.plan_cuts.specs.declared.Cut.TheVariants.{Whole, Cross}
-use Rattle.entry_laws.specs.Cuts.{cut_of, same_cut}
-use Rattle.entry_laws.specs.Counts.{ind, at_some}
-use Rattle.entry_laws.specs.Entries.{Plain, Owed, Lawful, Stands, entry_hits}
-use Rattle.entry_laws.proofs.Cutting.{cut_inside}
-use Rattle.entry_laws.proofs.Paths.{both, parted, led}
-use Rattle.entry_laws.proofs.Drawing.{cross_there}
-use Rattle.entry_turns.specs.Entries.{plain, SetIn, member_in, RightSides}
-use Rattle.entry_turns.specs.Turned.{IsQueue}
-use Rattle.entry_turns.specs.declared.entries.Entry.{Entry}
-use Rattle.entry_turns.proofs.Barren.{in_layer}
-use Rattle.entry_turns.proofs.Kept.{member_kept, sides_kept}
+use Rattle.plan_cuts.specs.EntryCuts.{cut_of, same_cut}
+use Rattle.plan_cuts.specs.Counts.{one_if, at_some}
+use Rattle.plan_cuts.specs.Entries.{PlainEntry, Owed, Lawful, StandsOnLayers, entry_hits}
+use Rattle.plan_cuts.proofs.EntryCutting.{cut_inside}
+use Rattle.plan_cuts.proofs.Paths.{both, parted, led}
+use Rattle.plan_cuts.proofs.Drawing.{cross_there}
+use Rattle.reconstruct.specs.Entries.{as_plain_entry, SetIn, member_in, RightSides}
+use Rattle.reconstruct.specs.Turned.{IsQueue}
+use Rattle.reconstruct.specs.declared.entries.Entry.{Entry}
+use Rattle.reconstruct.proofs.Barren.{in_layer}
+use Rattle.reconstruct.proofs.Kept.{member_kept, sides_kept}
 use Rattle.space_api.proofs.Keeping.{kept_trans}
-use Rattle.entry_turns.specs.Walked.{IsLawful, IsOwed}
-use Rattle.entry_turns.proofs.RightLayers.{serve}
+use Rattle.reconstruct.specs.Walked.{IsLawful, IsOwed}
+use Rattle.reconstruct.proofs.RightLayers.{serve}
 use Rattle.plan_cuts.specs.Cuts.{IsCutAt, IsNextCut}
-use Rattle.entry_turns.specs.Opened.{IsDrawable, Opened}
-use Rattle.entry_laws.specs.Drawing.{undrawn}
+use Rattle.reconstruct.specs.Opened.{IsDrawable, OpenedEntry}
+use Rattle.plan_cuts.specs.Drawing.{undrawn}
 use Rattle.reconstruct.specs.Listing.{AreReady, AreReadyAt, IsSame, IsListing, OwedAt, Drew, Draws, PutsOne, LeavesAll}
 use Rattle.reconstruct.specs.declared.drawing.Drawn.{Drawn}
 use Rattle.reconstruct.specs.declared.drawing.Place.{Place}
-use Rattle.entry_turns.proofs.Sets.{in_valid, entry_back}
+use Rattle.reconstruct.proofs.Sets.{in_valid, entry_back}
 use Rattle.space_api.proofs.Trading.{trades_stays}
-use Rattle.entry_laws.proofs.Draws.{drawn_lawful, drawn_owed, none_lawful, none_owed}
+use Rattle.plan_cuts.proofs.Draws.{drawn_lawful, drawn_owed, none_lawful, none_owed}
 use Rattle.bidirectional.specs.Both.{IsBeneath, IsBoth, front_layers, back_layers}
 use Rattle.bidirectional.specs.declared.search.Both.{Both}
 use Rattle.reconstruct.specs.Sides.{AreRightLayers}
@@ -51,12 +51,12 @@ drawable v front back cost (Cross x op y) r lt c =
     let z = v.system in
     let i = cut_inside z (known_of front) (known_of back) c.0 x op y c.2 (omega (arith, c.1.1, lt)) in
     let m = cross_there z (member_in v front) (member_in v back) (known_of front) (known_of back) s.tables c.0 x op y c.1.0 c.2 i.1 in
-    let run = parted z c.2.0 (op ∷ c.2.1) z.initial c.1.0.0 (subst (λ (l : List ℕ). Runs z z.initial l c.1.0.0) c.2.2 c.1.0.1) in
+    let run = parted z c.2.0 (op ∷ c.2.1) z.initial c.1.0.0 (subst (λ (l : List ℕ). RunsInSystem z z.initial l c.1.0.0) c.2.2 c.1.0.1) in
     let number : op < z.operators = run.2.1.number in
     let p = both (member_in v front x m.0) (at_some (z.step op m.0) (member_in v back y)) m.1 in
-    let a = in_layer v (whole_at front x) m.0 p.0 in
+    let a = in_layer v (union_at front x) m.0 p.0 in
     let t = led z op m.0 (member_in v back y) (z.step op m.0) number refl p.1 in
-    let b = in_layer v (whole_at back y) t.0 t.1 in
+    let b = in_layer v (union_at back y) t.0 t.1 in
     (number, (a.0, a.1), (b.0, b.1))
 
 clash : (b : Bool) → b ≡ true → b ≡ false → ⊥
@@ -68,7 +68,7 @@ not_valid false f = refl
 
 -- a law in a later view that keeps all sets
 module _ {Set : Type 0} (v w : View Set) (front back : Layers Set) (k : Kept v w) (hf : Held v front) (hb : Held v back) where
-  pub lawful_on : (cost : ℕ) (es : List Plain) (u : Cut → Bool)
+  pub lawful_on : (cost : ℕ) (es : List PlainEntry) (u : Cut → Bool)
       → Lawful v.system (member_in v front) (member_in v back) (known_of front) (known_of back) cost es u
       → Lawful w.system (member_in w front) (member_in w back) (known_of front) (known_of back) cost es u
   lawful_on cost es u l =
@@ -78,7 +78,7 @@ module _ {Set : Type 0} (v w : View Set) (front back : Layers Set) (k : Kept v w
       let l2 = subst (λ (p : ℕ → State → Bool). Lawful w.system p (member_in v back) f b cost es u) (sym (member_kept v w k front hf)) l1 in
       subst (λ (p : ℕ → State → Bool). Lawful w.system (member_in w front) p f b cost es u) (sym (member_kept v w k back hb)) l2
 
-  pub owed_on : (b cost : ℕ) (es : List Plain) (u : Cut → Bool) (p : List ℕ) → Owed w.system b cost es u p ↔ Owed v.system b cost es u p
+  pub owed_on : (b cost : ℕ) (es : List PlainEntry) (u : Cut → Bool) (p : List ℕ) → Owed w.system b cost es u p ↔ Owed v.system b cost es u p
   owed_on b cost es u p = (
     (λ h. subst (λ (y : System). Owed y b cost es u p) k.system h),
     (λ h. subst (λ (y : System). Owed y b cost es u p) (sym k.system) h),
@@ -87,24 +87,24 @@ module _ {Set : Type 0} (v w : View Set) (front back : Layers Set) (k : Kept v w
 module _ {Set : Type 0} (v w : View Set) (front back : Layers Set) (cost : ℕ) (after : Option Cut)
     (r : AreRightLayers v front back) (lt : cost < known_of front + known_of back) where
   -- a cut was drawn
-  module _ (cut : Cut) (e : Entry Set) (next : IsNextCut v.system (known_of back) cost after (Some cut)) (o : Opened v w front back cost cut e) where
-    stands_at : Stands v.system (known_of front) (known_of back) cost (plain w e)
+  module _ (cut : Cut) (e : Entry Set) (next : IsNextCut v.system (known_of back) cost after (Some cut)) (o : OpenedEntry v w front back cost cut e) where
+    stands_at : StandsOnLayers v.system (known_of front) (known_of back) cost (as_plain_entry w e)
     stands_at = o.stands (known_of front) (known_of back) (sides_of v front back r) lt next.0
 
-    hits_at : (p : List ℕ) → IsPlan v.system p → cost_of v.system p ≡ cost
-        → entry_hits v.system (plain w e) p ≡ ind (same_cut (cut_of v.system (known_of back) p) cut)
+    hits_at : (p : List ℕ) → IsSystemPlan v.system p → cost_in_system v.system p ≡ cost
+        → entry_hits v.system (as_plain_entry w e) p ≡ one_if (same_cut (cut_of v.system (known_of back) p) cut)
     hits_at = o.hits (known_of front) (known_of back) (sides_of v front back r) lt next.0
 
     pub one_lawful : IsLawful v front back cost [] (undrawn true after) → IsLawful w front back cost (e ∷ []) (undrawn true (Some cut))
-    one_lawful l = lawful_on v w front back o.kept r.front_held r.back_held cost (plain w e ∷ []) (undrawn true (Some cut))
+    one_lawful l = lawful_on v w front back o.kept r.front_held r.back_held cost (as_plain_entry w e ∷ []) (undrawn true (Some cut))
         (drawn_lawful v.system (known_of back) cost (member_in v front) (member_in v back) (known_of front) r.begun.1
-        after cut (plain w e) next stands_at hits_at l)
+        after cut (as_plain_entry w e) next stands_at hits_at l)
 
     pub one_owed : (p : List ℕ) → IsOwed w back cost (e ∷ []) (undrawn true (Some cut)) p ↔ IsOwed v back cost [] (undrawn true after) p
     one_owed p =
-        let a = owed_on v w front back o.kept r.front_held r.back_held (known_of back) cost (plain w e ∷ []) (undrawn true (Some cut)) p in
+        let a = owed_on v w front back o.kept r.front_held r.back_held (known_of back) cost (as_plain_entry w e ∷ []) (undrawn true (Some cut)) p in
         let d = drawn_owed v.system (known_of back) cost (member_in v front) (member_in v back) (known_of front)
-        r.begun.1 after cut (plain w e) next stands_at hits_at p in
+        r.begun.1 after cut (as_plain_entry w e) next stands_at hits_at p in
         ((λ h. d.0 (a.0 h)), (λ h. a.1 (d.1 h)))
 
     pub one_queue : IsQueue w (e ∷ [])
@@ -217,7 +217,7 @@ module _ {Set : Type 0} (v : View Set) (Uses : Set → Type 0) (front back : Lay
   one_drew : (w : View Set) (place2 : Place) (cut : Cut) (e : Entry Set) → place2.cost ≡ place.cost
       → place2.after ≡ Some cut → place2.left ≡ true → AreReadyAt v.system (known_of back) place2
       → IsNextCut v.system (known_of back) place.cost place.after (Some cut)
-      → Opened v w front back place.cost cut e → Drew v w Uses front back place place2 queue (e ∷ [])
+      → OpenedEntry v w front back place.cost cut e → Drew v w Uses front back place place2 queue (e ∷ [])
   one_drew w place2 cut e cost after mark ready next o = drew_of place2 cost after mark o.kept
       (one_queue v w front back place.cost place.after r l.settled cut e next o)
       (one_apart v w front back place.cost place.after r l.settled cut e next o Uses valid)
@@ -229,7 +229,7 @@ module _ {Set : Type 0} (v : View Set) (Uses : Set → Type 0) (front back : Lay
   pub put_drew : {A : Type 0} {E : Type 0} {v1 w : View Set} {place1 : Place} (d : Drawn Set) (place2 : Place)
       (queue2 : List (Entry Set)) (x : Result A E) → IsSame place place1
       → AreReadyAt v.system (known_of back) place1
-      → slice_get place1.ready.items 0 ≡ Some d.cut → Opened v v1 front back place1.cost d.cut d.entry
+      → slice_get place1.ready.items 0 ≡ Some d.cut → OpenedEntry v v1 front back place1.cost d.cut d.entry
       → OnOk x (PutsOne v1 w place1 place2 queue2 d) → OnErr x (LeavesAll v1 w place1 place2 queue queue2 d)
       → Drew v w Uses front back place place2 queue queue2
   put_drew {v1 = v1} {w = w} {place1 = place1} d place2 queue2 (Ok a) same ready is o ok err =
@@ -242,7 +242,7 @@ module _ {Set : Type 0} (v : View Set) (Uses : Set → Type 0) (front back : Lay
       (drop 1 place1.ready.items)) (sym ok.after) n.1) in
       let ready2 = subst (AreReady v.system (known_of back) place2.cost place2.after) (sym ok.ready) rest in
       let here = one_drew v1 place2 d.cut d.entry (ok.cost ∙ same.cost) ok.after (ok.left ∙ same.left ∙ left) ready2
-      next (subst (λ (c : ℕ). Opened v v1 front back c d.cut d.entry) same.cost o) in
+      next (subst (λ (c : ℕ). OpenedEntry v v1 front back c d.cut d.entry) same.cost o) in
       to_queue w place2 (d.entry ∷ []) queue2 ok.queue (subst (λ (z : View Set). Drew v z Uses front back place place2 queue (d.entry ∷ [])) (sym ok.view) here)
   put_drew {v1 = v1} {w = w} {place1 = place1} d place2 queue2 (Err b) same ready is o ok err =
       let s : Stays v w = entry_back v v1 w d.entry o.kept o.new o.fine err.0 in
@@ -254,7 +254,7 @@ drawable_on v w front back (Cross x op y) k d = (subst (λ (z : System). op < z.
 
 -- a cut that is opened in a later view in which the same sets are valid
 pub opened_from : {Set : Type 0} {v v1 w : View Set} {front back : Layers Set} {cost : ℕ} {cut : Cut} {e : Entry Set}
-    → Stays v v1 → Held v front → Held v back → Opened v1 w front back cost cut e → Opened v w front back cost cut e
+    → Stays v v1 → Held v front → Held v back → OpenedEntry v1 w front back cost cut e → OpenedEntry v w front back cost cut e
 opened_from {v = v} {v1 = v1} {w = w} {front = front} {back = back} {cost = cost} {cut = cut} {e = e} s hf hb o = record {
   kept = kept_trans s.kept o.kept;
   new = record {
@@ -263,12 +263,13 @@ opened_from {v = v} {v1 = v1} {w = w} {front = front} {back = back} {cost = cost
   };
   fine = o.fine;
   stands = λ f b sides lt c.
-      subst (λ (y : System). Stands y f b cost (plain w e)) s.kept.system
+      subst (λ (y : System). StandsOnLayers y f b cost (as_plain_entry w e)) s.kept.system
       (o.stands f b (subst (λ (y : System). RightSides y v1 front back f b) (sym s.kept.system)
       (sides_kept v v1 s.kept v.system front back f b hf hb sides)) lt
       (subst (λ (y : System). IsCutAt y b cost cut) (sym s.kept.system) c));
   hits = λ f b sides lt c.
-      subst (λ (y : System). (p : List ℕ) → IsPlan y p → cost_of y p ≡ cost → entry_hits y (plain w e) p ≡ ind (same_cut (cut_of y b p) cut)) s.kept.system
+      subst (λ (y : System). (p : List ℕ) → IsSystemPlan y p → cost_in_system y p ≡ cost
+      → entry_hits y (as_plain_entry w e) p ≡ one_if (same_cut (cut_of y b p) cut)) s.kept.system
       (o.hits f b (subst (λ (y : System). RightSides y v1 front back f b) (sym s.kept.system)
       (sides_kept v v1 s.kept v.system front back f b hf hb sides)) lt
       (subst (λ (y : System). IsCutAt y b cost cut) (sym s.kept.system) c));

@@ -1,22 +1,22 @@
 -- An engine in a view in which all sets stay.
 use Rattle.std.proofs.Common.{◌≡◌, ℕ, ◌↔◌, inl, inr, List, [], Option, Some, None, refl, sym, subst}
-use Rattle.task_system.specs.System.{System, IsPlan}
+use Rattle.task_system.specs.System.{System, IsSystemPlan}
 use Rattle.space_api.specs.View.{View}
 use Rattle.space_api.specs.Frames.{Stays}
 use Rattle.cost_layers.specs.Layers.{known_of}
 use Rattle.cost_layers.specs.declared.layers.Layers.{Layers}
-use Rattle.entry_laws.specs.Entries.{Plain, Owed, Lawful}
-use Rattle.entry_turns.specs.Entries.{plains, member_in}
-use Rattle.entry_turns.specs.declared.entries.Entry.{Entry}
-use Rattle.entry_turns.proofs.Sets.{all_kept}
-use Rattle.entry_turns.proofs.Kept.{plains_kept}
-use Rattle.entry_laws.specs.Drawing.{undrawn}
+use Rattle.plan_cuts.specs.Entries.{PlainEntry, Owed, Lawful}
+use Rattle.reconstruct.specs.Entries.{plains, member_in}
+use Rattle.reconstruct.specs.declared.entries.Entry.{Entry}
+use Rattle.reconstruct.proofs.Sets.{all_kept}
+use Rattle.reconstruct.proofs.Kept.{plains_kept}
+use Rattle.plan_cuts.specs.Drawing.{undrawn}
 use Rattle.reconstruct.specs.Sides.{AreRightLayers}
 use Rattle.reconstruct.specs.Listing.{AreReadyAt, IsListing, OwedAt}
 use Rattle.reconstruct.specs.declared.drawing.Place.{Place}
 use Rattle.reconstruct.proofs.Placing.{lawful_on, owed_on}
-use Rattle.reconstruct.specs.Working.{IsAt, Owes}
-use Rattle.reconstruct.proofs.Moves.{same_way}
+use Rattle.reconstruct.specs.Working.{IsAt, OwesByCuts}
+use Rattle.reconstruct.proofs.AgendaMoves.{same_way}
 
 module _ {Set : Type 0} (v w : View Set) (Uses : Set → Type 0) (front back : Layers Set) (r : AreRightLayers v front back) (s : Stays v w) where
   listing_kept : (place : Place) (queue : List (Entry Set)) → IsListing v Uses front back place queue → IsListing w Uses front back place queue
@@ -24,7 +24,7 @@ module _ {Set : Type 0} (v w : View Set) (Uses : Set → Type 0) (front back : L
     queue_is = record { each = all_kept v w queue s.kept l.queue_is.each; distinct = l.queue_is.distinct };
     apart = l.apart;
     settled = l.settled;
-    lawful = subst (λ (es : List Plain). Lawful w.system (member_in w front) (member_in w back) (known_of front)
+    lawful = subst (λ (es : List PlainEntry). Lawful w.system (member_in w front) (member_in w back) (known_of front)
         (known_of back) place.cost es (undrawn place.left place.after))
         (sym (plains_kept v w s.kept queue l.queue_is.each))
         (lawful_on v w front back s.kept r.front_held r.back_held place.cost (plains v queue)
@@ -39,7 +39,7 @@ module _ {Set : Type 0} (v w : View Set) (Uses : Set → Type 0) (front back : L
 
   owed_kept : (place : Place) (queue : List (Entry Set)) → plains w queue ≡ plains v queue → (p : List ℕ)
       → OwedAt w back place queue p ↔ OwedAt v back place queue p
-  owed_kept place queue same p = subst (λ (es : List Plain). Owed w.system (known_of back) place.cost es
+  owed_kept place queue same p = subst (λ (es : List PlainEntry). Owed w.system (known_of back) place.cost es
       (undrawn place.left place.after) p ↔ OwedAt v back place queue p) (sym same)
       (owed_on v w front back s.kept r.front_held r.back_held (known_of back) place.cost (plains v queue)
       (undrawn place.left place.after) p)
@@ -47,11 +47,11 @@ module _ {Set : Type 0} (v w : View Set) (Uses : Set → Type 0) (front back : L
   none_kept : (queue : List (Entry Set)) → queue ≡ [] → plains w queue ≡ plains v queue
   none_kept queue e = rw e refl
 
-  plan_kept : (p : List ℕ) → IsPlan w.system p ↔ IsPlan v.system p
-  plan_kept p = subst (λ (y : System). IsPlan y p ↔ IsPlan v.system p) (sym s.kept.system) (same_way (IsPlan v.system p))
+  plan_kept : (p : List ℕ) → IsSystemPlan w.system p ↔ IsSystemPlan v.system p
+  plan_kept p = subst (λ (y : System). IsSystemPlan y p ↔ IsSystemPlan v.system p) (sym s.kept.system) (same_way (IsSystemPlan v.system p))
 
   pub owes_kept : (listed : Option Place) (queue : List (Entry Set)) → IsAt v Uses front back listed queue
-      → (p : List ℕ) → Owes w back listed queue p ↔ Owes v back listed queue p
+      → (p : List ℕ) → OwesByCuts w back listed queue p ↔ OwesByCuts v back listed queue p
   owes_kept None queue at p = plan_kept p
   owes_kept (Some place) queue (inl at) p = owed_kept place queue (none_kept queue at.1) p
   owes_kept (Some place) queue (inr l) p = owed_kept place queue (plains_kept v w s.kept queue l.queue_is.each) p

@@ -5,12 +5,12 @@ use Rattle.space_api.specs.View.{View, Valid}
 use Rattle.space_api.specs.Owned.{Trades}
 use Rattle.cost_layers.specs.Layers.{known_of}
 use Rattle.cost_layers.specs.declared.layers.Layers.{Layers}
-use Rattle.entry_turns.specs.Entries.{SetIn}
-use Rattle.entry_turns.specs.Turned.{IsQueue}
-use Rattle.entry_turns.specs.Expansions.{AreRight}
-use Rattle.entry_turns.specs.declared.entries.Entry.{Entry}
-use Rattle.entry_laws.specs.Drawing.{undrawn}
-use Rattle.entry_turns.specs.Walked.{IsLawful}
+use Rattle.reconstruct.specs.Entries.{SetIn}
+use Rattle.reconstruct.specs.Turned.{IsQueue}
+use Rattle.reconstruct.specs.Expansions.{AreRightExpansions}
+use Rattle.reconstruct.specs.declared.entries.Entry.{Entry}
+use Rattle.plan_cuts.specs.Drawing.{undrawn}
+use Rattle.reconstruct.specs.Walked.{IsLawful}
 use Rattle.bidirectional.specs.Both.{IsBeneath, IsBoth, front_layers, back_layers}
 use Rattle.bidirectional.specs.declared.search.Both.{Both}
 use Rattle.reconstruct.specs.Listing.{AreReadyAt, IsListing, Lists}
@@ -39,7 +39,7 @@ pub walked_working : {Set P : Type 0} {v w : View Set} {both : Both Set P} {plac
     (new : Agenda Set) → new.listed ≡ Some place → IsBoth v both → Lists v both place queue
     → Trades v w (SetIn queue) (SetIn new.queue) → IsQueue w new.queue
     → IsLawful w (front_layers both) (back_layers both) place.cost new.queue (undrawn place.left place.after)
-    → AreRight w (back_layers both) new.memo
+    → AreRightExpansions w (back_layers both) new.memo
     → IsWorking w both new
 walked_working {v = v} {w = w} {both = both} {place = place} {queue = queue} new is z l t q lawful right = record {
   stands = kept_ends v w t.system both z (λ a u. let ok = valid_ends v both z a u in (t.others a ok (λ s. l.apart a s u), t.same a ok (λ s. l.apart a s u)));

@@ -1,16 +1,16 @@
 -- An engine as its callers see it.
 use Rattle.std.specs.Prelude.{◌≡◌, ◌↔◌, ℕ, Bool, IsFalse, List, Option, Some, None, Result}
-use Rattle.task_system.specs.System.{State, System, IsPlan}
+use Rattle.task_system.specs.System.{State, System, IsSystemPlan}
 use Rattle.run_graph.specs.Reached.{Useful}
 use Rattle.space_api.specs.View.{View, Valid, Has}
 use Rattle.lazy_plans.specs.Law.{Last}
 use Rattle.lazy_plans.specs.declared.stop.Stop.{Stop}
 use Rattle.bidirectional.specs.Both.{back_layers}
 use Rattle.reconstruct.specs.declared.engine.TopPlans.{TopPlans}
-use Rattle.reconstruct.specs.Pending.{Pending, tells_pending, IsTidy, IsKept, IsSound, Answered}
+use Rattle.reconstruct.specs.Pending.{PendingByCuts, tells_pending, IsTidyCutSpace, IsKeptByCuts, IsSound, AnsweredByCuts}
 
-abbrev pub system_of : {S P Set : Type 0} → (S → View Set) → TopPlans S P Set → System
-system_of view x = (view x.space).system
+abbrev pub cut_system : {S P Set : Type 0} → (S → View Set) → TopPlans S P Set → System
+cut_system view x = (view x.space).system
 
 -- the greatest cost that is wanted, or none
 abbrev pub most_of : {S P Set : Type 0} → TopPlans S P Set → Option ℕ
@@ -22,26 +22,26 @@ ended_by x = x.ended
 
 -- what is still owed, and the same computed
 abbrev pub Pends : {S P Set : Type 0} → (S → View Set) → TopPlans S P Set → List ℕ → Type 0
-Pends view x p = Pending (view x.space) (back_layers x.both) x.agenda x.held p
+Pends view x p = PendingByCuts (view x.space) (back_layers x.both) x.agenda x.held p
 
 abbrev pub tells : {S P Set : Type 0} → (S → View Set) → TopPlans S P Set → List ℕ → Bool
 tells view x p = tells_pending (view x.space) (back_layers x.both) x.agenda x.held p
 
 -- what it meets between two calls
-abbrev pub IsEngine : {S P Set : Type 0} → (S → View Set) → TopPlans S P Set → Type 0
-IsEngine view x = IsSound (view x.space) x.both x.most x.within x.agenda x.held x.ended
+abbrev pub IsCutEngine : {S P Set : Type 0} → (S → View Set) → TopPlans S P Set → Type 0
+IsCutEngine view x = IsSound (view x.space) x.both x.most x.within x.agenda x.held x.ended
 
 -- every valid set stands in a ring or layer, has all states or the useful ones, is an entry's, or was handed over
 abbrev pub KeepsAll : {S P Set : Type 0} → (S → View Set) → TopPlans S P Set → Type 0
-KeepsAll {S} {P} {Set} view x = (a : Set) → Valid (view x.space) a → IsKept x.both x.within x.agenda.queue a
+KeepsAll {S} {P} {Set} view x = (a : Set) → Valid (view x.space) a → IsKeptByCuts x.both x.within x.agenda.queue a
 
 -- no more is held than twice what was needed last, and 1,000
-abbrev pub HasRoom : {S P Set : Type 0} → (S → View Set) → TopPlans S P Set → Type 0
-HasRoom view x = IsTidy (view x.space)
+abbrev pub HasCutRoom : {S P Set : Type 0} → (S → View Set) → TopPlans S P Set → Type 0
+HasCutRoom view x = IsTidyCutSpace (view x.space)
 
 -- one call of it
-abbrev pub Answers : {S P Set : Type 0} → (S → View Set) → TopPlans S P Set → TopPlans S P Set → Result (Option (List ℕ)) Stop → Type 0
-Answers view x z result = Answered (view x.space) (view z.space) x.most (Pends view x) (Pends view z) (IsEngine view z) z.ended result
+abbrev pub AnswersByCuts : {S P Set : Type 0} → (S → View Set) → TopPlans S P Set → TopPlans S P Set → Result (Option (List ℕ)) Stop → Type 0
+AnswersByCuts view x z result = AnsweredByCuts (view x.space) (view z.space) x.most (Pends view x) (Pends view z) (IsCutEngine view z) z.ended result
 
 -- no set is valid, or the set alone that has every useful state
 abbrev pub IsReadyFor : {Set : Type 0} → View Set → Option Set → Type 0
@@ -49,9 +49,9 @@ IsReadyFor {Set} v None = (a : Set) → IsFalse (v.valid a)
 IsReadyFor {Set} v (Some within) = Valid v within × ((a : Set) → Valid v a → a ≡ within) × ((s : State) → Useful v.system s → Has v within s)
 
 -- a new engine: every plan pends, and it has answered nothing yet
-pub record IsNew {S P Set : Type 0} (view : S → View Set) (v : View Set) (most : Option ℕ) (x : TopPlans S P Set) : Type 0 where
-  pub lawful : IsEngine view x
-  pub system : system_of view x ≡ v.system
+pub record IsNewCutEngine {S P Set : Type 0} (view : S → View Set) (v : View Set) (most : Option ℕ) (x : TopPlans S P Set) : Type 0 where
+  pub lawful : IsCutEngine view x
+  pub system : cut_system view x ≡ v.system
   pub most_is : most_of x ≡ most
-  pub all : (p : List ℕ) → Pends view x p ↔ IsPlan v.system p
+  pub all : (p : List ℕ) → Pends view x p ↔ IsSystemPlan v.system p
   pub goes_on : x.ended ≡ None

@@ -2,10 +2,10 @@
 use Rattle.std.specs.Prelude.{◌≡◌, ℕ, ◌<◌, ◌≤◌, ◌↔◌, ◌⊎◌, false, List, [], length, Option, Some, None}
 use Rattle.space_api.specs.View.{View}
 use Rattle.cost_layers.specs.declared.layers.Layers.{Layers}
-use Rattle.lazy_plans.specs.Law.{top, NoneLeft, Stops}
+use Rattle.lazy_plans.specs.Law.{top, NoneLeft, MayStop}
 use Rattle.lazy_plans.specs.declared.stop.Stop.TheVariants.{CostRange}
-use Rattle.entry_laws.specs.Drawing.{Above}
-use Rattle.entry_turns.specs.declared.entries.Entry.{Entry}
+use Rattle.plan_cuts.specs.Drawing.{Above}
+use Rattle.reconstruct.specs.declared.entries.Entry.{Entry}
 use Rattle.bidirectional.specs.Both.{IsBeneath, front_layers, back_layers}
 use Rattle.bidirectional.specs.declared.search.Both.{Both}
 use Rattle.reconstruct.specs.Listing.{IsListing, OwedAt}
@@ -13,9 +13,9 @@ use Rattle.reconstruct.specs.declared.drawing.Place.{Place}
 use Rattle.reconstruct.specs.declared.going.Filled.{Filled}
 use Rattle.reconstruct.specs.declared.going.Filled.TheVariants.{Ready, Never, Beyond}
 
-abbrev pub cost_at : Option Place → Option ℕ
-cost_at None = None
-cost_at (Some place) = Some place.cost
+abbrev pub place_cost : Option Place → Option ℕ
+place_cost None = None
+place_cost (Some place) = Some place.cost
 
 -- nothing is listed yet, or no cut is left
 abbrev pub Rests : Option Place → Type 0
@@ -31,18 +31,20 @@ pub record IsFilled {Set : Type 0} (v w : View Set) (Uses : Set → Type 0) (fro
   pub listing : IsListing w Uses front back place queue
   pub some : 0 < length queue
   pub wanted : place.cost ≤ top most
-  pub owes : (p : List ℕ) → OwedAt w back place queue p ↔ Above v.system (cost_at old) p
+  pub owes : (p : List ℕ) → OwedAt w back place queue p ↔ Above v.system (place_cost old) p
 
-abbrev pub IsListed : {Set : Type 0} → View Set → View Set → (Set → Type 0) → Layers Set → Layers Set → Option ℕ → Option Place → Option Place → List (Entry Set) → Type 0
-IsListed v w Uses front back most old None queue = ⊥
-IsListed v w Uses front back most old (Some place) queue = IsFilled v w Uses front back most old place queue
+abbrev pub IsCostListed : {Set : Type 0} → View Set → View Set → (Set → Type 0) → Layers Set → Layers Set → Option ℕ
+    → Option Place → Option Place → List (Entry Set) → Type 0
+IsCostListed v w Uses front back most old None queue = ⊥
+IsCostListed v w Uses front back most old (Some place) queue = IsFilled v w Uses front back most old place queue
 
 -- what going on gives
-abbrev pub GoesOn : {Set : Type 0} → View Set → View Set → (Set → Type 0) → Layers Set → Layers Set → Option ℕ → Option Place → Option Place → List (Entry Set) → Filled → Type 0
-GoesOn v w Uses front back most old new queue Ready = IsListed v w Uses front back most old new queue
-GoesOn v w Uses front back most old new queue Never = (new ≡ old) × (queue ≡ []) × NoneLeft v.system most (Above v.system (cost_at old))
-GoesOn v w Uses front back most old new queue Beyond = (new ≡ old) × (queue ≡ []) × Stops v.system most (Above v.system (cost_at old)) CostRange
+abbrev pub GoesOnByCuts : {Set : Type 0} → View Set → View Set → (Set → Type 0) → Layers Set → Layers Set → Option ℕ
+    → Option Place → Option Place → List (Entry Set) → Filled → Type 0
+GoesOnByCuts v w Uses front back most old new queue Ready = IsCostListed v w Uses front back most old new queue
+GoesOnByCuts v w Uses front back most old new queue Never = (new ≡ old) × (queue ≡ []) × NoneLeft v.system most (Above v.system (place_cost old))
+GoesOnByCuts v w Uses front back most old new queue Beyond = (new ≡ old) × (queue ≡ []) × MayStop v.system most (Above v.system (place_cost old)) CostRange
 
 -- the same, by the search from both ends
-abbrev pub GoesTo : {Set P : Type 0} → View Set → View Set → Both Set P → Option ℕ → Option Place → Option Place → List (Entry Set) → Filled → Type 0
-GoesTo v w both most old new queue r = GoesOn v w (IsBeneath both) (front_layers both) (back_layers both) most old new queue r
+abbrev pub GoesOnFromBoth : {Set P : Type 0} → View Set → View Set → Both Set P → Option ℕ → Option Place → Option Place → List (Entry Set) → Filled → Type 0
+GoesOnFromBoth v w both most old new queue r = GoesOnByCuts v w (IsBeneath both) (front_layers both) (back_layers both) most old new queue r

@@ -5,3 +5,11 @@ pub mod Working
 pub mod Pending
 pub mod Engine
 pub mod Laws
+pub mod Entries
+pub mod Ways
+pub mod Moves
+pub mod Expansions
+pub mod Grown
+pub mod Turned
+pub mod Walked
+pub mod Opened

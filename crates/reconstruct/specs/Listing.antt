@@ -8,12 +8,12 @@ use Rattle.cost_layers.specs.Layers.{known_of}
 use Rattle.cost_layers.specs.declared.layers.Layers.{Layers}
 use Rattle.plan_cuts.specs.Cuts.{IsNextCut}
 use Rattle.plan_cuts.specs.declared.Cut.{Cut}
-use Rattle.entry_laws.specs.Drawing.{undrawn}
-use Rattle.entry_turns.specs.Entries.{SetIn}
-use Rattle.entry_turns.specs.Turned.{IsQueue, GivesBack}
-use Rattle.entry_turns.specs.declared.entries.Entry.{Entry}
-use Rattle.entry_turns.specs.Walked.{IsLawful, IsOwed}
-use Rattle.entry_turns.specs.Opened.{Opened}
+use Rattle.plan_cuts.specs.Drawing.{undrawn}
+use Rattle.reconstruct.specs.Entries.{SetIn}
+use Rattle.reconstruct.specs.Turned.{IsQueue, GivesBack}
+use Rattle.reconstruct.specs.declared.entries.Entry.{Entry}
+use Rattle.reconstruct.specs.Walked.{IsLawful, IsOwed}
+use Rattle.reconstruct.specs.Opened.{OpenedEntry}
 use Rattle.bidirectional.specs.Both.{IsBeneath, IsBoth, front_layers, back_layers}
 use Rattle.bidirectional.specs.declared.search.Both.{Both}
 use Rattle.reconstruct.specs.declared.drawing.Place.{Place}
@@ -52,7 +52,7 @@ OwedAt v back place queue p = IsOwed v back place.cost queue (undrawn place.left
 -- the cut is the first that is ready, and the entry its first; or no cut follows
 abbrev pub DrawsNext : {Set : Type 0} → View Set → View Set → Layers Set → Layers Set → Place → Option (Drawn Set) → Type 0
 DrawsNext v w front back place None = Stays v w × IsNextCut v.system (known_of back) place.cost place.after None
-DrawsNext v w front back place (Some d) = (slice_get place.ready.items 0 ≡ Some d.cut) × Opened v w front back place.cost d.cut d.entry
+DrawsNext v w front back place (Some d) = (slice_get place.ready.items 0 ≡ Some d.cut) × OpenedEntry v w front back place.cost d.cut d.entry
 
 -- the entry is the queue, and the cut the last one that was drawn and no longer ready
 pub record PutsOne {Set : Type 0} (v w : View Set) (place place2 : Place) (queue2 : List (Entry Set)) (d : Drawn Set) : Type 0 where

@@ -1,15 +1,15 @@
 -- What reconstruction needs of a search from both ends.
 use Rattle.std.specs.Prelude.{◌≡◌, ℕ, ◌+◌, ◌<◌, ◌≤◌, List, Option}
-use Rattle.task_system.specs.System.{System, cost_of}
+use Rattle.task_system.specs.System.{System, cost_in_system}
 use Rattle.space_api.specs.View.{View}
 use Rattle.run_graph.specs.Reached.{IsRightLayer}
 use Rattle.run_graph.specs.declared.Side.TheVariants.{Ahead, Back}
 use Rattle.run_graph.specs.declared.Kind.TheVariants.{Every}
 use Rattle.cost_layers.specs.Layers.{known_of, Held, Stands}
 use Rattle.cost_layers.specs.declared.layers.Layers.{Layers}
-use Rattle.lazy_plans.specs.Law.{top, NoneLeft, Stops}
+use Rattle.lazy_plans.specs.Law.{top, NoneLeft, MayStop}
 use Rattle.lazy_plans.specs.declared.stop.Stop.TheVariants.{CostRange}
-use Rattle.entry_laws.specs.Drawing.{Above}
+use Rattle.plan_cuts.specs.Drawing.{Above}
 use Rattle.bidirectional.specs.declared.search.Next.{Next}
 use Rattle.bidirectional.specs.declared.search.Next.TheVariants.{Plans, Beyond, Never}
 
@@ -25,11 +25,11 @@ pub record AreRightLayers {Set : Type 0} (v : View Set) (front back : Layers Set
 pub record IsNextCost {Set : Type 0} (y : System) (above most : Option ℕ) (front back : Layers Set) (cost : ℕ) : Type 0 where
   pub settled : cost < known_of front + known_of back
   pub wanted : cost ≤ top most
-  pub plan : (p : List ℕ) × Above y above p × (cost_of y p ≡ cost)
-  pub least : (p : List ℕ) → Above y above p → cost ≤ cost_of y p
+  pub plan : (p : List ℕ) × Above y above p × (cost_in_system y p ≡ cost)
+  pub least : (p : List ℕ) → Above y above p → cost ≤ cost_in_system y p
 
 -- the next cost at which a wanted plan exists; or plans above are all past 64 bits; or none above is wanted
-abbrev pub Advances : {Set : Type 0} → System → Option ℕ → Option ℕ → Layers Set → Layers Set → Next → Type 0
-Advances y above most front back (Plans cost) = IsNextCost y above most front back cost
-Advances y above most front back Beyond = Stops y most (Above y above) CostRange
-Advances y above most front back Never = NoneLeft y most (Above y above)
+abbrev pub AdvancesCost : {Set : Type 0} → System → Option ℕ → Option ℕ → Layers Set → Layers Set → Next → Type 0
+AdvancesCost y above most front back (Plans cost) = IsNextCost y above most front back cost
+AdvancesCost y above most front back Beyond = MayStop y most (Above y above) CostRange
+AdvancesCost y above most front back Never = NoneLeft y most (Above y above)

@@ -4,12 +4,13 @@ ghost use Rattle.std.specs.Prelude.{None, Some, IfOk};
 ghost use Rattle.space_api.specs.View.{View};
 ghost use Rattle.space_api.specs.Owned.{Trades};
 ghost use Rattle.bidirectional.specs.Both.{IsBoth, IsOwnOf};
-ghost use Rattle.reconstruct.specs.Engine.{IsReadyFor, IsNew};
+ghost use Rattle.reconstruct.specs.Engine.{IsReadyFor, IsNewCutEngine};
 
 use crate::engine::TopPlans;
+use crate::expansions::Expansions;
 use crate::next_plan::Agenda;
+use crate::queue::Queue;
 use bidirectional::{Both, Choose};
-use entry_turns::{Expansions, Queue};
 use space_api::Space;
 use std::alloc::Global;
 use symk_task::Memory;
@@ -40,7 +41,7 @@ fn begin<S: Space + Drop, P: Choose + Drop>(
     within: Option<S::Set>,
 ) -> Result<TopPlans<S, P>, Memory>
     requires { IsReadyFor (S.view space) within }
-    ensures { IfOk result (IsNew S.view (S.view space) most) }
+    ensures { IfOk result (IsNewCutEngine S.view (S.view space) most) }
 {
     let mut space = space;
     let both = both_of(alloc, &mut space, choose, within)?;
@@ -65,7 +66,7 @@ impl<S: Space + Drop, P: Choose + Drop> TopPlans<S, P> {
     /// The caller knows that no set of the space is valid.
     pub fn new(alloc: Global, space: S, choose: P) -> Result<TopPlans<S, P>, Memory>
         requires { IsReadyFor (S.view space) None }
-        ensures { IfOk result (IsNew S.view (S.view space) None) }
+        ensures { IfOk result (IsNewCutEngine S.view (S.view space) None) }
     {
         begin(alloc, space, choose, None, None)
     }
@@ -74,7 +75,7 @@ impl<S: Space + Drop, P: Choose + Drop> TopPlans<S, P> {
     /// them.
     pub fn within(alloc: Global, space: S, choose: P, most: u64) -> Result<TopPlans<S, P>, Memory>
         requires { IsReadyFor (S.view space) None }
-        ensures { IfOk result (IsNew S.view (S.view space) (Some most)) }
+        ensures { IfOk result (IsNewCutEngine S.view (S.view space) (Some most)) }
     {
         begin(alloc, space, choose, Some(most), None)
     }
@@ -89,7 +90,7 @@ impl<S: Space + Drop, P: Choose + Drop> TopPlans<S, P> {
         within: S::Set,
     ) -> Result<TopPlans<S, P>, Memory>
         requires { IsReadyFor (S.view space) (Some within) }
-        ensures { IfOk result (IsNew S.view (S.view space) None) }
+        ensures { IfOk result (IsNewCutEngine S.view (S.view space) None) }
     {
         begin(alloc, space, choose, None, Some(within))
     }
@@ -105,7 +106,7 @@ impl<S: Space + Drop, P: Choose + Drop> TopPlans<S, P> {
         within: S::Set,
     ) -> Result<TopPlans<S, P>, Memory>
         requires { IsReadyFor (S.view space) (Some within) }
-        ensures { IfOk result (IsNew S.view (S.view space) (Some most)) }
+        ensures { IfOk result (IsNewCutEngine S.view (S.view space) (Some most)) }
     {
         begin(alloc, space, choose, Some(most), Some(within))
     }

@@ -1,6 +1,6 @@
 //! The next cut of the cost that is listed.
 
-use entry_turns::Entry;
+use crate::entries::{Entry, give_back};
 use plan_cuts::Cut;
 use std::collections::VecDeque;
 
@@ -25,13 +25,14 @@ ghost use Rattle.std.specs.Prelude.{◌≡◌, ◌+◌, ◌<◌, [], IsTrue, Non
 ghost use Rattle.space_api.specs.View.{View, Valid};
 ghost use Rattle.space_api.specs.Frames.{Stays};
 ghost use Rattle.plan_cuts.specs.Cuts.{IsNextCut};
-ghost use Rattle.entry_turns.specs.Entries.{HasSet};
+ghost use Rattle.reconstruct.specs.Entries.{HasSet};
 ghost use Rattle.bidirectional.specs.Both.{IsBoth, f_of, b_of, front_layers, back_layers};
 ghost use Rattle.reconstruct.specs.Listing.{IsSame, AreReadyAt, Lists, DrawsNext, PutsOne, LeavesAll, Draws};
 ghost use Rattle.reconstruct.specs.Going.{HasMore};
 
+use crate::opening::open_cut;
+use crate::queue::Queue;
 use bidirectional::{Both, Choose};
-use entry_turns::{Queue, give_back, open_cut};
 use space_api::{Space, SpaceFault};
 use std::alloc::{AllocError, Global};
 

@@ -2,7 +2,7 @@
 
 use crate::next_plan::Agenda;
 use bidirectional::{Both, Choose};
-use lazy_plans::Stop;
+use lazy_plans::{LazyPlans, Steps, Stop};
 use space_api::Space;
 use std::alloc::Global;
 use symk_task::Plan;
@@ -28,20 +28,19 @@ ghost use Rattle.space_api.specs.View.{View};
 ghost use Rattle.symk_task.specs.declared.parts.Mode.TheVariants.{TopK};
 ghost use Rattle.lazy_plans.specs.Law.{Turned, last_of};
 ghost use Rattle.reconstruct.specs.Working.{FewTurns};
-ghost use Rattle.reconstruct.specs.Engine.{system_of, most_of, ended_by, Pends, tells, IsEngine, KeepsAll, HasRoom, Answers};
+ghost use Rattle.reconstruct.specs.Engine.{cut_system, most_of, ended_by, Pends, tells, IsCutEngine, KeepsAll, HasCutRoom, AnswersByCuts};
 ghost use Rattle.reconstruct.specs.Laws.{engine_fair, engine_told};
 
 use crate::next_plan::give;
-use lazy_plans::{LazyPlans, Steps};
 use std::sync::ledger::Ledger;
 
 impl<S: Space, P: Choose> TopPlans<S, P> {
     /// Asks for the next plan, and tidies the space before it is handed out. Where that is refused the plan is held,
     /// and the engine stops.
     fn ask<L: Ledger>(&mut self, alloc: Global, steps: &mut Steps<L>) -> Result<Option<Plan>, Stop>
-        requires engine { IsEngine S.view self.old }
+        requires engine { IsCutEngine S.view self.old }
         requires goes_on { ended_by self.old ≡ None }
-        ensures answers { Answers S.view self.old self.new result }
+        ensures answers { AnswersByCuts S.view self.old self.new result }
         ensures most { most_of self.new ≡ most_of self.old }
         ensures steps { FewTurns steps.old steps.new result }
     {
@@ -76,7 +75,7 @@ impl<S: Space, P: Choose> TopPlans<S, P> {
 }
 
 impl<S: Space, P: Choose> LazyPlans for TopPlans<S, P> {
-    ghost system = { λ x. system_of S.view x };
+    ghost system = { λ x. cut_system S.view x };
 
     ghost mode = { λ x. TopK };
 
@@ -86,7 +85,7 @@ impl<S: Space, P: Choose> LazyPlans for TopPlans<S, P> {
 
     ghost tells = { λ x. tells S.view x };
 
-    ghost lawful = { λ x. IsEngine S.view x };
+    ghost lawful = { λ x. IsCutEngine S.view x };
 
     ghost last = { λ x. ended_by x };
 
@@ -98,18 +97,18 @@ impl<S: Space, P: Choose> LazyPlans for TopPlans<S, P> {
         alloc: Global,
         steps: &mut Steps<L>,
     ) -> Result<Option<Plan>, Stop>
-        requires { IsEngine S.view self.old }
-        ensures lawful { IsEngine S.view self.new }
-        ensures system { system_of S.view self.new ≡ system_of S.view self.old }
+        requires { IsCutEngine S.view self.old }
+        ensures lawful { IsCutEngine S.view self.new }
+        ensures system { cut_system S.view self.new ≡ cut_system S.view self.old }
         ensures mode { TopK ≡ TopK }
         ensures most { most_of self.new ≡ most_of self.old }
-        ensures law { Turned (system_of S.view self.old) TopK (most_of self.old) (Pends S.view self.old)
+        ensures law { Turned (cut_system S.view self.old) TopK (most_of self.old) (Pends S.view self.old)
             (Pends S.view self.new) result }
         ensures last { ended_by self.new ≡ last_of result }
         ensures again { ended_by self.old ≢ None → ended_by self.new ≡ ended_by self.old }
         ensures steps { FewTurns steps.old steps.new result }
         ensures keeps { KeepsAll S.view self.new }
-        ensures tidy { IfOk result (λ o. HasRoom S.view self.new) }
+        ensures tidy { IfOk result (λ o. HasCutRoom S.view self.new) }
     {
         match self.ended {
             None => self.ask(alloc, steps),

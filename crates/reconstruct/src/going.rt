@@ -12,21 +12,21 @@ pub(crate) enum Filled {
 ghost use Rattle.std.specs.Prelude.{◌≡◌, ◌⊎◌, [], IfOk, OnErr};
 ghost use Rattle.space_api.specs.View.{View};
 ghost use Rattle.space_api.specs.Owned.{Trades};
-ghost use Rattle.entry_turns.specs.Entries.{SetIn};
+ghost use Rattle.reconstruct.specs.Entries.{SetIn};
 ghost use Rattle.bidirectional.specs.Both.{IsBoth, IsOwnOf, front_layers, back_layers};
-ghost use Rattle.reconstruct.specs.Sides.{Advances};
-ghost use Rattle.reconstruct.specs.Going.{Rests, cost_at, GoesTo};
+ghost use Rattle.reconstruct.specs.Sides.{AdvancesCost};
+ghost use Rattle.reconstruct.specs.Going.{Rests, place_cost, GoesOnFromBoth};
 
 use crate::drawing::{Place, draw};
+use crate::queue::Queue;
 use bidirectional::{Both, Choose, Next, Within};
-use entry_turns::Queue;
 use space_api::{Space, SpaceFault};
 use std::alloc::Global;
 use std::collections::VecDeque;
 
 /// The cost that is listed.
 fn cost_of(listed: &Option<Place>) -> Option<u64>
-    ensures { result ≡ cost_at listed.now }
+    ensures { result ≡ place_cost listed.now }
 {
     match listed {
         Some(place) => Some(place.cost),
@@ -45,7 +45,7 @@ fn next_cost<S: Space, P: Choose>(
     requires { IsBoth (S.view space.old) both.old }
     ensures both { IsBoth (S.view space.new) both.new }
     ensures trades { Trades (S.view space.old) (S.view space.new) (IsOwnOf both.old) (IsOwnOf both.new) }
-    ensures ok { IfOk result (Advances (S.view space.old).system above most (front_layers both.new)
+    ensures ok { IfOk result (AdvancesCost (S.view space.old).system above most (front_layers both.new)
         (back_layers both.new)) }
 {
     match most {
@@ -74,7 +74,7 @@ pub(crate) fn go_on<S: Space, P: Choose>(
     ensures both { IsBoth (S.view space.new) both.new }
     ensures trades { Trades (S.view space.old) (S.view space.new) (IsOwnOf both.old) (λ a. IsOwnOf both.new a
         ⊎ SetIn queue.new a) }
-    ensures ok { IfOk result (GoesTo (S.view space.old) (S.view space.new) both.new most listed.old listed.new
+    ensures ok { IfOk result (GoesOnFromBoth (S.view space.old) (S.view space.new) both.new most listed.old listed.new
         queue.new) }
     ensures listed { OnErr result (listed.new ≡ listed.old) }
     ensures queue { OnErr result (queue.new ≡ []) }

@@ -1,7 +1,8 @@
 //! The next plan, by the parts of an engine.
 
 use crate::drawing::Place;
-use entry_turns::{Expansions, Queue};
+use crate::expansions::Expansions;
+use crate::queue::Queue;
 
 /// What is left to list: the cost at hand with its cuts, the entries that grow, and what leads on from states of them.
 #[derive(Drop)]
@@ -16,13 +17,13 @@ ghost use Rattle.std.specs.Prelude.{◌≡◌, ◌<◌, [], Option, ℕ, length,
 ghost use Rattle.space_api.specs.View.{View};
 ghost use Rattle.symk_task.specs.declared.parts.Mode.TheVariants.{TopK};
 ghost use Rattle.lazy_plans.specs.Law.{Turned};
-ghost use Rattle.reconstruct.specs.Going.{cost_at, HasMore};
-ghost use Rattle.reconstruct.specs.Working.{IsWorking, InRange, OwedBy, Moves, TradesAll, Fills, FewTurns};
+ghost use Rattle.reconstruct.specs.Going.{place_cost, HasMore};
+ghost use Rattle.reconstruct.specs.Working.{IsWorking, InWantedRange, OwedBy, MovesAgenda, TradesAll, FillsQueue, FewTurns};
 
 use crate::drawing::draw;
 use crate::going::{Filled, go_on};
+use crate::walking::walk;
 use bidirectional::{Both, Choose};
-use entry_turns::walk;
 use lazy_plans::{Steps, Stop};
 use space_api::{Space, SpaceFault};
 use std::alloc::Global;
@@ -39,8 +40,8 @@ fn draw_next<S: Space, P: Choose>(
     requires working { IsWorking (S.view space.old) both.now agenda.old }
     requires empty { agenda.old.queue ≡ [] }
     ensures working { IsWorking (S.view space.new) both.now agenda.new }
-    ensures moves { Moves (S.view space.old) (S.view space.new) both.now both.now agenda.old agenda.new }
-    ensures cost { cost_at agenda.new.listed ≡ cost_at agenda.old.listed }
+    ensures moves { MovesAgenda (S.view space.old) (S.view space.new) both.now both.now agenda.old agenda.new }
+    ensures cost { place_cost agenda.new.listed ≡ place_cost agenda.old.listed }
     ensures ok { OnOk result (HasMore agenda.new.queue agenda.new.listed) }
 {
     match &mut agenda.listed {
@@ -65,11 +66,11 @@ fn fill<S: Space, P: Choose>(
     agenda: &mut Agenda<S::Set>,
 ) -> Result<Filled, SpaceFault>
     requires working { IsWorking (S.view space.old) both.old agenda.old }
-    requires range { InRange most agenda.old.listed }
+    requires range { InWantedRange most agenda.old.listed }
     ensures working { IsWorking (S.view space.new) both.new agenda.new }
-    ensures moves { Moves (S.view space.old) (S.view space.new) both.old both.new agenda.old agenda.new }
-    ensures range { InRange most agenda.new.listed }
-    ensures ok { IfOk result (Fills (S.view space.old).system most
+    ensures moves { MovesAgenda (S.view space.old) (S.view space.new) both.old both.new agenda.old agenda.new }
+    ensures range { InWantedRange most agenda.new.listed }
+    ensures ok { IfOk result (FillsQueue (S.view space.old).system most
         (OwedBy (S.view space.old) both.old agenda.old) agenda.new.queue) }
 {
     if !agenda.queue.is_empty() {
@@ -103,7 +104,8 @@ fn walk_on<S: Space, P: Choose, L: Ledger>(
     ensures working { IsWorking (S.view space.new) both.now agenda.new }
     ensures listed { agenda.new.listed ≡ agenda.old.listed }
     ensures trades { TradesAll (S.view space.old) (S.view space.new) both.now both.now agenda.old agenda.new }
-    ensures turned { (most : Option ℕ) → InRange most agenda.old.listed → Turned (S.view space.old).system TopK most
+    ensures turned { (most : Option ℕ) → InWantedRange most agenda.old.listed
+        → Turned (S.view space.old).system TopK most
         (OwedBy (S.view space.old) both.now agenda.old) (OwedBy (S.view space.new) both.now agenda.new) result }
     ensures steps { FewTurns steps.old steps.new result }
 {
@@ -136,9 +138,9 @@ pub(crate) fn give<S: Space, P: Choose, L: Ledger>(
     steps: &mut Steps<L>,
 ) -> Result<Option<Plan>, Stop>
     requires working { IsWorking (S.view space.old) both.old agenda.old }
-    requires range { InRange most agenda.old.listed }
+    requires range { InWantedRange most agenda.old.listed }
     ensures working { IsWorking (S.view space.new) both.new agenda.new }
-    ensures range { InRange most agenda.new.listed }
+    ensures range { InWantedRange most agenda.new.listed }
     ensures trades { TradesAll (S.view space.old) (S.view space.new) both.old both.new agenda.old agenda.new }
     ensures turned { Turned (S.view space.old).system TopK most
         (OwedBy (S.view space.old) both.old agenda.old) (OwedBy (S.view space.new) both.new agenda.new) result }

@@ -5,3 +5,6 @@ pub mod Cutting
 pub mod Settled
 pub mod Sides
 pub mod Listed
+pub mod Inside
+pub mod Ranking
+pub mod Sound

@@ -2,7 +2,7 @@
 use Rattle.std.proofs.Common.{◌≡◌, ℕ, zero, suc, ◌+◌, ◌<◌, ◌≤◌, ◌⊎◌, inl, inr, [], ◌∷◌, refl, sym, ◌∙◌, subst, arith}
 use Rattle.task_system.specs.System.{State}
 use Rattle.run_graph.specs.Graph.{Graph, ReachedBy}
-use Rattle.run_graph.specs.Layering.{At, InLayer, Cheaper, Placed, OneLayer, Layered, Seeds, NewLayer, IsRoom, AddsLayer}
+use Rattle.run_graph.specs.Layering.{At, InLayer, Cheaper, IsInRingOrBefore, OneLayer, Layered, Seeds, NewLayer, IsRoom, AddsLayer}
 use Rattle.run_graph.specs.declared.Kind.{Kind}
 use Rattle.run_graph.specs.declared.Kind.TheVariants.{Every, Least}
 
@@ -22,7 +22,7 @@ module _ (g : Graph) (at more : At) (row : ℕ → State → Type 0) (P Room : S
   cheaper Every c s h = h
   cheaper Least c s (d, lt, (i, h)) = (d, lt, (i, old d i s h))
 
-  lift : (k : Kind) (c i : ℕ) (s : State) → Placed k at c i s → Placed k more c i s
+  lift : (k : Kind) (c i : ℕ) (s : State) → IsInRingOrBefore k at c i s → IsInRingOrBefore k more c i s
   lift k c i s (inl (j, le, h)) = inl (j, le, old c j s h)
   lift k c i s (inr h) = inr (cheaper k c s h)
 
@@ -58,7 +58,7 @@ module _ (g : Graph) (at more : At) (row : ℕ → State → Type 0) (P Room : S
     one_layer = one_layer k r room;
     begin = λ s b start p. elim (below_or_at 0 x (omega arith)) [
       | inl y ↦ lift k 0 0 s (r.begin s y start p)
-      | inr e ↦ subst (λ (y : ℕ). Placed k more y 0 s) (sym e) (elim (room.part s p) [
+      | inr e ↦ subst (λ (y : ℕ). IsInRingOrBefore k more y 0 s) (sym e) (elim (room.part s p) [
         | inl q ↦ inl (0, omega arith, here 0 s ((new.first s).1 (inl (sym e, start), q)))
         | inr h ↦ inr (cheaper k x s h)
       ])
@@ -68,7 +68,7 @@ module _ (g : Graph) (at more : At) (row : ℕ → State → Type 0) (P Room : S
         elim ((split c i t).0 a) [
           | inl m ↦ elim (below_or_at (c + g.cost op) x le) [
             | inl y ↦ lift k (c + g.cost op) 0 s (r.onward c i op t s m arc p dear y)
-            | inr e ↦ subst (λ (y : ℕ). Placed k more y 0 s) (sym e) (elim (room.part s p) [
+            | inr e ↦ subst (λ (y : ℕ). IsInRingOrBefore k more y 0 s) (sym e) (elim (room.part s p) [
               | inl q ↦ inl (
                 0,
                 omega arith,
@@ -94,7 +94,7 @@ module _ (g : Graph) (at more : At) (row : ℕ → State → Type 0) (P Room : S
         ];
     beside = λ c i op t s a arc p z. elim ((split c i t).0 a) [
       | inl m ↦ lift k c (i + 1) s (r.beside c i op t s m arc p z)
-      | inr m ↦ subst (λ (y : ℕ). Placed k more y (i + 1) s) (sym m.0) (elim (room.part s p) [
+      | inr m ↦ subst (λ (y : ℕ). IsInRingOrBefore k more y (i + 1) s) (sym m.0) (elim (room.part s p) [
         | inl q ↦ (let n = new.next i op t s m.1 arc z q in inl (n.0, n.1, here n.0 s n.2))
         | inr h ↦ inr (cheaper k x s h)
       ])

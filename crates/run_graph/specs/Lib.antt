@@ -3,3 +3,6 @@ pub mod Layering
 pub mod Settling
 pub mod Reached
 pub mod Laws
+pub mod Inside
+pub mod Ranks
+pub mod RankLaws

@@ -2,7 +2,7 @@
 //! by which tasks are drawn, and operators that commute, beside their definition.
 //!
 //! There is no call: tests stand apart from the crates of which they are, so that those are proved once. It
-//! stands on `symk_task`, `task_run`, `task_gen`, `task_draws`, `commuting` and `small_tasks`.
+//! stands on `symk_task`, `task_run`, `task_gen`, `task_draws`, `stubborn_sets` and `small_tasks`.
 #![tactic(auto)]
 
 #[cfg(test)]

@@ -3,13 +3,13 @@
 ghost use Rattle.std.specs.Prelude.{◌≤◌, ◌<◌, IfOk, length};
 ghost use Rattle.symk_task.specs.Variables.{IsState};
 
-use commuting::commute;
 use small_tasks::{
     Draft, EffectDraft, OperatorDraft, VariableDraft, conditional_effects, drafted,
     switch_and_back, two_switches,
 };
 use std::alloc::Global;
 use std::test::Fail;
+use stubborn_sets::commute;
 use symk_task::{Memory, State, Task};
 use task_draws::{Random, random_task};
 use task_run::step;

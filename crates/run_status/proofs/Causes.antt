@@ -2,13 +2,13 @@
 use Rattle.std.proofs.Common.{◌≡◌, ◌∙◌, sym, inl, inr, ℕ}
 use Rattle.symk_io.specs.View.{Bytes, SinkView}
 use Rattle.symk_io.specs.Causes.{Rose}
-use Rattle.run_status.specs.Ends.{Ends, HasCauses}
+use Rattle.run_status.specs.Ends.{EndsWithText, HasCauses}
 use Rattle.run_status.specs.declared.status.Status.{Status}
 use Rattle.run_status.specs.declared.status.Status.TheVariants.{Unreadable, WriteFault, Memory}
 
 -- a text that ends the run, after the files were read
 pub causes_of_end : (status : Status) (text : Bytes) (files files' : ℕ) (old new : SinkView) (result : Status)
-    → Ends status text old new result → (status ≡ Unreadable → Rose files files')
+    → EndsWithText status text old new result → (status ≡ Unreadable → Rose files files')
     → ((status ≡ Unreadable → ⊥) → files' ≡ files) → (status ≡ WriteFault → ⊥)
     → HasCauses result files files' old.faults new.faults
 causes_of_end status text files files' old new result (inl h) rose stayed other = record {

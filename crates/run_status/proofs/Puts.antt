@@ -2,7 +2,7 @@
 use Rattle.std.proofs.Common.{◌≡◌, refl, sym, subst, inl, inr, ◌⊎◌, List, [], ◌∷◌, take, Result, Ok, Err, MatchResult, IfOk}
 use Rattle.symk_io.specs.View.{Bytes, SinkView}
 use Rattle.run_status.specs.Sent.{Sent, nothing, TookFront}
-use Rattle.run_status.specs.Ends.{Ends, FrontOf, AsOne, OrFront, Puts}
+use Rattle.run_status.specs.Ends.{EndsWithText, FrontOf, AsOne, OrFront, PutsOutWith}
 use Rattle.run_status.specs.declared.status.Status.{Status}
 use Rattle.run_status.specs.declared.status.Status.TheVariants.{Reached, MoreLeft, Good, Shown, Proved, Refuted, Exhausted, BadList, Bounded, Gap, HasPlan, NotShown, Offending, Usage, TooLong, Unreadable, WriteFault, CostRange, Memory}
 use Rattle.run_status.proofs.Took.{all_of, took_nothing, took_piece, took_front, front_of_all, front_of_last}
@@ -66,7 +66,7 @@ broken May result out (inr e) f = subst (λ s. OrFront May s out) (sym e) f
 
 pub part_puts : (May : Status → Bytes → Type 0) (status : Status) (text : Bytes) (old new : SinkView)
     (result : Status) → May status text → (result ≡ WriteFault) ⊎ (result ≡ Memory) → TookFront text old new
-    → Puts (OrFront May) old new result
+    → PutsOutWith (OrFront May) old new result
 part_puts May status text old new result m why took =
     let p = took_front text old new took in
     let front : FrontOf (AsOne May) (record { pieces = []; rest = take p.0 text }) =
@@ -75,7 +75,7 @@ part_puts May status text old new result m why took =
 
 -- the text that ends the run
 pub end_puts : (May : Status → Bytes → Type 0) (status : Status) (text : Bytes) (old new : SinkView) (result : Status)
-    → May status text → Ends status text old new result → Puts (OrFront May) old new result
+    → May status text → EndsWithText status text old new result → PutsOutWith (OrFront May) old new result
 end_puts May status text old new result m (inl h) = (
   all_of (text ∷ []),
   took_piece text old new h.1,
@@ -86,26 +86,27 @@ end_puts May status text old new result m (inr (inl h)) = part_puts May status t
 end_puts May status text old new result m (inr (inr h)) = part_puts May status text old new result m (inr h.0) h.1
 
 -- nothing, when out of memory
-pub nothing_puts : (May : Status → Bytes → Type 0) (old : SinkView) → Puts (OrFront May) old old Memory
+pub nothing_puts : (May : Status → Bytes → Type 0) (old : SinkView) → PutsOutWith (OrFront May) old old Memory
 nothing_puts May old = (nothing, took_nothing old, inl refl)
 
 -- the text, if it was made
 pub made_puts : {E : Type 0} (May : Status → Bytes → Type 0) (status : Status) (made : Result Bytes E)
     (old new : SinkView) (result : Status) → IfOk made (λ text. May status text)
-    → MatchResult made (λ text. Ends status text old new result) (λ _. (result ≡ Memory) × (new ≡ old))
-    → Puts (OrFront May) old new result
+    → MatchResult made (λ text. EndsWithText status text old new result) (λ _. (result ≡ Memory) × (new ≡ old))
+    → PutsOutWith (OrFront May) old new result
 made_puts May status (Ok text) old new result m h = end_puts May status text old new result m h
 made_puts May status (Err e) old new result m h =
-    let stayed : Puts (OrFront May) old new Memory = subst (λ (v : SinkView). Puts (OrFront May) old v Memory) (sym h.1) (nothing_puts May old) in
-    subst (λ s. Puts (OrFront May) old new s) (sym h.0) stayed
+    let stayed : PutsOutWith (OrFront May) old new Memory = subst (λ (v : SinkView). PutsOutWith (OrFront May) old v Memory) (sym h.1) (nothing_puts May old) in
+    subst (λ s. PutsOutWith (OrFront May) old new s) (sym h.0) stayed
 
 pub text_puts : {E : Type 0} (May : Status → Bytes → Type 0) (status : Status) (made : Result Bytes E) (whole : Bytes)
     (old new : SinkView) (result : Status) → IfOk made (λ text. text ≡ whole) → May status whole
-    → MatchResult made (λ text. Ends status text old new result) (λ _. (result ≡ Memory) × (new ≡ old))
-    → Puts (OrFront May) old new result
+    → MatchResult made (λ text. EndsWithText status text old new result) (λ _. (result ≡ Memory) × (new ≡ old))
+    → PutsOutWith (OrFront May) old new result
 text_puts May status (Ok text) whole old new result e m h = end_puts May status text old new result (subst (λ t. May status t) (sym e) m) h
 text_puts May status (Err e') whole old new result e m h = made_puts May status (Err e') old new result tt h
 
 -- what went out after a sink that wasn't touched
-pub puts_after : (May : Status → Sent → Type 0) (old mid new : SinkView) (result : Status) → mid ≡ old → Puts May mid new result → Puts May old new result
-puts_after May old mid new result same p = subst (λ (v : SinkView). Puts May v new result) same p
+pub puts_after : (May : Status → Sent → Type 0) (old mid new : SinkView) (result : Status) → mid ≡ old
+    → PutsOutWith May mid new result → PutsOutWith May old new result
+puts_after May old mid new result same p = subst (λ (v : SinkView). PutsOutWith May v new result) same p

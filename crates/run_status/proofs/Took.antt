@@ -4,7 +4,7 @@ use Rattle.std.specs.List.{concat}
 use Rattle.std.proofs.lemmas.List.{append-nil, length-append}
 use Rattle.std.proofs.lemmas.List.Folds.{concat-append}
 use Rattle.symk_io.specs.View.{Bytes, Tells, Grew, GrewByPart, SinkView}
-use Rattle.run_status.specs.Sent.{Sent, nothing, Took, TookPiece, TookFront, IsFront}
+use Rattle.run_status.specs.Sent.{Sent, nothing, Took, TookPiece, TookFront, IsFrontOfPieces}
 
 -- whole pieces
 abbrev pub all_of : List Bytes → Sent
@@ -86,10 +86,10 @@ took_after pieces out old mid new t u = record {
 }
 
 -- whole pieces are a front of themselves
-pub front_of_all : (pieces : List Bytes) → IsFront (all_of pieces) pieces
+pub front_of_all : (pieces : List Bytes) → IsFrontOfPieces (all_of pieces) pieces
 front_of_all pieces = record { later = []; pieces = sym (append-nil pieces); rest = refl }
 
 -- so are the first bytes of a last one, after those before it
 pub front_of_last : (pieces : List Bytes) (text : Bytes) (n : ℕ) (whole : List Bytes) → whole ≡ pieces ++ (text ∷ [])
-    → IsFront (after pieces (record { pieces = []; rest = take n text })) whole
+    → IsFrontOfPieces (after pieces (record { pieces = []; rest = take n text })) whole
 front_of_last pieces text n whole e = record { later = text ∷ []; pieces = e ∙ ap (λ x. x ++ (text ∷ [])) (sym (append-nil pieces)); rest = (n, refl) }

@@ -2,13 +2,13 @@
 use Rattle.std.specs.Prelude.{◌≡◌, ℕ, ◌⊎◌, List}
 use Rattle.symk_io.specs.View.{Bytes, SinkView}
 use Rattle.symk_io.specs.Causes.{Rose}
-use Rattle.run_status.specs.Sent.{Sent, nothing, Took, TookPiece, TookFront, IsWhole, IsOne, IsFront}
+use Rattle.run_status.specs.Sent.{Sent, nothing, Took, TookPiece, TookFront, AreWholePieces, IsOne, IsFrontOfPieces}
 use Rattle.run_status.specs.declared.status.Status.{Status}
 use Rattle.run_status.specs.declared.status.Status.TheVariants.{Unreadable, WriteFault, Memory}
 
 -- The whole text went out as one piece under its status, or a part of it and then the status says why.
-abbrev pub Ends : Status → Bytes → SinkView → SinkView → Status → Type 0
-Ends status text old new result =
+abbrev pub EndsWithText : Status → Bytes → SinkView → SinkView → Status → Type 0
+EndsWithText status text old new result =
     ((result ≡ status) × TookPiece text old new × (new.faults ≡ old.faults))
     ⊎ ((result ≡ WriteFault) × TookFront text old new × Rose old.faults new.faults)
     ⊎ ((result ≡ Memory) × TookFront text old new × (new.faults ≡ old.faults))
@@ -22,7 +22,7 @@ pub record HasCauses (status : Status) (files files' sink sink' : ℕ) : Type 0 
 
 -- nothing, or a front of the pieces that a status may come with
 abbrev pub FrontOf : (Status → List Bytes → Type 0) → Sent → Type 0
-FrontOf MayCome out = (out ≡ nothing) ⊎ ((status : Status) × (whole : List Bytes) × MayCome status whole × IsFront out whole)
+FrontOf MayCome out = (out ≡ nothing) ⊎ ((status : Status) × (whole : List Bytes) × MayCome status whole × IsFrontOfPieces out whole)
 
 -- as one piece
 abbrev pub AsOne : (Status → Bytes → Type 0) → Status → List Bytes → Type 0
@@ -32,8 +32,8 @@ AsOne MayCome status pieces = IsOne (MayCome status) pieces
 abbrev pub OrFront : (Status → Bytes → Type 0) → Status → Sent → Type 0
 OrFront MayCome WriteFault out = FrontOf (AsOne MayCome) out
 OrFront MayCome Memory out = FrontOf (AsOne MayCome) out
-OrFront MayCome status out = IsWhole (AsOne MayCome status) out
+OrFront MayCome status out = AreWholePieces (AsOne MayCome status) out
 
 -- what went out may come with the status
-abbrev pub Puts : (Status → Sent → Type 0) → SinkView → SinkView → Status → Type 0
-Puts MayCome old new status = (out : Sent) × Took out old new × MayCome status out
+abbrev pub PutsOutWith : (Status → Sent → Type 0) → SinkView → SinkView → Status → Type 0
+PutsOutWith MayCome old new status = (out : Sent) × Took out old new × MayCome status out

@@ -27,8 +27,8 @@ pub record TookFront (text : Bytes) (old new : SinkView) : Type 0 where
   pub flushes : Tells (λ before after. after ≡ before) old.flushes new.flushes
 
 -- whole pieces that are so, and nothing after them
-abbrev pub IsWhole : (List Bytes → Type 0) → Sent → Type 0
-IsWhole AreSo out = AreSo out.pieces × (out.rest ≡ [])
+abbrev pub AreWholePieces : (List Bytes → Type 0) → Sent → Type 0
+AreWholePieces AreSo out = AreSo out.pieces × (out.rest ≡ [])
 
 -- one piece, which is so
 abbrev pub IsOne : (Bytes → Type 0) → List Bytes → Type 0
@@ -40,7 +40,7 @@ IsFrontOfNext rest [] = rest ≡ []
 IsFrontOfNext rest (next ∷ later) = (n : ℕ) × (rest ≡ take n next)
 
 -- the first of these pieces, whole, and then the first bytes of the next one, or none
-pub record IsFront (out : Sent) (whole : List Bytes) : Type 0 where
+pub record IsFrontOfPieces (out : Sent) (whole : List Bytes) : Type 0 where
   pub later : List Bytes
   pub pieces : whole ≡ out.pieces ++ later
   pub rest : IsFrontOfNext out.rest later

@@ -1,7 +1,7 @@
 //! The texts that end a run.
 
 ghost use Rattle.std.specs.Prelude.{◌≡◌, MatchResult};
-ghost use Rattle.run_status.specs.Ends.{Ends, HasCauses};
+ghost use Rattle.run_status.specs.Ends.{EndsWithText, HasCauses};
 
 use crate::status::Status;
 use symk_io::{IoFault, Sink, put};
@@ -21,7 +21,7 @@ pub fn status_of(fault: IoFault) -> Status
 
 /// Puts the text that ends the run.
 pub fn end<K: Sink>(sink: &mut K, text: &[u8], status: Status) -> Status
-    ensures { Ends status text.now (K.view sink.old) (K.view sink.new) result }
+    ensures { EndsWithText status text.now (K.view sink.old) (K.view sink.new) result }
 {
     match put(sink, text) {
         Ok(()) => status,
@@ -34,7 +34,7 @@ pub fn end_with<K: Sink>(sink: &mut K, text: Result<Text, Memory>, status: Statu
     requires unreadable { status ≡ Status.Unreadable → ⊥ }
     requires write { status ≡ Status.WriteFault → ⊥ }
     ensures ends { MatchResult text
-        (λ made. Ends status made (K.view sink.old) (K.view sink.new) result)
+        (λ made. EndsWithText status made (K.view sink.old) (K.view sink.new) result)
         (λ _. (result ≡ Status.Memory) × (K.view sink.new ≡ K.view sink.old)) }
     ensures causes { HasCauses result 0 0 (K.view sink.old).faults (K.view sink.new).faults }
 {

@@ -1,7 +1,7 @@
 //! How a run ends.
 
 ghost use Rattle.std.specs.Prelude.{◌≡◌, pos};
-ghost use Rattle.run_status.specs.Codes.{code_of};
+ghost use Rattle.run_status.specs.Codes.{status_code_of};
 
 /// How a run ended, which is the program's status.
 #[derive(Clone, Copy, Debug, PartialEq, Eq)]
@@ -51,7 +51,7 @@ pub enum Status {
 impl Status {
     /// The exit status of the program: 0 where all went as asked, 10 and above else.
     pub fn code(self) -> i32
-        ensures { result ≡ code_of self }
+        ensures { result ≡ status_code_of self }
     {
         match self {
             Status::Reached | Status::MoreLeft | Status::Good | Status::Shown => 0,

@@ -6,7 +6,7 @@ use Rattle.line_grammar.specs.declared.Offence.{Offence}
 use Rattle.line_grammar.specs.declared.Stopped.{Stopped}
 use Rattle.line_grammar.specs.declared.Stopped.TheVariants as stopped
 use Rattle.line_grammar.specs.Rows.{Lines}
-use Rattle.line_grammar.specs.Reading.{Read, picked, tail_at, Fails}
+use Rattle.line_grammar.specs.Reading.{Read, picked, tail_at, FailsReading}
 use Rattle.line_grammar.proofs.Exact as grammar
 use Rattle.sas_reader.specs.Rows.{shape_of, IsSpelled}
 use Rattle.sas_reader.specs.Numbers.{is_blank}
@@ -37,7 +37,7 @@ blank_stops (l ∷ lines) f some e = by_test (is_blank l) refl e
     by_test false t e = rw t e
 
 pub blank_ends : (lines : Lines) (e : Stopped Shape) (total : Read Shape (Unit {0})) → 1 ≤ length lines
-    → Fails e (blank_at lines) → blanks_at lines ≡ total → Fails e total
+    → FailsReading e (blank_at lines) → blanks_at lines ≡ total → FailsReading e total
 blank_ends lines stopped.Memory total some h so_far = tt
 blank_ends lines (stopped.Offence f) total some h so_far = sym so_far ∙ blank_stops lines f some h
 

@@ -15,9 +15,9 @@ use Rattle.line_grammar.specs.Reading.{Reading, counted_at}
 use Rattle.line_grammar.proofs.Exact as grammar
 use Rattle.line_grammar.proofs.Joining as joining
 use Rattle.sas_reader.specs.Numbers.{two_numbers}
-use Rattle.sas_reader.specs.Rows.{Row, number, numbers, shape_of, IsSpelled}
+use Rattle.sas_reader.specs.Rows.{Row, one_number, numbers, shape_of, IsSpelled}
 use Rattle.sas_reader.specs.Format.{fact_numbers, fact_rows, counted_rows, group_rows, value_rows, state_rows, goal_rows}
-use Rattle.sas_reader.specs.Reading.{number_that, count_to, kept, in_range, fact_in, fact_at, most_facts, facts_at, group_at, groups_at, range_at, value_at, next_place, initial_at, state_at, goal_at}
+use Rattle.sas_reader.specs.Reading.{number_that, count_to, kept, in_range, fact_in, fact_at, most_facts, facts_at, group_at, groups_at, range_at, initial_value_at, next_place, initial_at, state_at, goal_at}
 use Rattle.sas_reader.proofs.Lines.{RowIs, picked_are, number_is, count_is}
 use Rattle.sas_reader.proofs.Sections.{Exact, FitFrom, after_word, before_word}
 
@@ -46,7 +46,7 @@ exact_list {X} item rows P most I each some =
     (counted_rows rows) (λ xs. (length xs ≤ most) × FitFrom {T = Unit {0}} (λ _ x. P x) kept (tt {0}) xs)
     (λ xs. (length xs ≤ most) × All P xs)
     (joining.exact_counted shape_of IsSpelled item kept rows (λ _ x. P x) (λ _. I) each (λ _ _ i _. i) shape.Count
-    (count_to most) (number shape.Count) (λ n. n ≤ most) tt (count_is shape.Count most)
+    (count_to most) (one_number shape.Count) (λ n. n ≤ most) tt (count_is shape.Count most)
     (λ n le one. some (omega arith)))
     (λ xs f. ((f.0, all_fit P xs f.1), refl)) (λ xs f. (f.0, fit_all P xs f.1))
 
@@ -146,7 +146,7 @@ range_some (v ∷ variables) zero h = All-head (λ v. 1 ≤ range v) v variables
 range_some (v ∷ variables) (suc var) h = range_some variables var (All-tail (λ v. 1 ≤ range v) v variables h)
 
 value_is : (variables : List Variable) → Good variables → (var : ℕ)
-    → RowIs shape.Value (number_that (λ n. nat_lt n (range_at variables var))) (number shape.Value)
+    → RowIs shape.Value (number_that (λ n. nat_lt n (range_at variables var))) (one_number shape.Value)
     (λ n. n < range_at variables var)
 value_is variables g var = number_is shape.Value (λ n. nat_lt n (range_at variables var))
     (λ n. n < range_at variables var) (λ n e. grind (arith, nat_tests)) (λ n lt. grind (arith, nat_tests)) 0
@@ -157,9 +157,9 @@ ValuesFit variables values = (length values ≡ length variables) × FitFrom (λ
 
 exact_initial : (variables : List Variable) → Good variables → Exact (initial_at variables) (flat_map value_rows) (ValuesFit variables)
 exact_initial variables g =
-    grammar.exact_many shape_of IsSpelled (value_at variables) next_place value_rows (λ var n. n < range_at variables var) (λ _. Unit {0})
+    grammar.exact_many shape_of IsSpelled (initial_value_at variables) next_place value_rows (λ var n. n < range_at variables var) (λ _. Unit {0})
     (λ var _. grammar.exact_row shape_of IsSpelled shape.Value (number_that (λ n. nat_lt n (range_at variables var)))
-    (number shape.Value) (λ n. n < range_at variables var) (value_is variables g var))
+    (one_number shape.Value) (λ n. n < range_at variables var) (value_is variables g var))
     (λ _ _ _ _. tt) (length variables) 0 tt
 
 pub exact_state : (variables : List Variable) → Good variables → Exact (state_at variables) state_rows (ValuesFit variables)

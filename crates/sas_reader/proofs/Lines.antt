@@ -12,7 +12,7 @@ use Rattle.sas_reader.specs.declared.fault.Shape.TheVariants as shape
 use Rattle.line_grammar.proofs.Exact as grammar
 use Rattle.line_grammar.proofs.Joining.{Always}
 use Rattle.sas_reader.specs.Numbers.{numbers_of, only_number}
-use Rattle.sas_reader.specs.Rows.{Row, word, name, numbers, number, shape_of, IsSpelled}
+use Rattle.sas_reader.specs.Rows.{Row, word, name, numbers, one_number, shape_of, IsSpelled}
 use Rattle.sas_reader.specs.Reading.{exactly, a_name, if_passes, number_that, three}
 use Rattle.sas_reader.proofs.Spelling.{line_for, IsSmall, numbers_spelled}
 use Rattle.sas_reader.proofs.NameLines.{line_is_name, name_is_line}
@@ -78,7 +78,7 @@ picked_are {X} {Y} shape pick test ns F taken again x f small = record {
     found None y h = cc
     found (Some k) y h = (let t = taken k y h in (t.0, ap (λ (z : List (Option ℕ)). Some z) t.1))
 
--- a line of one number that passes
+-- a line of one one_number that passes
 number_taken : (p : ℕ → Bool) (l : List (Option ℕ)) (x : ℕ) → option_and_then (λ n. if_passes p n) (only_number l) ≡ Some x → (p x ≡ true) × (l ≡ Some x ∷ [])
 number_taken p [] x e = cc
 number_taken p (None ∷ []) x e = cc
@@ -86,12 +86,12 @@ number_taken p (Some n ∷ []) x e = (let k = cond_some (p n) n x e in (subst (�
 number_taken p (n ∷ m ∷ ns) x e = cc
 
 pub number_is : (shape : Shape) (p : ℕ → Bool) (N : ℕ → Type 0) → ((n : ℕ) → p n ≡ true → N n)
-    → ((n : ℕ) → N n → p n ≡ true) → (n : ℕ) → N n → n < 2 ^ 64 → RowIs shape (number_that p) (number shape) N
+    → ((n : ℕ) → N n → p n ≡ true) → (n : ℕ) → N n → n < 2 ^ 64 → RowIs shape (number_that p) (one_number shape) N
 number_is shape p N to from n good small =
     picked_are shape only_number (λ n. if_passes p n) (λ x. Some x ∷ []) N
     (λ l x e. (let t = number_taken p l x e in (to x t.0, t.1))) (λ x f. (let t = from x f in rw t refl)) n good (small, tt)
 
-pub count_is : (shape : Shape) (most : ℕ) → RowIs shape (number_that (λ n. nat_le n most)) (number shape) (λ n. n ≤ most)
+pub count_is : (shape : Shape) (most : ℕ) → RowIs shape (number_that (λ n. nat_le n most)) (one_number shape) (λ n. n ≤ most)
 count_is shape most = number_is shape (λ n. nat_le n most) (λ n. n ≤ most) (λ n e. grind (arith, nat_tests))
     (λ n le. grind (arith, nat_tests)) 0 (omega arith) (omega arith)
 
@@ -99,7 +99,7 @@ three_passes : (o : Option ℕ) (x : Unit {0}) → option_map (λ _. tt) o ≡ S
 three_passes None x e = cc
 three_passes (Some n) x e = (n, refl)
 
-pub three_is : RowIs shape.Three three (λ _. number shape.Three 3) Always
+pub three_is : RowIs shape.Three three (λ _. one_number shape.Three 3) Always
 three_is =
     let is = number_is shape.Three (λ n. eqb n 3) (λ n. n ≡ 3) (λ n e. grind (arith, nat_tests)) (λ n e. grind (arith, nat_tests)) 3 refl (omega arith) in
     record {

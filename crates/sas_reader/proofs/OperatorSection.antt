@@ -18,9 +18,9 @@ use Rattle.line_grammar.specs.Reading.{Reading, both_at, before_at}
 use Rattle.line_grammar.proofs.Exact as grammar
 use Rattle.line_grammar.proofs.Joining as joining
 use Rattle.line_grammar.proofs.Joining.{Always}
-use Rattle.sas_reader.specs.Rows.{word, name, number, numbers, shape_of, IsSpelled}
+use Rattle.sas_reader.specs.Rows.{word, name, one_number, numbers, shape_of, IsSpelled}
 use Rattle.sas_reader.specs.Format.{fact_numbers, fact_rows, counted_rows, name_rows, effect_numbers, effect_rows, operator_rows}
-use Rattle.sas_reader.specs.Reading.{exactly, number_that, in_range, name_at, facts_at, fact_first, with_fact, conds_of, counted_conds, is_base_at, allows, ending_of, effect_with, effect_after, effect_of, effect_in, effect_at, most_effects, effects_at, cost_at, operator_of, operator_at, operators_at}
+use Rattle.sas_reader.specs.Reading.{exactly, number_that, in_range, name_at, facts_at, fact_first, with_fact, conds_of, counted_conds, is_base_at, allows, ending_of, effect_with, effect_after, effect_of, effect_in, effect_at, most_effects, effects_at, operator_cost_at, operator_of, operator_at, operators_at}
 use Rattle.sas_reader.proofs.Lines.{RowIs, numbers_are, number_is}
 use Rattle.sas_reader.proofs.Sections.{Exact, after_word, before_word, exact_name}
 use Rattle.sas_reader.proofs.FactSections.{Good, exact_list, exact_facts, range_passes, passes_range}
@@ -235,8 +235,8 @@ exact_effects variables g =
     (λ e. numbers shape.Effect (effect_numbers e)) (FitsEffect variables) (effect_is variables base g))
     (most_base (list_any is_base variables))
 
-exact_cost : Exact cost_at (λ c. number shape.Cost c ∷ []) Always
-exact_cost = grammar.exact_row shape_of IsSpelled shape.Cost (number_that (λ _. true)) (number shape.Cost) Always
+exact_cost : Exact operator_cost_at (λ c. one_number shape.Cost c ∷ []) Always
+exact_cost = grammar.exact_row shape_of IsSpelled shape.Cost (number_that (λ _. true)) (one_number shape.Cost) Always
     (number_is shape.Cost (λ _. true) Always (λ _ _. tt) (λ _ _. refl) 0 tt (omega arith))
 
 -- an operator
@@ -246,29 +246,30 @@ OperatorFits variables x = IsLine x.0 × (AreFacts variables x.1.0
     × (((length x.1.1.0 ≤ most_effects variables) × All (FitsEffect variables) x.1.1.0) × Unit {0}))
 
 abbrev tail_of : List Variable → Reading Shape (List Effect × ℕ)
-tail_of variables = both_at (effects_at variables (most_effects variables)) (λ _. before_at cost_at shape.EndOperator (exactly (codes "end_operator")))
+tail_of variables = both_at (effects_at variables (most_effects variables)) (λ _. before_at operator_cost_at shape.EndOperator (exactly (codes "end_operator")))
 
 exact_tail : (variables : List Variable) → Good variables → Exact (tail_of variables)
-    (λ x. counted_rows effect_rows x.0 ++ (number shape.Cost x.1 ∷ word shape.EndOperator (codes "end_operator")
+    (λ x. counted_rows effect_rows x.0 ++ (one_number shape.Cost x.1 ∷ word shape.EndOperator (codes "end_operator")
     ∷ [])) (λ x. ((length x.0 ≤ most_effects variables) × All (FitsEffect variables) x.0) × Unit {0})
 exact_tail variables g =
     joining.exact_both shape_of IsSpelled (effects_at variables (most_effects variables))
-    (λ _. before_at cost_at shape.EndOperator (exactly (codes "end_operator")))
+    (λ _. before_at operator_cost_at shape.EndOperator (exactly (codes "end_operator")))
     (counted_rows effect_rows) (λ es. (length es ≤ most_effects variables) × All (FitsEffect variables) es)
-    (λ _ c. number shape.Cost c ∷ word shape.EndOperator (codes "end_operator") ∷ []) (λ _ _. Unit {0})
-    (exact_effects variables g) (λ _ _. before_word shape.EndOperator (codes "end_operator") cost_at (λ c. number shape.Cost c ∷ []) Always exact_cost)
+    (λ _ c. one_number shape.Cost c ∷ word shape.EndOperator (codes "end_operator") ∷ []) (λ _ _. Unit {0})
+    (exact_effects variables g) (λ _ _. before_word shape.EndOperator (codes "end_operator") operator_cost_at
+    (λ c. one_number shape.Cost c ∷ []) Always exact_cost)
 
 abbrev middle_of : List Variable → Reading Shape (List Fact × (List Effect × ℕ))
 middle_of variables = both_at (facts_at variables) (λ _. tail_of variables)
 
 exact_middle : (variables : List Variable) → Good variables → Exact (middle_of variables)
     (λ x. counted_rows fact_rows x.0 ++ (counted_rows effect_rows x.1.0
-    ++ (number shape.Cost x.1.1 ∷ word shape.EndOperator (codes "end_operator") ∷ [])))
+    ++ (one_number shape.Cost x.1.1 ∷ word shape.EndOperator (codes "end_operator") ∷ [])))
     (λ x. AreFacts variables x.0 × (((length x.1.0 ≤ most_effects variables) × All (FitsEffect variables) x.1.0)
     × Unit {0}))
 exact_middle variables g =
     joining.exact_both shape_of IsSpelled (facts_at variables) (λ _. tail_of variables) (counted_rows fact_rows) (AreFacts variables)
-    (λ _ x. counted_rows effect_rows x.0 ++ (number shape.Cost x.1 ∷ word shape.EndOperator (codes "end_operator")
+    (λ _ x. counted_rows effect_rows x.0 ++ (one_number shape.Cost x.1 ∷ word shape.EndOperator (codes "end_operator")
     ∷ [])) (λ _ x. ((length x.0 ≤ most_effects variables) × All (FitsEffect variables) x.0) × Unit {0})
     (exact_facts variables g) (λ _ _. exact_tail variables g)
 
@@ -306,7 +307,8 @@ exact_operator variables g u =
     (joining.exact_made shape_of IsSpelled operator_of parts_of (λ a. refl) (λ o. refl) _ _ (OperatorFits variables)
     (after_word shape.BeginOperator (codes "begin_operator") _ _ (OperatorFits variables)
     (joining.exact_both shape_of IsSpelled (name_at tt) (λ _. middle_of variables) name_rows IsLine
-    (λ _ x. counted_rows fact_rows x.0 ++ (counted_rows effect_rows x.1.0 ++ (number shape.Cost x.1.1 ∷ word shape.EndOperator (codes "end_operator") ∷ [])))
+    (λ _ x. counted_rows fact_rows x.0 ++ (counted_rows effect_rows x.1.0 ++
+    (one_number shape.Cost x.1.1 ∷ word shape.EndOperator (codes "end_operator") ∷ [])))
     (λ _ x. AreFacts variables x.0 × (((length x.1.0 ≤ most_effects variables) × All (FitsEffect variables) x.1.0) × Unit {0}))
     exact_name (λ _ _. exact_middle variables g))))
     (λ o f. (

@@ -6,7 +6,7 @@ use Rattle.sas_reader.specs.declared.fault.Shape.TheVariants as shape
 use Rattle.line_grammar.specs.Reading.{Reading, after_at, before_at}
 use Rattle.line_grammar.proofs.Exact as grammar
 use Rattle.line_grammar.proofs.Joining as joining
-use Rattle.sas_reader.specs.Rows.{Row, word, name, number, shape_of, IsSpelled}
+use Rattle.sas_reader.specs.Rows.{Row, word, name, one_number, shape_of, IsSpelled}
 use Rattle.sas_reader.specs.Format.{header_rows, name_rows}
 use Rattle.sas_reader.specs.Reading.{exactly, a_name, three, count_to, name_at, header_at}
 use Rattle.sas_reader.proofs.Lines.{word_is, name_is, three_is, count_is}
@@ -33,11 +33,11 @@ pub exact_header : Exact header_at header_rows IsMetric
 unfolding header_at
 exact_header =
     after_word shape.BeginVersion (codes "begin_version") _ _ IsMetric
-    (joining.exact_after shape_of IsSpelled shape.Three three (number shape.Three 3) _ _ IsMetric three_is
+    (joining.exact_after shape_of IsSpelled shape.Three three (one_number shape.Three 3) _ _ IsMetric three_is
     (after_word shape.EndVersion (codes "end_version") _ _ IsMetric
     (after_word shape.BeginMetric (codes "begin_metric") _ _ IsMetric
     (before_word shape.EndMetric (codes "end_metric") _ _ IsMetric
-    (grammar.exact_row shape_of IsSpelled shape.Metric (count_to 1) (number shape.Metric) IsMetric (count_is shape.Metric 1))))))
+    (grammar.exact_row shape_of IsSpelled shape.Metric (count_to 1) (one_number shape.Metric) IsMetric (count_is shape.Metric 1))))))
 
 pub exact_name : Exact (name_at tt) name_rows IsLine
 exact_name = grammar.exact_row shape_of IsSpelled shape.Name a_name name IsLine name_is

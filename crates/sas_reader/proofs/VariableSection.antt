@@ -14,7 +14,7 @@ use Rattle.line_grammar.specs.Reading.{row_at, both_at, before_at}
 use Rattle.line_grammar.proofs.Exact as grammar
 use Rattle.line_grammar.proofs.Joining as joining
 use Rattle.sas_reader.specs.Numbers.{only_number}
-use Rattle.sas_reader.specs.Rows.{word, name, numbers, number, shape_of, IsSpelled}
+use Rattle.sas_reader.specs.Rows.{word, name, numbers, one_number, shape_of, IsSpelled}
 use Rattle.sas_reader.specs.Format.{name_rows, variable_rows, counted_rows}
 use Rattle.sas_reader.specs.Reading.{exactly, number_that, count_to, if_layer, layer_in, may_have, name_at, kept, values_at, variable_of, variable_at, variables_at, used_after}
 use Rattle.sas_reader.proofs.Lines.{RowIs, picked_are, number_is, count_is}
@@ -46,7 +46,7 @@ some_range (Some layer) used small = (2, refl, omega arith)
 some_range None used small = (1, (let t : nat_le (used + 0) 65536 ≡ true = grind (arith, nat_tests) in t), omega arith)
 
 range_is : (layer : Option ℕ) (used : ℕ) → used ≤ 65536 → RowIs shape.Range (number_that (may_have layer used))
-    (number shape.Range) (λ n. may_have layer used n ≡ true)
+    (one_number shape.Range) (λ n. may_have layer used n ≡ true)
 range_is layer used small = (let s = some_range layer used small in number_is shape.Range (may_have layer used)
     (λ n. may_have layer used n ≡ true) (λ n e. e) (λ n e. e) s.0 s.1 s.2)
 
@@ -57,10 +57,10 @@ abbrev pub ValuesFit : Option ℕ → ℕ → List (List ℕ) → Type 0
 ValuesFit layer used values = (may_have layer used (length values) ≡ true) × AreLines values
 
 exact_values : (layer : Option ℕ) (used : ℕ) → used ≤ 65536 → Exact (values_at layer used)
-    (λ values. number shape.Range (length values) ∷ flat_map name_rows values) (ValuesFit layer used)
+    (λ values. one_number shape.Range (length values) ∷ flat_map name_rows values) (ValuesFit layer used)
 exact_values layer used small =
     joining.exact_counted shape_of IsSpelled name_at kept name_rows (λ _ x. IsLine x) (λ _. Unit {0}) (λ _ _. exact_name) (λ _ _ _ _. tt)
-    shape.Range (number_that (may_have layer used)) (number shape.Range) (λ n. may_have layer used n ≡ true) tt (range_is layer used small) (λ _ _ _. tt)
+    shape.Range (number_that (may_have layer used)) (one_number shape.Range) (λ n. may_have layer used n ≡ true) tt (range_is layer used small) (λ _ _ _. tt)
 
 abbrev pub VariableFits : ℕ → Variable → Type 0
 VariableFits used v = IsLine v.name × (IsLayer v.layer × ValuesFit v.layer used v.values)
@@ -76,14 +76,14 @@ exact_variable used small =
     (joining.exact_both shape_of IsSpelled (name_at tt) (λ _. both_at (row_at shape.Layer layer_in)
     (λ layer. before_at (values_at layer used) shape.EndVariable (exactly (codes "end_variable")))) name_rows
     IsLine
-    (λ _ x. (numbers shape.Layer (x.0 ∷ []) ∷ []) ++ ((number shape.Range (length x.1) ∷ flat_map name_rows x.1)
+    (λ _ x. (numbers shape.Layer (x.0 ∷ []) ∷ []) ++ ((one_number shape.Range (length x.1) ∷ flat_map name_rows x.1)
     ++ word shape.EndVariable (codes "end_variable") ∷ []))
     (λ _ x. IsLayer x.0 × ValuesFit x.0 used x.1)
     exact_name
     (λ _ _. joining.exact_both shape_of IsSpelled (row_at shape.Layer layer_in)
     (λ layer. before_at (values_at layer used) shape.EndVariable (exactly (codes "end_variable")))
     (λ layer. numbers shape.Layer (layer ∷ []) ∷ []) IsLayer
-    (λ layer values. (number shape.Range (length values) ∷ flat_map name_rows values) ++ word shape.EndVariable (codes "end_variable") ∷ [])
+    (λ layer values. (one_number shape.Range (length values) ∷ flat_map name_rows values) ++ word shape.EndVariable (codes "end_variable") ∷ [])
     (λ layer values. ValuesFit layer used values)
     (grammar.exact_row shape_of IsSpelled shape.Layer layer_in (λ layer. numbers shape.Layer (layer ∷ [])) IsLayer layer_is)
     (λ layer _. before_word shape.EndVariable (codes "end_variable") (values_at layer used) _ (ValuesFit layer used) (exact_values layer used small)))))
@@ -110,4 +110,4 @@ pub exact_variables : Exact variables_at (counted_rows variable_rows) VariablesF
 exact_variables =
     joining.exact_counted shape_of IsSpelled variable_at used_after variable_rows VariableFits (λ used. used ≤ 65536)
     exact_variable (λ used v small f. (variable_within used v small f).2)
-    shape.Count (count_to 65536) (number shape.Count) (λ n. n ≤ 65536) 0 (count_is shape.Count 65536) (λ _ _ _. omega arith)
+    shape.Count (count_to 65536) (one_number shape.Count) (λ n. n ≤ 65536) 0 (count_is shape.Count 65536) (λ _ _ _. omega arith)

@@ -12,12 +12,12 @@ use Rattle.symk_task.specs.declared.parts.TaskParts.{TaskParts}
 use Rattle.symk_task.specs.Fits.{Fits}
 use Rattle.line_grammar.specs.Rows.{TextOf, Wanted}
 use Rattle.sas_reader.specs.Numbers.{is_blank}
-use Rattle.sas_reader.specs.Rows.{Row, word, name, numbers, number, shape_of, IsSpelled}
+use Rattle.sas_reader.specs.Rows.{Row, word, name, numbers, one_number, shape_of, IsSpelled}
 
 abbrev pub header_rows : ℕ → List Row
 header_rows metric =
-    word shape.BeginVersion (codes "begin_version") ∷ number shape.Three 3 ∷ word shape.EndVersion (codes "end_version") ∷
-    word shape.BeginMetric (codes "begin_metric") ∷ number shape.Metric metric ∷ word shape.EndMetric (codes "end_metric") ∷ []
+    word shape.BeginVersion (codes "begin_version") ∷ one_number shape.Three 3 ∷ word shape.EndVersion (codes "end_version") ∷
+    word shape.BeginMetric (codes "begin_metric") ∷ one_number shape.Metric metric ∷ word shape.EndMetric (codes "end_metric") ∷ []
 
 abbrev pub name_rows : List ℕ → List Row
 name_rows n = name n ∷ []
@@ -25,11 +25,11 @@ name_rows n = name n ∷ []
 abbrev pub variable_rows : Variable → List Row
 variable_rows v =
     word shape.BeginVariable (codes "begin_variable") ∷ name v.name ∷ numbers shape.Layer (v.layer ∷ []) ∷
-    (number shape.Range (length v.values) ∷ flat_map name_rows v.values) ++ word shape.EndVariable (codes "end_variable") ∷ []
+    (one_number shape.Range (length v.values) ∷ flat_map name_rows v.values) ++ word shape.EndVariable (codes "end_variable") ∷ []
 
 -- so many, and then each
 abbrev pub counted_rows : {X : Type 0} → (X → List Row) → List X → List Row
-counted_rows rows xs = number shape.Count (length xs) ∷ flat_map rows xs
+counted_rows rows xs = one_number shape.Count (length xs) ∷ flat_map rows xs
 
 abbrev pub fact_numbers : Fact → List (Option ℕ)
 fact_numbers fact = Some fact.var ∷ Some fact.val ∷ []
@@ -41,7 +41,7 @@ abbrev pub group_rows : List Fact → List Row
 group_rows facts = word shape.BeginMutex (codes "begin_mutex_group") ∷ counted_rows fact_rows facts ++ word shape.EndMutex (codes "end_mutex_group") ∷ []
 
 abbrev pub value_rows : ℕ → List Row
-value_rows value = number shape.Value value ∷ []
+value_rows value = one_number shape.Value value ∷ []
 
 abbrev pub state_rows : List ℕ → List Row
 state_rows values = word shape.BeginState (codes "begin_state") ∷ flat_map value_rows values ++ word shape.EndState (codes "end_state") ∷ []
@@ -59,7 +59,7 @@ effect_rows e = numbers shape.Effect (effect_numbers e) ∷ []
 abbrev pub operator_rows : Operator → List Row
 operator_rows o =
     word shape.BeginOperator (codes "begin_operator") ∷ name o.name ∷ counted_rows fact_rows o.prevail ++ (counted_rows effect_rows o.effects ++
-    (number shape.Cost o.cost ∷ word shape.EndOperator (codes "end_operator") ∷ []))
+    (one_number shape.Cost o.cost ∷ word shape.EndOperator (codes "end_operator") ∷ []))
 
 -- a rule's variable, its old value and its new one
 abbrev pub head_numbers : Rule → List (Option ℕ)

@@ -65,5 +65,5 @@ three_numbers (Some a ∷ Some b ∷ Some c ∷ []) = Some (a, b, c)
 three_numbers _ = None
 
 -- what was found first in a line, and the rest of the line, is what is found first in its numbers
-abbrev pub Finds : {A : Type 0} → Option (A × List (Option ℕ)) → A → List ℕ → Type 0
-Finds found a rest = found ≡ option_map (λ ns. (a, ns)) (numbers_of rest)
+abbrev pub FindsNumbers : {A : Type 0} → Option (A × List (Option ℕ)) → A → List ℕ → Type 0
+FindsNumbers found a rest = found ≡ option_map (λ ns. (a, ns)) (numbers_of rest)

@@ -106,14 +106,14 @@ group_at variables _ = after_at shape.BeginMutex (exactly (codes "begin_mutex_gr
 abbrev pub groups_at : List Variable → Reading Shape (List (List Fact))
 groups_at variables = counted_at shape.Count (count_to 1000000) (group_at variables) kept tt
 
-abbrev pub value_at : List Variable → ℕ → Reading Shape ℕ
-value_at variables var = row_at shape.Value (number_that (λ n. nat_lt n (range_at variables var)))
+abbrev pub initial_value_at : List Variable → ℕ → Reading Shape ℕ
+initial_value_at variables var = row_at shape.Value (number_that (λ n. nat_lt n (range_at variables var)))
 
 abbrev pub next_place : ℕ → ℕ → ℕ
 next_place var _ = var + 1
 
 abbrev pub initial_at : List Variable → Reading Shape (List ℕ)
-initial_at variables = many_at (value_at variables) next_place (length variables) 0
+initial_at variables = many_at (initial_value_at variables) next_place (length variables) 0
 
 unfoldable pub state_at : List Variable → Reading Shape (List ℕ)
 state_at variables = after_at shape.BeginState (exactly (codes "begin_state")) (before_at (initial_at variables) shape.EndState (exactly (codes "end_state")))
@@ -183,12 +183,14 @@ operator_of parts = record { name = parts.0; prevail = parts.1.0; effects = part
 abbrev pub effects_at : List Variable → ℕ → Reading Shape (List Effect)
 effects_at variables most = counted_at shape.Count (count_to most) (effect_at variables) kept tt
 
-abbrev pub cost_at : Reading Shape ℕ
-cost_at = row_at shape.Cost (number_that (λ _. true))
+abbrev pub operator_cost_at : Reading Shape ℕ
+operator_cost_at = row_at shape.Cost (number_that (λ _. true))
 
 unfoldable pub operator_at : List Variable → ℕ → Unit {0} → Reading Shape Operator
 operator_at variables most _ = made_at operator_of (after_at shape.BeginOperator (exactly (codes "begin_operator"))
-    (both_at (name_at tt) (λ _. both_at (facts_at variables) (λ _. both_at (effects_at variables most) (λ _. before_at cost_at shape.EndOperator (exactly (codes "end_operator")))))))
+    (both_at (name_at tt) (λ _. both_at (facts_at variables)
+    (λ _. both_at (effects_at variables most) (λ _. before_at operator_cost_at shape.EndOperator
+    (exactly (codes "end_operator")))))))
 
 abbrev pub operators_at : List Variable → Reading Shape (List Operator)
 operators_at variables = counted_at shape.Count (count_to 1000000) (operator_at variables (most_effects variables)) kept tt

@@ -10,9 +10,9 @@ pub data Row : Type 0 where
   name : List ℕ → Row
   numbers : Shape → List (Option ℕ) → Row
 
--- a row of one number
-abbrev pub number : Shape → ℕ → Row
-number shape n = numbers shape (Some n ∷ [])
+-- a row of one one_number
+abbrev pub one_number : Shape → ℕ → Row
+one_number shape n = numbers shape (Some n ∷ [])
 
 abbrev pub shape_of : Row → Shape
 shape_of (word shape bytes) = shape

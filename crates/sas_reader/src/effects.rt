@@ -2,8 +2,8 @@
 
 ghost use Rattle.std.specs.Prelude.{◌≡◌, ◌≤◌, IfOk, MatchOption, Some, None};
 ghost use Rattle.std.specs.Option.{option_map, option_and_then};
-ghost use Rattle.line_grammar.specs.Reading.{Gives, many_at};
-ghost use Rattle.sas_reader.specs.Numbers.{numbers_of, Finds};
+ghost use Rattle.line_grammar.specs.Reading.{GivesReading, many_at};
+ghost use Rattle.sas_reader.specs.Numbers.{numbers_of, FindsNumbers};
 ghost use Rattle.sas_reader.specs.Known.{Known};
 ghost use Rattle.sas_reader.specs.Reading.{kept, is_base_at, allows, in_range, fact_first, conds_of, counted_conds, ending_numbers, ending_that, ending_of, effect_in, effect_at, effects_at};
 
@@ -11,8 +11,7 @@ use crate::facts::{fact_at, in_range};
 use crate::fault::Shape;
 use crate::numbers::{first_number, first_plain, is_blank};
 use crate::rows::count_of;
-use line_fields::{Rest, first_line, offence};
-use line_grammar::Stopped;
+use line_grammar::{Rest, Stopped, first_line, stopped_at};
 use std::alloc::{AllocError, Global};
 use symk_task::{Effect, Fact, List, MOST_FACTS, Variable};
 
@@ -20,7 +19,7 @@ use symk_task::{Effect, Fact, List, MOST_FACTS, Variable};
 fn first_fact<'a>(variables: &[Variable], line: &'a [u8]) -> Option<(Fact, &'a [u8])>
     requires { Known variables.now }
     ensures { let found = option_and_then (fact_first variables.now) (numbers_of line.now) in MatchOption
-        result (found ≡ None) (λ x. Finds found x.0 x.1.now) }
+        result (found ≡ None) (λ x. FindsNumbers found x.0 x.1.now) }
 {
     let (var, rest) = first_plain(line)?;
     let (val, rest) = first_plain(rest)?;
@@ -39,7 +38,7 @@ fn first_facts<'a>(
 ) -> Result<Option<(List<Fact>, &'a [u8])>, AllocError>
     requires { Known variables.now }
     ensures { let found = option_and_then (conds_of variables.now count) (numbers_of line.now) in IfOk result
-        (λ r. MatchOption r (found ≡ None) (λ x. Finds found x.0 x.1.now)) }
+        (λ r. MatchOption r (found ≡ None) (λ x. FindsNumbers found x.0 x.1.now)) }
 {
     let mut facts = List::of(Vec::new(alloc));
     let mut rest = line;
@@ -63,7 +62,7 @@ fn conditions_of<'a>(
 ) -> Result<Option<(List<Fact>, &'a [u8])>, AllocError>
     requires { Known variables.now }
     ensures { let found = option_and_then (counted_conds variables.now) (numbers_of line.now) in IfOk result
-        (λ r. MatchOption r (found ≡ None) (λ x. Finds found x.0 x.1.now)) }
+        (λ r. MatchOption r (found ≡ None) (λ x. FindsNumbers found x.0 x.1.now)) }
 {
     match first_plain(line) {
         Some((count, rest)) => {
@@ -174,15 +173,15 @@ fn effect_of<'a>(
     lines: Rest<'a>,
 ) -> Result<(Effect, Rest<'a>), Stopped<Shape>>
     requires { Known variables.now }
-    ensures { Gives (λ x. (x.0, x.1)) result (effect_at variables.now tt lines.entry) }
+    ensures { GivesReading (λ x. (x.0, x.1)) result (effect_at variables.now tt lines.entry) }
 {
     let left = lines.len();
     match first_line(lines) {
         Some((line, rest)) => match effect_on(alloc, variables, line)? {
             Some(effect) => Ok((effect, rest)),
-            None => Err(offence(Shape::Effect, left)),
+            None => Err(stopped_at(Shape::Effect, left)),
         },
-        None => Err(offence(Shape::Effect, left)),
+        None => Err(stopped_at(Shape::Effect, left)),
     }
 }
 
@@ -194,7 +193,7 @@ fn each_effect<'a>(
     lines: Rest<'a>,
 ) -> Result<(List<Effect>, Rest<'a>), Stopped<Shape>>
     requires { Known variables.now }
-    ensures { Gives (λ x. (x.0, x.1)) result (many_at (effect_at variables.now) kept count tt lines.entry) }
+    ensures { GivesReading (λ x. (x.0, x.1)) result (many_at (effect_at variables.now) kept count tt lines.entry) }
 {
     let mut effects = List::of(Vec::new(alloc));
     let mut rest = lines;
@@ -214,7 +213,7 @@ pub fn effects_of<'a>(
     lines: Rest<'a>,
 ) -> Result<(List<Effect>, Rest<'a>), Stopped<Shape>>
     requires { Known variables.now }
-    ensures { Gives (λ x. (x.0, x.1)) result (effects_at variables.now most lines.entry) }
+    ensures { GivesReading (λ x. (x.0, x.1)) result (effects_at variables.now most lines.entry) }
 {
     let (count, rest) = count_of(Shape::Count, most, lines)?;
     each_effect(alloc, variables, count, rest)

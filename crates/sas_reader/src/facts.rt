@@ -1,15 +1,14 @@
 //! Facts, and lists of them.
 
 ghost use Rattle.std.specs.Prelude.{◌≡◌, ◌≤◌, Some, None, if◌then◌else◌};
-ghost use Rattle.line_grammar.specs.Reading.{Gives, many_at};
+ghost use Rattle.line_grammar.specs.Reading.{GivesReading, many_at};
 ghost use Rattle.sas_reader.specs.Known.{Known};
 ghost use Rattle.sas_reader.specs.Reading.{kept, in_range, fact_in, fact_at, facts_at, most_facts};
 
 use crate::fault::Shape;
 use crate::numbers::two_numbers;
 use crate::rows::count_of;
-use line_fields::{Rest, first_line, offence};
-use line_grammar::Stopped;
+use line_grammar::{Rest, Stopped, first_line, stopped_at};
 use std::alloc::Global;
 use symk_task::{Fact, List, MOST_FACTS, Variable};
 
@@ -52,15 +51,15 @@ fn fact_on(variables: &[Variable], line: &[u8]) -> Option<Fact>
 /// A fact, and the lines after it.
 fn fact_of<'a>(variables: &[Variable], lines: Rest<'a>) -> Result<(Fact, Rest<'a>), Stopped<Shape>>
     requires { Known variables.now }
-    ensures { Gives (λ x. (x.0, x.1)) result (fact_at variables.now tt lines.entry) }
+    ensures { GivesReading (λ x. (x.0, x.1)) result (fact_at variables.now tt lines.entry) }
 {
     let left = lines.len();
     match first_line(lines) {
         Some((line, rest)) => match fact_on(variables, line) {
             Some(fact) => Ok((fact, rest)),
-            None => Err(offence(Shape::Fact, left)),
+            None => Err(stopped_at(Shape::Fact, left)),
         },
-        None => Err(offence(Shape::Fact, left)),
+        None => Err(stopped_at(Shape::Fact, left)),
     }
 }
 
@@ -72,7 +71,7 @@ fn each_fact<'a>(
     lines: Rest<'a>,
 ) -> Result<(List<Fact>, Rest<'a>), Stopped<Shape>>
     requires { Known variables.now }
-    ensures { Gives (λ x. (x.0, x.1)) result (many_at (fact_at variables.now) kept count tt lines.entry) }
+    ensures { GivesReading (λ x. (x.0, x.1)) result (many_at (fact_at variables.now) kept count tt lines.entry) }
 {
     let mut facts = List::of(Vec::new(alloc));
     let mut rest = lines;
@@ -98,7 +97,7 @@ pub fn facts_of<'a>(
     lines: Rest<'a>,
 ) -> Result<(List<Fact>, Rest<'a>), Stopped<Shape>>
     requires { Known variables.now }
-    ensures { Gives (λ x. (x.0, x.1)) result (facts_at variables.now lines.entry) }
+    ensures { GivesReading (λ x. (x.0, x.1)) result (facts_at variables.now lines.entry) }
 {
     let (count, rest) = count_of(Shape::Count, most_facts(variables), lines)?;
     each_fact(alloc, variables, count, rest)

@@ -1,14 +1,13 @@
 //! The version and the metric.
 
-ghost use Rattle.line_grammar.specs.Reading.{Gives, row_at};
+ghost use Rattle.line_grammar.specs.Reading.{GivesReading, row_at};
 ghost use Rattle.sas_reader.specs.Reading.{header_at, three};
 ghost use Rattle.sas_reader.specs.declared.fault.Shape.TheVariants.{Three};
 
 use crate::fault::Shape;
 use crate::numbers::only_number;
 use crate::rows::{count_of, word_of};
-use line_fields::{Rest, first_line, offence};
-use line_grammar::Stopped;
+use line_grammar::{Rest, Stopped, first_line, stopped_at};
 
 /// The version that is read.
 const VERSION: u64 = 3;
@@ -17,7 +16,7 @@ const VERSION: u64 = 3;
 const LAST_METRIC: u64 = 1;
 
 fn version_of<'a>(lines: Rest<'a>) -> Result<Rest<'a>, Stopped<Shape>>
-    ensures { Gives (λ rest. (tt, rest)) result (row_at Three three lines.entry) }
+    ensures { GivesReading (λ rest. (tt, rest)) result (row_at Three three lines.entry) }
 {
     let left = lines.len();
     match first_line(lines) {
@@ -26,19 +25,19 @@ fn version_of<'a>(lines: Rest<'a>) -> Result<Rest<'a>, Stopped<Shape>>
                 if number == VERSION {
                     Ok(rest)
                 } else {
-                    Err(offence(Shape::Three, left))
+                    Err(stopped_at(Shape::Three, left))
                 }
             }
-            _ => Err(offence(Shape::Three, left)),
+            _ => Err(stopped_at(Shape::Three, left)),
         },
-        None => Err(offence(Shape::Three, left)),
+        None => Err(stopped_at(Shape::Three, left)),
     }
 }
 
 /// The metric, 0 or 1, and the lines after the header.
 #[tactic(auto, unfolding(crate::specs::Reading::header_at))]
 pub fn header_of<'a>(lines: Rest<'a>) -> Result<(u64, Rest<'a>), Stopped<Shape>>
-    ensures { Gives (λ x. (x.0, x.1)) result (header_at lines.entry) }
+    ensures { GivesReading (λ x. (x.0, x.1)) result (header_at lines.entry) }
 {
     let rest = word_of(Shape::BeginVersion, b"begin_version", lines)?;
     let rest = version_of(rest)?;

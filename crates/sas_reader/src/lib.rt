@@ -3,8 +3,8 @@
 //! `read_task` gives a task exactly where the lines are those of a task file, and then the task that they state. Else
 //! it names the first line that offends, counted from 1, and the one shape that is wanted there. `specs/Format.antt`
 //! says what a task file is, row by row; `specs/Reading.antt` is the reading that the code does, which private
-//! functions cite. It stands on `symk_text` (lines and numbers), `line_fields` (the lines that are left),
-//! `line_grammar` (what a grammar of rows asks for) and `symk_task`.
+//! functions cite. It stands on `symk_text` (lines and numbers), `line_grammar` (the lines that are left, and what a
+//! grammar of rows asks for) and `symk_task`.
 #![tactic(auto)]
 
 mod effects;

@@ -1,14 +1,13 @@
 //! The mutex groups.
 
-ghost use Rattle.line_grammar.specs.Reading.{Gives, many_at};
+ghost use Rattle.line_grammar.specs.Reading.{GivesReading, many_at};
 ghost use Rattle.sas_reader.specs.Known.{Known};
 ghost use Rattle.sas_reader.specs.Reading.{kept, group_at, groups_at};
 
 use crate::facts::facts_of;
 use crate::fault::Shape;
 use crate::rows::{count_of, word_of};
-use line_fields::Rest;
-use line_grammar::Stopped;
+use line_grammar::{Rest, Stopped};
 use std::alloc::Global;
 use symk_task::{Fact, List, MOST_ITEMS, Variable};
 
@@ -20,7 +19,7 @@ fn group_of<'a>(
     lines: Rest<'a>,
 ) -> Result<(List<Fact>, Rest<'a>), Stopped<Shape>>
     requires { Known variables.now }
-    ensures { Gives (λ x. (x.0, x.1)) result (group_at variables.now tt lines.entry) }
+    ensures { GivesReading (λ x. (x.0, x.1)) result (group_at variables.now tt lines.entry) }
 {
     let rest = word_of(Shape::BeginMutex, b"begin_mutex_group", lines)?;
     let (facts, rest) = facts_of(alloc, variables, rest)?;
@@ -36,7 +35,7 @@ fn each_group<'a>(
     lines: Rest<'a>,
 ) -> Result<(List<List<Fact>>, Rest<'a>), Stopped<Shape>>
     requires { Known variables.now }
-    ensures { Gives (λ x. (x.0, x.1)) result (many_at (group_at variables.now) kept count tt lines.entry) }
+    ensures { GivesReading (λ x. (x.0, x.1)) result (many_at (group_at variables.now) kept count tt lines.entry) }
 {
     let mut groups = List::of(Vec::new(alloc));
     let mut rest = lines;
@@ -55,7 +54,7 @@ pub fn groups_of<'a>(
     lines: Rest<'a>,
 ) -> Result<(List<List<Fact>>, Rest<'a>), Stopped<Shape>>
     requires { Known variables.now }
-    ensures { Gives (λ x. (x.0, x.1)) result (groups_at variables.now lines.entry) }
+    ensures { GivesReading (λ x. (x.0, x.1)) result (groups_at variables.now lines.entry) }
 {
     let (count, rest) = count_of(Shape::Count, MOST_ITEMS, lines)?;
     each_group(alloc, variables, count, rest)

@@ -3,17 +3,16 @@
 ghost use Rattle.std.specs.Prelude.{◌≡◌};
 ghost use Rattle.std.specs.List.{list_any};
 ghost use Rattle.symk_task.specs.Variables.{is_base};
-ghost use Rattle.line_grammar.specs.Reading.{Gives, many_at};
+ghost use Rattle.line_grammar.specs.Reading.{GivesReading, many_at};
 ghost use Rattle.sas_reader.specs.Known.{Known};
-ghost use Rattle.sas_reader.specs.Reading.{kept, most_effects, cost_at, operator_at, operators_at};
+ghost use Rattle.sas_reader.specs.Reading.{kept, most_effects, operator_cost_at, operator_at, operators_at};
 
 use crate::effects::effects_of;
 use crate::facts::facts_of;
 use crate::fault::Shape;
 use crate::numbers::only_number;
 use crate::rows::{count_of, name_of, word_of};
-use line_fields::{Rest, first_line, offence};
-use line_grammar::Stopped;
+use line_grammar::{Rest, Stopped, first_line, stopped_at};
 use std::alloc::Global;
 use symk_task::{List, MOST_FACTS, MOST_ITEMS, Operator, Variable};
 
@@ -33,15 +32,15 @@ fn most_effects(variables: &[Variable]) -> u64
 
 /// A cost, and the lines after it.
 fn cost_of<'a>(lines: Rest<'a>) -> Result<(u64, Rest<'a>), Stopped<Shape>>
-    ensures { Gives (λ x. (x.0, x.1)) result (cost_at lines.entry) }
+    ensures { GivesReading (λ x. (x.0, x.1)) result (operator_cost_at lines.entry) }
 {
     let left = lines.len();
     match first_line(lines) {
         Some((line, rest)) => match only_number(line) {
             Some(Some(cost)) => Ok((cost, rest)),
-            _ => Err(offence(Shape::Cost, left)),
+            _ => Err(stopped_at(Shape::Cost, left)),
         },
-        None => Err(offence(Shape::Cost, left)),
+        None => Err(stopped_at(Shape::Cost, left)),
     }
 }
 
@@ -54,7 +53,7 @@ fn operator_of<'a>(
     lines: Rest<'a>,
 ) -> Result<(Operator, Rest<'a>), Stopped<Shape>>
     requires { Known variables.now }
-    ensures { Gives (λ x. (x.0, x.1)) result (operator_at variables.now most tt lines.entry) }
+    ensures { GivesReading (λ x. (x.0, x.1)) result (operator_at variables.now most tt lines.entry) }
 {
     let rest = word_of(Shape::BeginOperator, b"begin_operator", lines)?;
     let (name, rest) = name_of(alloc, rest)?;
@@ -82,7 +81,8 @@ fn each_operator<'a>(
     lines: Rest<'a>,
 ) -> Result<(List<Operator>, Rest<'a>), Stopped<Shape>>
     requires { Known variables.now }
-    ensures { Gives (λ x. (x.0, x.1)) result (many_at (operator_at variables.now most) kept count tt lines.entry) }
+    ensures { GivesReading (λ x. (x.0, x.1)) result
+        (many_at (operator_at variables.now most) kept count tt lines.entry) }
 {
     let mut operators = List::of(Vec::new(alloc));
     let mut rest = lines;
@@ -101,7 +101,7 @@ pub fn operators_of<'a>(
     lines: Rest<'a>,
 ) -> Result<(List<Operator>, Rest<'a>), Stopped<Shape>>
     requires { Known variables.now }
-    ensures { Gives (λ x. (x.0, x.1)) result (operators_at variables.now lines.entry) }
+    ensures { GivesReading (λ x. (x.0, x.1)) result (operators_at variables.now lines.entry) }
 {
     let (count, rest) = count_of(Shape::Count, MOST_ITEMS, lines)?;
     each_operator(alloc, variables, most_effects(variables), count, rest)

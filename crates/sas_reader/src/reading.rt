@@ -2,7 +2,7 @@
 
 ghost use Rattle.std.specs.Prelude.{◌≡◌, ℕ, List, [], IfOk, IfErr};
 ghost use Rattle.symk_task.specs.declared.parts.TaskParts.{TaskParts};
-ghost use Rattle.line_grammar.specs.Reading.{Gives, tail_at};
+ghost use Rattle.line_grammar.specs.Reading.{GivesReading, tail_at};
 ghost use Rattle.symk_text.specs.Lines.{lines};
 ghost use Rattle.sas_reader.specs.Numbers.{is_blank};
 ghost use Rattle.sas_reader.specs.Reading.{blank_at, main_at, file_at};
@@ -18,8 +18,7 @@ use crate::operators::operators_of;
 use crate::rules::rules_of;
 use crate::state::{goal_of, state_of};
 use crate::variables::variables_of;
-use line_fields::{Rest, first_line, offence};
-use line_grammar::Stopped;
+use line_grammar::{Rest, Stopped, first_line, stopped_at};
 use std::alloc::Global;
 use symk_task::{Task, TaskParts};
 use symk_text::lines_of;
@@ -27,7 +26,7 @@ use symk_text::lines_of;
 /// All but the blank lines, and those.
 #[tactic(auto, unfolding(crate::specs::Reading::main_at))]
 fn main_of<'a>(alloc: Global, lines: Rest<'a>) -> Result<(TaskParts, Rest<'a>), Stopped<Shape>>
-    ensures { Gives (λ x. (x.0, x.1)) result (main_at lines.entry) }
+    ensures { GivesReading (λ x. (x.0, x.1)) result (main_at lines.entry) }
 {
     let (metric, rest) = header_of(lines)?;
     let (variables, rest) = variables_of(alloc, rest)?;
@@ -52,7 +51,7 @@ fn main_of<'a>(alloc: Global, lines: Rest<'a>) -> Result<(TaskParts, Rest<'a>), 
 
 /// A blank line, and the lines after it.
 fn blank_of(lines: Rest<'_>) -> Result<Rest<'_>, Stopped<Shape>>
-    ensures { Gives (λ rest. (tt, rest)) result (blank_at lines.entry) }
+    ensures { GivesReading (λ rest. (tt, rest)) result (blank_at lines.entry) }
 {
     let left = lines.len();
     match first_line(lines) {
@@ -60,17 +59,17 @@ fn blank_of(lines: Rest<'_>) -> Result<Rest<'_>, Stopped<Shape>>
             if is_blank(line) {
                 Ok(rest)
             } else {
-                Err(offence(Shape::Blank, left))
+                Err(stopped_at(Shape::Blank, left))
             }
         }
-        None => Err(offence(Shape::Blank, left)),
+        None => Err(stopped_at(Shape::Blank, left)),
     }
 }
 
 /// Blank lines to the end.
 #[tactic(auto, unfolding(line_grammar::specs::Reading::tail_at))]
 fn blanks_of(lines: Rest<'_>) -> Result<(), Stopped<Shape>>
-    ensures { Gives (λ _. (tt, [])) result (tail_at Blank is_blank lines.entry) }
+    ensures { GivesReading (λ _. (tt, [])) result (tail_at Blank is_blank lines.entry) }
 {
     let mut rest = lines;
     for _ in 0..rest.len() {
@@ -81,7 +80,7 @@ fn blanks_of(lines: Rest<'_>) -> Result<(), Stopped<Shape>>
 
 /// The parts that the lines of a task file state.
 fn parts_of(alloc: Global, lines: Rest<'_>) -> Result<TaskParts, Stopped<Shape>>
-    ensures { Gives (λ x. (x, [])) result (file_at lines.entry) }
+    ensures { GivesReading (λ x. (x, [])) result (file_at lines.entry) }
 {
     let (parts, rest) = main_of(alloc, lines)?;
     blanks_of(rest)?;

@@ -3,7 +3,7 @@
 ghost use Rattle.std.specs.Prelude.{◌≡◌, ◌<◌, length};
 ghost use Rattle.std.specs.List.{list_all};
 ghost use Rattle.symk_task.specs.Variables.{is_base};
-ghost use Rattle.line_grammar.specs.Reading.{Gives, row_at, many_at};
+ghost use Rattle.line_grammar.specs.Reading.{GivesReading, row_at, many_at};
 ghost use Rattle.sas_reader.specs.Known.{Known};
 ghost use Rattle.sas_reader.specs.Reading.{kept, may_stand, heads, head_fits, head_in, most_rules, rule_at, rules_at};
 ghost use Rattle.sas_reader.specs.declared.fault.Shape.TheVariants.{Head};
@@ -12,8 +12,7 @@ use crate::facts::facts_of;
 use crate::fault::Shape;
 use crate::numbers::three_numbers;
 use crate::rows::{count_of, word_of};
-use line_fields::{Rest, first_line, offence};
-use line_grammar::Stopped;
+use line_grammar::{Rest, Stopped, first_line, stopped_at};
 use std::alloc::Global;
 use symk_task::{Fact, List, MOST_ITEMS, Rule, Variable};
 
@@ -119,15 +118,16 @@ fn head_of<'a>(
 ) -> Result<((u32, u32), Rest<'a>), Stopped<Shape>>
     requires known { Known variables.now }
     requires each { length defaults.now ≡ length variables.now }
-    ensures { Gives (λ x. (x.0, x.1)) result (row_at Head (head_in variables.now defaults.now conds.now) lines.entry) }
+    ensures { GivesReading (λ x. (x.0, x.1)) result
+        (row_at Head (head_in variables.now defaults.now conds.now) lines.entry) }
 {
     let left = lines.len();
     match first_line(lines) {
         Some((line, rest)) => match head_on(variables, defaults, conds, line) {
             Some(head) => Ok((head, rest)),
-            None => Err(offence(Shape::Head, left)),
+            None => Err(stopped_at(Shape::Head, left)),
         },
-        None => Err(offence(Shape::Head, left)),
+        None => Err(stopped_at(Shape::Head, left)),
     }
 }
 
@@ -141,7 +141,7 @@ fn rule_of<'a>(
 ) -> Result<(Rule, Rest<'a>), Stopped<Shape>>
     requires known { Known variables.now }
     requires each { length defaults.now ≡ length variables.now }
-    ensures { Gives (λ x. (x.0, x.1)) result (rule_at variables.now defaults.now tt lines.entry) }
+    ensures { GivesReading (λ x. (x.0, x.1)) result (rule_at variables.now defaults.now tt lines.entry) }
 {
     let rest = word_of(Shape::BeginRule, b"begin_rule", lines)?;
     let (conds, rest) = facts_of(alloc, variables, rest)?;
@@ -160,7 +160,8 @@ fn each_rule<'a>(
 ) -> Result<(List<Rule>, Rest<'a>), Stopped<Shape>>
     requires known { Known variables.now }
     requires each { length defaults.now ≡ length variables.now }
-    ensures { Gives (λ x. (x.0, x.1)) result (many_at (rule_at variables.now defaults.now) kept count tt lines.entry) }
+    ensures { GivesReading (λ x. (x.0, x.1)) result
+        (many_at (rule_at variables.now defaults.now) kept count tt lines.entry) }
 {
     let mut rules = List::of(Vec::new(alloc));
     let mut rest = lines;
@@ -181,7 +182,7 @@ pub fn rules_of<'a>(
 ) -> Result<(List<Rule>, Rest<'a>), Stopped<Shape>>
     requires known { Known variables.now }
     requires each { length defaults.now ≡ length variables.now }
-    ensures { Gives (λ x. (x.0, x.1)) result (rules_at variables.now defaults.now lines.entry) }
+    ensures { GivesReading (λ x. (x.0, x.1)) result (rules_at variables.now defaults.now lines.entry) }
 {
     let (count, rest) = count_of(Shape::Count, most_rules(variables), lines)?;
     each_rule(alloc, variables, defaults, count, rest)

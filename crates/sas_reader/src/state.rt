@@ -1,16 +1,15 @@
 //! The initial state and the goal.
 
 ghost use Rattle.std.specs.Prelude.{◌≡◌, length};
-ghost use Rattle.line_grammar.specs.Reading.{Gives, many_at};
+ghost use Rattle.line_grammar.specs.Reading.{GivesReading, many_at};
 ghost use Rattle.sas_reader.specs.Known.{Known};
-ghost use Rattle.sas_reader.specs.Reading.{range_at, value_at, next_place, initial_at, state_at, goal_at};
+ghost use Rattle.sas_reader.specs.Reading.{range_at, initial_value_at, next_place, initial_at, state_at, goal_at};
 
 use crate::facts::facts_of;
 use crate::fault::Shape;
 use crate::numbers::only_number;
 use crate::rows::word_of;
-use line_fields::{Rest, first_line, offence};
-use line_grammar::Stopped;
+use line_grammar::{Rest, Stopped, first_line, stopped_at};
 use std::alloc::Global;
 use symk_task::{Fact, List, Variable};
 
@@ -31,7 +30,7 @@ fn value_of<'a>(
     lines: Rest<'a>,
 ) -> Result<(u32, Rest<'a>), Stopped<Shape>>
     requires { Known variables.now }
-    ensures { Gives (λ x. (x.0, x.1)) result (value_at variables.now var lines.entry) }
+    ensures { GivesReading (λ x. (x.0, x.1)) result (initial_value_at variables.now var lines.entry) }
 {
     let left = lines.len();
     match first_line(lines) {
@@ -40,12 +39,12 @@ fn value_of<'a>(
                 if value < range_at(variables, var) {
                     Ok((value as u32, rest))
                 } else {
-                    Err(offence(Shape::Value, left))
+                    Err(stopped_at(Shape::Value, left))
                 }
             }
-            _ => Err(offence(Shape::Value, left)),
+            _ => Err(stopped_at(Shape::Value, left)),
         },
-        None => Err(offence(Shape::Value, left)),
+        None => Err(stopped_at(Shape::Value, left)),
     }
 }
 
@@ -56,7 +55,7 @@ fn initial_of<'a>(
     lines: Rest<'a>,
 ) -> Result<(List<u32>, Rest<'a>), Stopped<Shape>>
     requires { Known variables.now }
-    ensures { Gives (λ x. (x.0, x.1)) result (initial_at variables.now lines.entry) }
+    ensures { GivesReading (λ x. (x.0, x.1)) result (initial_at variables.now lines.entry) }
 {
     let mut values = List::of(Vec::new(alloc));
     let mut rest = lines;
@@ -76,7 +75,7 @@ pub fn state_of<'a>(
     lines: Rest<'a>,
 ) -> Result<(List<u32>, Rest<'a>), Stopped<Shape>>
     requires { Known variables.now }
-    ensures { Gives (λ x. (x.0, x.1)) result (state_at variables.now lines.entry) }
+    ensures { GivesReading (λ x. (x.0, x.1)) result (state_at variables.now lines.entry) }
 {
     let rest = word_of(Shape::BeginState, b"begin_state", lines)?;
     let (values, rest) = initial_of(alloc, variables, rest)?;
@@ -92,7 +91,7 @@ pub fn goal_of<'a>(
     lines: Rest<'a>,
 ) -> Result<(List<Fact>, Rest<'a>), Stopped<Shape>>
     requires { Known variables.now }
-    ensures { Gives (λ x. (x.0, x.1)) result (goal_at variables.now lines.entry) }
+    ensures { GivesReading (λ x. (x.0, x.1)) result (goal_at variables.now lines.entry) }
 {
     let rest = word_of(Shape::BeginGoal, b"begin_goal", lines)?;
     let (facts, rest) = facts_of(alloc, variables, rest)?;

@@ -1,7 +1,7 @@
 //! The variables.
 
 ghost use Rattle.std.specs.Prelude.{◌≡◌, ◌≤◌, ◌+◌, ◌<◌};
-ghost use Rattle.line_grammar.specs.Reading.{Gives, row_at, many_at};
+ghost use Rattle.line_grammar.specs.Reading.{GivesReading, row_at, many_at};
 ghost use Rattle.symk_task.specs.Variables.{width, range};
 ghost use Rattle.symk_task.specs.Fits.{bits_of};
 ghost use Rattle.sas_reader.specs.Reading.{name_at, kept, values_at, variable_at, variables_at, used_after, layer_in, may_have, number_that};
@@ -10,8 +10,7 @@ ghost use Rattle.sas_reader.specs.declared.fault.Shape.TheVariants.{Layer, Range
 use crate::fault::Shape;
 use crate::numbers::only_number;
 use crate::rows::{count_of, name_of, word_of};
-use line_fields::{Rest, first_line, offence};
-use line_grammar::Stopped;
+use line_grammar::{Rest, Stopped, first_line, stopped_at};
 use std::alloc::Global;
 use symk_task::{LAST_LAYER, List, MOST_VALUES, MOST_VARIABLES, Name, STATE_BITS, Variable};
 
@@ -35,7 +34,7 @@ fn width_of(values: u64) -> u64
 
 /// The layer, None for `-1`, and the lines after it.
 fn layer_of<'a>(lines: Rest<'a>) -> Result<(Option<u32>, Rest<'a>), Stopped<Shape>>
-    ensures { Gives (λ x. (x.0, x.1)) result (row_at Layer layer_in lines.entry) }
+    ensures { GivesReading (λ x. (x.0, x.1)) result (row_at Layer layer_in lines.entry) }
 {
     let left = lines.len();
     match first_line(lines) {
@@ -45,12 +44,12 @@ fn layer_of<'a>(lines: Rest<'a>) -> Result<(Option<u32>, Rest<'a>), Stopped<Shap
                 if layer <= LAST_LAYER {
                     Ok((Some(layer as u32), rest))
                 } else {
-                    Err(offence(Shape::Layer, left))
+                    Err(stopped_at(Shape::Layer, left))
                 }
             }
-            None => Err(offence(Shape::Layer, left)),
+            None => Err(stopped_at(Shape::Layer, left)),
         },
-        None => Err(offence(Shape::Layer, left)),
+        None => Err(stopped_at(Shape::Layer, left)),
     }
 }
 
@@ -74,7 +73,7 @@ fn range_of<'a>(
     lines: Rest<'a>,
 ) -> Result<(u64, Rest<'a>), Stopped<Shape>>
     requires { used ≤ 65536 }
-    ensures { Gives (λ x. (x.0, x.1)) result (row_at Range (number_that (may_have layer used)) lines.entry) }
+    ensures { GivesReading (λ x. (x.0, x.1)) result (row_at Range (number_that (may_have layer used)) lines.entry) }
 {
     let left = lines.len();
     match first_line(lines) {
@@ -83,12 +82,12 @@ fn range_of<'a>(
                 if may_have(layer, used, values) {
                     Ok((values, rest))
                 } else {
-                    Err(offence(Shape::Range, left))
+                    Err(stopped_at(Shape::Range, left))
                 }
             }
-            _ => Err(offence(Shape::Range, left)),
+            _ => Err(stopped_at(Shape::Range, left)),
         },
-        None => Err(offence(Shape::Range, left)),
+        None => Err(stopped_at(Shape::Range, left)),
     }
 }
 
@@ -98,7 +97,7 @@ fn names_of<'a>(
     count: u64,
     lines: Rest<'a>,
 ) -> Result<(List<Name>, Rest<'a>), Stopped<Shape>>
-    ensures { Gives (λ x. (x.0, x.1)) result (many_at name_at kept count tt lines.entry) }
+    ensures { GivesReading (λ x. (x.0, x.1)) result (many_at name_at kept count tt lines.entry) }
 {
     let mut names = List::of(Vec::new(alloc));
     let mut rest = lines;
@@ -118,7 +117,7 @@ fn values_of<'a>(
     lines: Rest<'a>,
 ) -> Result<(List<Name>, Rest<'a>), Stopped<Shape>>
     requires { used ≤ 65536 }
-    ensures { Gives (λ x. (x.0, x.1)) result (values_at layer used lines.entry) }
+    ensures { GivesReading (λ x. (x.0, x.1)) result (values_at layer used lines.entry) }
 {
     let (count, rest) = range_of(layer, used, lines)?;
     names_of(alloc, count, rest)
@@ -132,7 +131,7 @@ fn variable_of<'a>(
     lines: Rest<'a>,
 ) -> Result<(Variable, Rest<'a>), Stopped<Shape>>
     requires { used ≤ 65536 }
-    ensures { Gives (λ x. (x.0, x.1)) result (variable_at used lines.entry) }
+    ensures { GivesReading (λ x. (x.0, x.1)) result (variable_at used lines.entry) }
 {
     let rest = word_of(Shape::BeginVariable, b"begin_variable", lines)?;
     let (name, rest) = name_of(alloc, rest)?;
@@ -166,7 +165,7 @@ pub fn variables_of<'a>(
     alloc: Global,
     lines: Rest<'a>,
 ) -> Result<(List<Variable>, Rest<'a>), Stopped<Shape>>
-    ensures { Gives (λ x. (x.0, x.1)) result (variables_at lines.entry) }
+    ensures { GivesReading (λ x. (x.0, x.1)) result (variables_at lines.entry) }
 {
     let (count, rest) = count_of(Shape::Count, MOST_VARIABLES, lines)?;
     each_variable(alloc, count, rest)
@@ -178,7 +177,7 @@ fn each_variable<'a>(
     count: u64,
     lines: Rest<'a>,
 ) -> Result<(List<Variable>, Rest<'a>), Stopped<Shape>>
-    ensures { Gives (λ x. (x.0, x.1)) result (many_at variable_at used_after count 0 lines.entry) }
+    ensures { GivesReading (λ x. (x.0, x.1)) result (many_at variable_at used_after count 0 lines.entry) }
 {
     let mut variables = List::of(Vec::new(alloc));
     let mut used = 0;

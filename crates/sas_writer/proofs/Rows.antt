@@ -7,7 +7,7 @@ use Rattle.symk_task.specs.Fits.{IsName}
 use Rattle.line_grammar.specs.Rows.{Lines, Spells}
 use Rattle.line_grammar.proofs.Exact as grammar
 use Rattle.sas_reader.specs.declared.fault.Shape.{Shape}
-use Rattle.sas_reader.specs.Rows.{Row, word, name, numbers, number, shape_of, IsSpelled}
+use Rattle.sas_reader.specs.Rows.{Row, word, name, numbers, one_number, shape_of, IsSpelled}
 use Rattle.sas_reader.specs.Numbers.{numbers_of}
 use Rattle.sas_writer.specs.Spelling.{text_of, name_line}
 use Rattle.sas_writer.proofs.Pieces.{Unfed, Plain, Unfed-plain, without_return-plain, without_return-name_line, Unfed-name_line, lines-text_of}
@@ -37,7 +37,7 @@ word_written shape bytes e = (Unfed-plain bytes (plain_of bytes e), without_retu
 pub numbers_written : (shape : Shape) (ns : List (Option ℕ)) (line : List ℕ) → IsLineOf ns line → IsWritten (numbers shape ns) line
 numbers_written shape ns line h = (Unfed-plain line h.plain, ap numbers_of (without_return-plain line h.plain) ∙ h.numbers)
 
-pub number_written : (shape : Shape) (n : ℕ) → n < 2 ^ 64 → IsWritten (number shape n) (decimal n)
+pub number_written : (shape : Shape) (n : ℕ) → n < 2 ^ 64 → IsWritten (one_number shape n) (decimal n)
 number_written shape n lt = numbers_written shape (Some n ∷ []) (decimal n) (number_line n lt)
 
 unfed_of : (bytes : List ℕ) → (Contains bytes 10 → ⊥) → Unfed bytes

@@ -13,7 +13,7 @@ use Rattle.line_grammar.specs.Rows.{Lines}
 use Rattle.sas_reader.specs.declared.fault.Shape.{Shape}
 use Rattle.sas_reader.specs.declared.fault.Shape.TheVariants as shape
 use Rattle.sas_reader.specs.Known.{Known}
-use Rattle.sas_reader.specs.Rows.{Row, word, numbers, number}
+use Rattle.sas_reader.specs.Rows.{Row, word, numbers, one_number}
 use Rattle.sas_reader.specs.Format.{header_rows, name_rows, variable_rows, counted_rows, fact_numbers, fact_rows, group_rows, value_rows, state_rows, goal_rows, effect_numbers, effect_rows, operator_rows, head_numbers, rule_rows}
 use Rattle.sas_writer.specs.Spelling.{name_line, or_minus_one, fact_line, effect_line}
 use Rattle.sas_writer.specs.TaskLines.{head_lines, facts_lines, variable_lines, mutex_lines, state_lines, goal_lines, operator_lines, head_line, rule_lines}
@@ -33,9 +33,9 @@ framed first last begins ends rows ls b e h = (
 pub header_written : (metric : ℕ) → metric < 2 → AreWritten (header_rows metric) (head_lines metric)
 unfolding head_lines
 header_written metric lt =
-    let ending : AreWritten (number shape.Metric metric ∷ word shape.EndMetric (codes "end_metric") ∷ []) (decimal metric ∷ codes "end_metric" ∷ []) =
+    let ending : AreWritten (one_number shape.Metric metric ∷ word shape.EndMetric (codes "end_metric") ∷ []) (decimal metric ∷ codes "end_metric" ∷ []) =
     (number_written shape.Metric metric (omega arith), (word_written shape.EndMetric (codes "end_metric") refl, tt)) in
-    let three = subst (IsWritten (number shape.Three 3)) (decimal_digit 3 (omega arith)) (number_written shape.Three 3 (omega arith)) in (
+    let three = subst (IsWritten (one_number shape.Three 3)) (decimal_digit 3 (omega arith)) (number_written shape.Three 3 (omega arith)) in (
       word_written shape.BeginVersion (codes "begin_version") refl,
       (
         three,
@@ -112,7 +112,7 @@ pub operator_written : (variables : List Variable) → Known variables → (o : 
 unfolding operator_lines
 operator_written variables known o h =
     let effects = decimal (length o.effects) ∷ map effect_line o.effects in
-    let ending = number shape.Cost o.cost ∷ word shape.EndOperator (codes "end_operator") ∷ [] in
+    let ending = one_number shape.Cost o.cost ∷ word shape.EndOperator (codes "end_operator") ∷ [] in
     subst (AreWritten (operator_rows o))
     (sym (regroup_operator (codes "begin_operator") (name_line o.name) (decimal o.cost) (codes "end_operator")
     (facts_lines o.prevail) effects)) (

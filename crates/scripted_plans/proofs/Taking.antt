@@ -4,7 +4,7 @@ use Rattle.std.specs.Bool.{Decides}
 use Rattle.std.specs.Cmp.Lexicographic.{pointwise}
 use Rattle.std.proofs.lemmas.Bool.Decides.{Decides-or}
 use Rattle.symk_task.specs.declared.parts.Mode.TheVariants.{TopK}
-use Rattle.task_system.specs.System.{cost_of, same}
+use Rattle.task_system.specs.System.{cost_in_system, same}
 use Rattle.task_system.proofs.SameLaw.{same_law}
 use Rattle.lazy_plans.specs.Law.{Gave}
 use Rattle.scripted_plans.specs.Free.{free, is_one_of, IsOneOf}
@@ -46,5 +46,5 @@ gave_script plans later p first taken = record {
     go_from q false e h n = h
 
 -- no plan is too dear
-pub cheap_free : (plans : List (List ℕ)) → All (λ p. cost_of free p ≤ 2 ^ 64 - 1) plans
+pub cheap_free : (plans : List (List ℕ)) → All (λ p. cost_in_system free p ≤ 2 ^ 64 - 1) plans
 cheap_free plans k d lt = omega (arith, costs_free (slice_index_or plans k d))

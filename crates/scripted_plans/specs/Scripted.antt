@@ -8,19 +8,19 @@ use Rattle.std.proofs.lemmas.Bool.Decides.{Decides-eqb, Decides-or}
 use Rattle.std.proofs.lemmas.List.Elements.{All-head, All-tail}
 use Rattle.std.proofs.lemmas.Slice.Eq.{slice_eq-Decides}
 use Rattle.symk_task.specs.declared.parts.Mode.TheVariants.{TopK}
-use Rattle.task_system.specs.System.{Runs, cost_of}
+use Rattle.task_system.specs.System.{RunsInSystem, cost_in_system}
 use Rattle.lazy_plans.specs.Law.{Fair, Last}
 use Rattle.scripted_plans.specs.Free.{free, is_one_of, IsOneOf, IsScript}
 
 -- every list of operators is a plan
-pub runs_free : (p : List ℕ) → All (λ a. a < 2 ^ 32) p → Runs free [] p []
+pub runs_free : (p : List ℕ) → All (λ a. a < 2 ^ 32) p → RunsInSystem free [] p []
 runs_free [] all = refl
 runs_free (a ∷ p) all = ([], record { number = All-head (λ a. a < 2 ^ 32) a p all; step = refl }, runs_free p (All-tail (λ a. a < 2 ^ 32) a p all))
 
 -- which costs nothing
-pub costs_free : (p : List ℕ) → cost_of free p ≡ 0
+pub costs_free : (p : List ℕ) → cost_in_system free p ≡ 0
 costs_free [] = refl
-costs_free (a ∷ p) = zero-add (cost_of free p) ∙ costs_free p
+costs_free (a ∷ p) = zero-add (cost_in_system free p) ∙ costs_free p
 
 pub equal_lists : (p q : List ℕ) → Decides (pointwise nat_eq p q) (p ≡ q)
 equal_lists p q = slice_eq-Decides Decides-eqb p q (pointwise nat_eq p q) refl

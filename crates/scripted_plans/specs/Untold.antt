@@ -7,25 +7,25 @@ use Rattle.std.proofs.lemmas.Bool.Decides.{Decides-or, Decides-and, Decides-not}
 use Rattle.std.proofs.Common.{subst}
 use Rattle.symk_task.specs.declared.parts.Mode.TheVariants.{TopK, Unordered}
 use Rattle.symk_task.specs.Plans.{IsListed}
-use Rattle.task_system.specs.System.{IsPlan, IsPlanOf, same}
+use Rattle.task_system.specs.System.{IsSystemPlan, IsSystemPlanOf, same}
 use Rattle.lazy_plans.specs.Law.{Fair, Last}
 use Rattle.lazy_plans.specs.declared.stop.Stop.{Stop}
 use Rattle.lazy_plans.specs.declared.stop.Stop.TheVariants.{Memory, CostRange}
-use Rattle.lazy_plans.specs.Told.{is_in}
+use Rattle.lazy_plans.specs.Told.{is_plan_in}
 use Rattle.lazy_plans.proofs.Told.{in_told}
-use Rattle.selector_laws.specs.Owing.{Unlisted, is_unlisted}
-use Rattle.selector_laws.proofs.Draws.{told_unlisted}
-use Rattle.selector_laws.proofs.Keyed.{listed_told}
-use Rattle.class_plans.specs.Members.{ArePlans}
+use Rattle.lazy_plans.specs.SelectorsOwe.{Unlisted, is_unlisted}
+use Rattle.lazy_plans.proofs.Draws.{told_unlisted}
+use Rattle.lazy_plans.proofs.Keyed.{listed_told}
+use Rattle.selectors.specs.Members.{ArePlans}
 use Rattle.scripted_plans.specs.Free.{free}
 use Rattle.scripted_plans.specs.Scripted.{costs_free}
 
 -- each list of operators that was not given
 abbrev pub Untold : List (List ℕ) → List ℕ → Type 0
-Untold given = Unlisted TopK given (IsPlanOf free TopK)
+Untold given = Unlisted TopK given (IsSystemPlanOf free TopK)
 
 abbrev pub is_untold : List (List ℕ) → List ℕ → Bool
-is_untold given = is_unlisted TopK given (is_in free TopK)
+is_untold given = is_unlisted TopK given (is_plan_in free TopK)
 
 -- of these each that is a rearrangement of none given, and each that is still to be told
 abbrev pub Unmet : List (List ℕ) → List (List ℕ) → List ℕ → Type 0
@@ -35,9 +35,9 @@ abbrev pub is_unmet : List (List ℕ) → List (List ℕ) → List ℕ → Bool
 is_unmet given left q = is_untold given q && (not (list_any (same Unordered q) given) || list_any (same TopK q) left)
 
 -- The first of those that are left was given.
-pub record Took (left later given more : List (List ℕ)) (p : List ℕ) : Type 0 where
+pub record TookFirst (left later given more : List (List ℕ)) (p : List ℕ) : Type 0 where
   pub first : left ≡ p ∷ later
-  pub plan : IsPlan free p
+  pub plan : IsSystemPlan free p
   pub fresh : ¬ IsListed TopK given p
   pub noted : more ≡ given ++ p ∷ []
 
@@ -47,11 +47,11 @@ last_by true = Some (Some Memory)
 last_by false = None
 
 -- what a call answers: one of those that are left, or out of memory, from which on nothing changes
-abbrev pub Answered : List (List ℕ) → List (List ℕ) → List (List ℕ) → List (List ℕ) → Bool → Bool → Result (Option (List ℕ)) Stop → Type 0
-Answered left later given more before after (Ok (Some p)) = Took left later given more p × IsFalse before × IsFalse after
-Answered left later given more before after (Ok None) = ⊥
-Answered left later given more before after (Err Memory) = (later ≡ left) × (more ≡ given) × IsTrue after
-Answered left later given more before after (Err CostRange) = ⊥
+abbrev pub AnswersByScript : List (List ℕ) → List (List ℕ) → List (List ℕ) → List (List ℕ) → Bool → Bool → Result (Option (List ℕ)) Stop → Type 0
+AnswersByScript left later given more before after (Ok (Some p)) = TookFirst left later given more p × IsFalse before × IsFalse after
+AnswersByScript left later given more before after (Ok None) = ⊥
+AnswersByScript left later given more before after (Err Memory) = (later ≡ left) × (more ≡ given) × IsTrue after
+AnswersByScript left later given more before after (Err CostRange) = ⊥
 
 -- no list of operators is too dear
 pub fair_untold : (given : List (List ℕ)) → Fair free TopK None (Untold given)
@@ -61,7 +61,7 @@ fair_untold given = record {
 }
 
 pub told_untold : (given : List (List ℕ)) (p : List ℕ) → Decides (is_untold given p) (Untold given p)
-told_untold given p = told_unlisted TopK given (IsPlanOf free TopK) (is_in free TopK) p (in_told free TopK p)
+told_untold given p = told_unlisted TopK given (IsSystemPlanOf free TopK) (is_plan_in free TopK) p (in_told free TopK p)
 
 pub fair_unmet : (given left : List (List ℕ)) → ArePlans free (Unmet given left)
 fair_unmet given left p h = h.0.1

@@ -2,14 +2,13 @@
 
 ghost use Rattle.std.specs.Prelude.{◌≡◌, ◌++◌, ◌∷◌, [], ◌<◌, ◌^◌, ℕ, List, drop, None, All, Contains, MatchBool, IfOk, IfSome, IfNone};
 ghost use Rattle.symk_task.specs.declared.parts.Mode.TheVariants.{TopK};
-ghost use Rattle.task_system.specs.System.{IsPlan};
-ghost use Rattle.class_plans.specs.Members.{HasEach};
+ghost use Rattle.task_system.specs.System.{IsSystemPlan};
+ghost use Rattle.selectors.specs.Members.{HasEachClass};
 ghost use Rattle.scripted_plans.specs.Free.{free};
-ghost use Rattle.scripted_plans.specs.Untold.{Untold, is_untold, Unmet, is_unmet, Took, Answered, last_by, fair_untold, told_untold, fair_unmet, told_unmet};
+ghost use Rattle.scripted_plans.specs.Untold.{Untold, is_untold, Unmet, is_unmet, TookFirst, AnswersByScript, last_by, fair_untold, told_untold, fair_unmet, told_unmet};
 
-use class_plans::LazyMembers;
 use lazy_plans::{LazyPlans, Steps, Stop};
-use selectors::Keys;
+use selectors::{Keys, LazyMembers};
 use std::alloc::Global;
 use std::sync::ledger::Ledger;
 use symk_task::{Memory, Plan};
@@ -50,8 +49,8 @@ fn is_new(given: &mut Keys, key: Vec<u32>) -> bool
 impl Endless {
     /// An engine that was told these plans, and has given none.
     pub fn of(alloc: Global, rows: &[&[u32]]) -> Result<Endless, Memory>
-        ensures plans { IfOk result (λ e. (p : List ℕ) → IsPlan free p → ⟦<Endless as LazyPlans>⟧.pends e p) }
-        ensures members { IfOk result (λ e. HasEach free (⟦<Endless as LazyMembers>⟧.pends e)) }
+        ensures plans { IfOk result (λ e. (p : List ℕ) → IsSystemPlan free p → ⟦<Endless as LazyPlans>⟧.pends e p) }
+        ensures members { IfOk result (λ e. HasEachClass free (⟦<Endless as LazyMembers>⟧.pends e)) }
     {
         let mut plans = Vec::new(alloc);
         for row in rows {
@@ -68,7 +67,7 @@ impl Endless {
     /// The next plan that it was told. None where there is none or it was given before, or where memory is refused:
     /// then nothing changes.
     fn take(&mut self, alloc: Global) -> Option<Plan>
-        ensures some { IfSome result (λ p. Took (drop self.old.next self.old.plans.items)
+        ensures some { IfSome result (λ p. TookFirst (drop self.old.next self.old.plans.items)
             (drop self.new.next self.new.plans.items) self.old.given self.new.given p) }
         ensures none { IfNone result (self.new ≡ self.old) }
         ensures stopped { self.new.stopped ≡ self.old.stopped }
@@ -92,7 +91,7 @@ impl Endless {
         alloc: Global,
         steps: &mut Steps<L>,
     ) -> Result<Option<Plan>, Stop>
-        ensures { Answered (drop self.old.next self.old.plans.items) (drop self.new.next self.new.plans.items)
+        ensures { AnswersByScript (drop self.old.next self.old.plans.items) (drop self.new.next self.new.plans.items)
             self.old.given self.new.given self.old.stopped self.new.stopped result }
     {
         if self.stopped {

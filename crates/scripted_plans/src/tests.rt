@@ -4,8 +4,7 @@ ghost use Rattle.std.specs.Prelude.{◌≡◌, IfOk};
 ghost use Rattle.symk_task.specs.declared.parts.Mode.TheVariants.{TopK, Unordered as unordered};
 
 use crate::{Endless, Script};
-use class_plans::{Classes, Whole};
-use selectors::{After, LazyPlans, Limited, Stop, Unordered};
+use selectors::{After, Classes, LazyPlans, Limited, Stop, Unordered, Whole};
 use std::alloc::Global;
 use std::test::Fail;
 use symk_task::{List, Memory, Mode, Plan};

@@ -2,7 +2,7 @@
 use Rattle.space_api.specs.View.{View}
 use Rattle.space_api.specs.Frames.{Kept}
 use Rattle.cost_layers.specs.declared.layers.Layers.{Layers}
-use Rattle.cost_layers.specs.Layers.{rings_at, whole_at, Held}
+use Rattle.cost_layers.specs.Layers.{rings_at, union_at, Held}
 use Rattle.cost_layers.proofs.Holding.{holds_kept}
 use Rattle.cost_search.specs.Directed.{Forward, Backward, IsForward, IsBackward}
 use Rattle.cost_search.proofs.Directing.{directed_kept}
@@ -14,4 +14,4 @@ pub backward_stays : {Set : Type 0} (v w : View Set) (f : Backward Set) → Kept
 backward_stays = directed_kept
 
 pub layers_stay : {Set : Type 0} (v w : View Set) (l : Layers Set) → Kept v w → Held v l → Held w l
-layers_stay v w l = holds_kept v w (rings_at l) (whole_at l)
+layers_stay v w l = holds_kept v w (rings_at l) (union_at l)

@@ -1,2 +1,4 @@
 pub mod Noting
 pub mod Present
+pub mod Sifting
+pub mod Keeping

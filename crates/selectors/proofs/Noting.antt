@@ -4,13 +4,14 @@ use Rattle.std.specs.List.{All, Contains}
 use Rattle.std.proofs.lemmas.List.Elements.{All-push, All-weaker}
 use Rattle.symk_task.specs.declared.parts.Mode.{Mode}
 use Rattle.symk_task.specs.Plans.{IsListed}
-use Rattle.selector_laws.specs.Owing.{IsKey}
-use Rattle.selector_laws.proofs.Keyed.{listed_by_key, key_by_listed}
-use Rattle.selectors.specs.Noted.{IsNoted}
+use Rattle.lazy_plans.specs.SelectorsOwe.{IsClassKey}
+use Rattle.lazy_plans.proofs.Keyed.{listed_by_key, key_by_listed}
+use Rattle.selectors.specs.Noted.{IsPlanNoted}
 
-pub noted : (mode : Mode) (old new : List (List ℕ)) (p key : List ℕ) (fresh : Bool) → All (λ other. (q : List ℕ) × IsKey mode q other) old → IsKey mode p key
+pub noted : (mode : Mode) (old new : List (List ℕ)) (p key : List ℕ) (fresh : Bool)
+    → All (λ other. (q : List ℕ) × IsClassKey mode q other) old → IsClassKey mode p key
     → MatchBool fresh (new ≡ old ++ key ∷ []) (new ≡ old) → MatchBool fresh (¬ Contains old key) (Contains old key)
-    → MatchBool fresh (IsNoted mode old new p) (IsListed mode old p × (new ≡ old))
+    → MatchBool fresh (IsPlanNoted mode old new p) (IsListed mode old p × (new ≡ old))
 noted mode old new p key true each is more found = record { key = key; is = is; fresh = (λ m. found (key_by_listed mode old p key each is m)); more = more }
 noted mode old new p key false each is more found = (listed_by_key mode old p key is found, more)
 

@@ -1,2 +1,4 @@
 pub mod Limits
 pub mod Noted
+pub mod Members
+pub mod Left

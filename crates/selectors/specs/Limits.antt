@@ -30,8 +30,8 @@ abbrev pub is_done : {I : Type 0} → Limit I → Bool
 is_done x = x.ended || (x.listed == x.k)
 
 -- at most so many items come
-abbrev pub left_of : {I : Type 0} → Limit I → ℕ
-left_of x = if x.ended then 0 else (x.k - x.listed)
+abbrev pub items_left : {I : Type 0} → Limit I → ℕ
+items_left x = if x.ended then 0 else (x.k - x.listed)
 
 module _ {I : Type 0} (system : I → System) (mode : I → Mode) (most : I → Option ℕ) (pends : I → List ℕ → Type 0) (lawful : I → Type 0) (last : I → Last) where
   -- Once done it gives nothing and asks nothing; else it asks once and gives the answer.

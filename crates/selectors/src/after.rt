@@ -4,7 +4,7 @@ ghost use Rattle.std.specs.Prelude.{◌≡◌, ◌≢◌, ◌≤◌, ◌↔◌, 
 ghost use Rattle.std.specs.List.Sorted.{IsPermutation, IsNonDecreasing};
 ghost use Rattle.symk_task.specs.Plans.{IsListed};
 ghost use Rattle.lazy_plans.specs.Law.{last_of, Turned};
-ghost use Rattle.selector_laws.specs.Owing.{IsKey, AreKeys, Unlisted};
+ghost use Rattle.lazy_plans.specs.SelectorsOwe.{IsClassKey, AreKeys, Unlisted};
 
 mod engine;
 
@@ -30,7 +30,7 @@ fn sort_into(room: &mut Vec<u32>, operators: &[u32])
 /// Whether the plan counts as one with a plan that has one of the keys. No memory is taken: the room holds the
 /// longest key, and a plan that is longer counts as one with none.
 fn is_listed(mode: Mode, keys: &Keys, room: &mut Vec<u32>, plan: &Plan) -> bool
-    requires keyed { All (λ key. (p : List ℕ) × IsKey mode p key) keys.now }
+    requires keyed { All (λ key. (p : List ℕ) × IsClassKey mode p key) keys.now }
     requires short { All (λ key. length key ≤ vec_capacity room.old) keys.now }
     ensures listed { IsTrue result ↔ IsListed mode keys.now plan.now }
     ensures capacity { vec_capacity room.old ≤ vec_capacity room.new }

@@ -4,8 +4,8 @@ ghost use Rattle.std.specs.Prelude.{◌≡◌, ◌++◌, ◌↔◌, [], ◌∷�
 ghost use Rattle.std.specs.List.Sorted.{IsPermutation, IsNonDecreasing};
 ghost use Rattle.symk_task.specs.declared.parts.Mode.TheVariants.{Unordered as unordered};
 ghost use Rattle.symk_task.specs.Plans.{IsListed};
-ghost use Rattle.selector_laws.specs.Owing.{IsKey};
-ghost use Rattle.selectors.specs.Noted.{IsNoted};
+ghost use Rattle.lazy_plans.specs.SelectorsOwe.{IsClassKey};
+ghost use Rattle.selectors.specs.Noted.{IsPlanNoted};
 
 use indexmap::IndexSet;
 use std::alloc::Global;
@@ -57,7 +57,7 @@ impl Keys {
 /// The key of a plan: its operators, in rising order by `Unordered`. Two plans count as one by the mode exactly where
 /// their keys are equal.
 pub fn key_of(alloc: Global, mode: Mode, plan: &Plan) -> Result<Vec<u32>, Memory>
-    ensures { IfOk result (λ key. IsKey mode plan.now key.items) }
+    ensures { IfOk result (λ key. IsClassKey mode plan.now key.items) }
 {
     let key = Vec::from_slice(alloc, plan.as_slice())?;
     match mode {
@@ -77,10 +77,10 @@ fn sorted(mut numbers: Vec<u32>) -> Vec<u32>
 
 /// Notes the class of the plan, by its key in `Unordered`, and tells whether the plan is a rearrangement of none whose
 /// class was noted before. Out of memory, it leaves the keys as they were.
-pub fn note_class(alloc: Global, seen: &mut Keys, plan: &Plan) -> Result<bool, Memory>
-    requires { All (λ key. (p : List ℕ) × IsKey unordered p key) seen.old }
+pub(crate) fn note_class(alloc: Global, seen: &mut Keys, plan: &Plan) -> Result<bool, Memory>
+    requires { All (λ key. (p : List ℕ) × IsClassKey unordered p key) seen.old }
     ensures ok { IfOk result (λ fresh. MatchBool fresh
-        (IsNoted unordered seen.old seen.new plan.now)
+        (IsPlanNoted unordered seen.old seen.new plan.now)
         (IsListed unordered seen.old plan.now × (seen.new ≡ seen.old))) }
     ensures err { OnErr result (seen.new ≡ seen.old) }
 {

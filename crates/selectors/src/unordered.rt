@@ -3,12 +3,13 @@
 ghost use Rattle.std.specs.Prelude.{◌≡◌, None};
 ghost use Rattle.symk_task.specs.declared.parts.Mode.TheVariants.{TopK, Unordered as unordered};
 ghost use Rattle.lazy_plans.specs.Law.{last_of, Turned};
-ghost use Rattle.selector_laws.specs.Owing.{AreKeys, Owes, Holds};
+ghost use Rattle.lazy_plans.specs.SelectorsOwe.{AreKeys, Owes, HoldsPlan};
 
 mod engine;
 
 use crate::keys::{Keys, note_class};
-pub use engine::{Unordered, lasting};
+pub use engine::Unordered;
+pub(crate) use engine::lasting;
 use lazy_plans::{LazyPlans, Steps, Stop};
 use std::alloc::Global;
 use std::sync::ledger::Ledger;
@@ -31,7 +32,7 @@ fn draw<I: LazyPlans, L: Ledger>(
     ensures mode { I.mode inner.new ≡ TopK }
     ensures most { I.most inner.new ≡ I.most inner.old }
     ensures seen { AreKeys (I.system inner.old) unordered (I.most inner.old) seen.new }
-    ensures held { Holds (I.system inner.old) held.new (last_of result) }
+    ensures held { HoldsPlan (I.system inner.old) held.new (last_of result) }
     ensures law { Turned (I.system inner.old) unordered (I.most inner.old)
         (Owes (I.pends inner.old) seen.old None) (Owes (I.pends inner.new) seen.new held.new) result }
 {

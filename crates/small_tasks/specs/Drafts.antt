@@ -20,27 +20,27 @@ abbrev pub facts_of : List (ℕ × ℕ) → List Fact
 facts_of rows = map fact_of rows
 
 -- its name and those of its values are empty
-abbrev pub variable_of : VariableDraft → Variable
-variable_of draft = record { name = []; layer = draft.layer; values = replicate draft.values [] }
+abbrev pub drafted_variable : VariableDraft → Variable
+drafted_variable draft = record { name = []; layer = draft.layer; values = replicate draft.values [] }
 
-abbrev pub effect_of : EffectDraft → Effect
-effect_of draft = record { conds = facts_of draft.conds.now; var = draft.var; pre = draft.pre; post = draft.post }
+abbrev pub drafted_effect : EffectDraft → Effect
+drafted_effect draft = record { conds = facts_of draft.conds.now; var = draft.var; pre = draft.pre; post = draft.post }
 
 -- asks for no fact beside those of its effects
-abbrev pub operator_of : OperatorDraft → Operator
-operator_of draft = record { name = draft.name.now; prevail = []; effects = map effect_of draft.effects.now; cost = draft.cost }
+abbrev pub drafted_operator : OperatorDraft → Operator
+drafted_operator draft = record { name = draft.name.now; prevail = []; effects = map drafted_effect draft.effects.now; cost = draft.cost }
 
-abbrev pub rule_of : RuleDraft → Rule
-rule_of draft = record { conds = facts_of draft.conds.now; var = draft.var; new = draft.new }
+abbrev pub drafted_rule : RuleDraft → Rule
+drafted_rule draft = record { conds = facts_of draft.conds.now; var = draft.var; new = draft.new }
 
 -- without groups
-abbrev pub task_of : Draft → TaskParts
-task_of draft = record {
+abbrev pub drafted_task : Draft → TaskParts
+drafted_task draft = record {
   metric = draft.metric;
-  variables = map variable_of draft.variables.now;
+  variables = map drafted_variable draft.variables.now;
   mutexes = [];
   initial = draft.initial.now;
   goal = facts_of draft.goal.now;
-  operators = map operator_of draft.operators.now;
-  rules = map rule_of draft.rules.now;
+  operators = map drafted_operator draft.operators.now;
+  rules = map drafted_rule draft.rules.now;
 }

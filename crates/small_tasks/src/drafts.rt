@@ -2,7 +2,7 @@
 
 ghost use Rattle.std.specs.Prelude.{◌≡◌, ◌↔◌, [], IfOk, IfSome, IsSome, map, replicate};
 ghost use Rattle.symk_task.specs.Fits.{Fits};
-ghost use Rattle.small_tasks.specs.Drafts.{fact_of, facts_of, variable_of, effect_of, operator_of, rule_of, task_of};
+ghost use Rattle.small_tasks.specs.Drafts.{fact_of, facts_of, drafted_variable, drafted_effect, drafted_operator, drafted_rule, drafted_task};
 
 use crate::parts::{fact, name, none};
 use std::alloc::Global;
@@ -79,7 +79,7 @@ fn values(alloc: Global, count: usize) -> Result<List<Name>, Memory>
 }
 
 fn variable(alloc: Global, draft: &VariableDraft) -> Result<Variable, Memory>
-    ensures { IfOk result (λ variable. variable ≡ variable_of draft.now) }
+    ensures { IfOk result (λ variable. variable ≡ drafted_variable draft.now) }
 {
     Ok(Variable {
         name: Name::of(Vec::new(alloc)),
@@ -89,7 +89,7 @@ fn variable(alloc: Global, draft: &VariableDraft) -> Result<Variable, Memory>
 }
 
 fn variables(alloc: Global, drafts: &[VariableDraft]) -> Result<List<Variable>, Memory>
-    ensures { IfOk result (λ variables. variables ≡ map variable_of drafts.now) }
+    ensures { IfOk result (λ variables. variables ≡ map drafted_variable drafts.now) }
 {
     let mut variables = Vec::with_capacity(alloc, drafts.len())?;
     'variables: for draft in drafts {
@@ -99,7 +99,7 @@ fn variables(alloc: Global, drafts: &[VariableDraft]) -> Result<List<Variable>, 
 }
 
 fn effect(alloc: Global, draft: &EffectDraft<'_>) -> Result<Effect, Memory>
-    ensures { IfOk result (λ effect. effect ≡ effect_of draft.now) }
+    ensures { IfOk result (λ effect. effect ≡ drafted_effect draft.now) }
 {
     Ok(Effect {
         conds: facts(alloc, draft.conds)?,
@@ -110,7 +110,7 @@ fn effect(alloc: Global, draft: &EffectDraft<'_>) -> Result<Effect, Memory>
 }
 
 fn effects(alloc: Global, drafts: &[EffectDraft<'_>]) -> Result<List<Effect>, Memory>
-    ensures { IfOk result (λ effects. effects ≡ map effect_of drafts.now) }
+    ensures { IfOk result (λ effects. effects ≡ map drafted_effect drafts.now) }
 {
     let mut effects = Vec::with_capacity(alloc, drafts.len())?;
     'effects: for draft in drafts {
@@ -120,7 +120,7 @@ fn effects(alloc: Global, drafts: &[EffectDraft<'_>]) -> Result<List<Effect>, Me
 }
 
 fn operator(alloc: Global, draft: &OperatorDraft<'_>) -> Result<Operator, Memory>
-    ensures { IfOk result (λ operator. operator ≡ operator_of draft.now) }
+    ensures { IfOk result (λ operator. operator ≡ drafted_operator draft.now) }
 {
     Ok(Operator {
         name: name(alloc, draft.name)?,
@@ -131,7 +131,7 @@ fn operator(alloc: Global, draft: &OperatorDraft<'_>) -> Result<Operator, Memory
 }
 
 fn operators(alloc: Global, drafts: &[OperatorDraft<'_>]) -> Result<List<Operator>, Memory>
-    ensures { IfOk result (λ operators. operators ≡ map operator_of drafts.now) }
+    ensures { IfOk result (λ operators. operators ≡ map drafted_operator drafts.now) }
 {
     let mut operators = Vec::with_capacity(alloc, drafts.len())?;
     'operators: for draft in drafts {
@@ -141,7 +141,7 @@ fn operators(alloc: Global, drafts: &[OperatorDraft<'_>]) -> Result<List<Operato
 }
 
 fn rule(alloc: Global, draft: &RuleDraft<'_>) -> Result<Rule, Memory>
-    ensures { IfOk result (λ rule. rule ≡ rule_of draft.now) }
+    ensures { IfOk result (λ rule. rule ≡ drafted_rule draft.now) }
 {
     Ok(Rule {
         conds: facts(alloc, draft.conds)?,
@@ -151,7 +151,7 @@ fn rule(alloc: Global, draft: &RuleDraft<'_>) -> Result<Rule, Memory>
 }
 
 fn rules(alloc: Global, drafts: &[RuleDraft<'_>]) -> Result<List<Rule>, Memory>
-    ensures { IfOk result (λ rules. rules ≡ map rule_of drafts.now) }
+    ensures { IfOk result (λ rules. rules ≡ map drafted_rule drafts.now) }
 {
     let mut rules = Vec::with_capacity(alloc, drafts.len())?;
     'rules: for draft in drafts {
@@ -162,7 +162,7 @@ fn rules(alloc: Global, drafts: &[RuleDraft<'_>]) -> Result<List<Rule>, Memory>
 
 /// What the draft states, whether it fits or not.
 pub fn drafted_parts(alloc: Global, draft: &Draft<'_>) -> Result<TaskParts, Memory>
-    ensures { IfOk result (λ parts. parts ≡ task_of draft.now) }
+    ensures { IfOk result (λ parts. parts ≡ drafted_task draft.now) }
 {
     Ok(TaskParts {
         metric: draft.metric,
@@ -189,8 +189,8 @@ pub fn stated(parts: TaskParts) -> Option<Task>
 
 /// The task that the draft states, where it fits.
 pub fn drafted(alloc: Global, draft: &Draft<'_>) -> Result<Option<Task>, Memory>
-    ensures value { IfOk result (λ found. IfSome found (λ task. task ≡ task_of draft.now)) }
-    ensures some { IfOk result (λ found. IsSome found ↔ Fits (task_of draft.now)) }
+    ensures value { IfOk result (λ found. IfSome found (λ task. task ≡ drafted_task draft.now)) }
+    ensures some { IfOk result (λ found. IsSome found ↔ Fits (drafted_task draft.now)) }
 {
     Ok(stated(drafted_parts(alloc, draft)?))
 }

@@ -9,3 +9,4 @@ pub mod Keeping
 pub mod Owning
 pub mod Trading
 pub mod Rising
+pub mod ReachedStates

@@ -5,3 +5,4 @@ pub mod Listing
 pub mod Costs
 pub mod Tidied
 pub mod Operators
+pub mod States

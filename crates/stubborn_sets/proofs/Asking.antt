@@ -8,8 +8,8 @@ use Rattle.symk_task.specs.declared.parts.Effect.{Effect}
 use Rattle.symk_task.specs.declared.parts.TaskParts.{TaskParts}
 use Rattle.task_run.specs.Values.{AllowsBy}
 use Rattle.stubborn_sets.specs.declared.choosing.Lack.{Lack}
-use Rattle.stubborn_sets.specs.Making.{IsRefused, IsRefusedOf}
-use Rattle.stubborn_sets.specs.Barring.{HasMakers, Waits}
+use Rattle.stubborn_sets.specs.Making.{IsRefusedFact, IsRefusedOf}
+use Rattle.stubborn_sets.specs.Barring.{HasMakers, CannotComeFirst}
 
 module _ (values : List ℕ) (effects : List Effect) (before : Option Lack) where
   -- of the effects below the number, and what was found before
@@ -30,20 +30,20 @@ module _ (values : List ℕ) (effects : List Effect) (before : Option Lack) wher
 
   -- one that asks for the fact, or what was found so far
   pub asks_one : (n : ℕ) (effect : Effect) (fact : Fact) (best : Option Lack) (lack : Lack) → n < length effects
-      → effect ≡ get_or effects n effect → IsRefused values effect fact
+      → effect ≡ get_or effects n effect → IsRefusedFact values effect fact
       → (lack.fact ≡ fact) ⊎ (best ≡ Some lack) → Asked n best → (before ≡ Some lack) ⊎ IsRefusedOf values effects lack.fact
   asks_one n effect fact best lack lt is refused (inl same) h =
       inr (
         effect,
         subst (λ (e : Effect). Contains effects e) (sym is) (Contains-get_or effects n effect lt),
         subst
-            (IsRefused values effect) (sym same) refused,
+            (IsRefusedFact values effect) (sym same) refused,
       )
   asks_one n effect fact best lack lt is refused (inr was) h =
       MatchOption-at_some ((before ≡ None) × ((k : ℕ) (d : Effect) → k < n → AllowsBy values (get_or effects k d)))
       (λ lack. (before ≡ Some lack) ⊎ IsRefusedOf values effects lack.fact) lack was h
 
 -- no variable is barred
-pub waits_makers : (task : TaskParts) (marks : List Bool) (fact : Fact) → Waits task [] marks fact → HasMakers task fact marks
+pub waits_makers : (task : TaskParts) (marks : List Bool) (fact : Fact) → CannotComeFirst task [] marks fact → HasMakers task fact marks
 waits_makers task marks fact (inl (raising, it_is)) = absurd (cc)
 waits_makers task marks fact (inr makers) = makers

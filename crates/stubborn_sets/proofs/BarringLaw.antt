@@ -12,8 +12,8 @@ use Rattle.symk_task.specs.Fits.{Fits, FitsRule, InRange}
 use Rattle.symk_task.proofs.Closing.{sound}
 use Rattle.symk_task.proofs.Layers.{raised_by}
 use Rattle.task_run.specs.Values.{HasValue}
-use Rattle.stubborn_sets.specs.Depending.{is_in}
-use Rattle.stubborn_sets.specs.Barring.{HasMakers, RaisesBarred, Waits, IsBarredRule, AreBarredRules, IsBarred}
+use Rattle.stubborn_sets.specs.Depending.{has_mark}
+use Rattle.stubborn_sets.specs.Barring.{HasMakers, RaisesBarred, CannotComeFirst, IsBarredRule, AreBarredRules, IsBarred}
 
 -- a condition that is met after rules that derive holds
 met_holds : (task : TaskParts) (t : List ℕ) (layer : ℕ) (earlier : List Rule) (fact : Fact)
@@ -39,9 +39,9 @@ met_of task t Low layer earlier facts fact met among = All-contains (Met task t 
 module _ (task : TaskParts) (t values : List ℕ) (barred marks : List Bool) (fits : Fits task) (rules : AreBarredRules task values barred marks task.rules)
     (keeps : (fact : Fact) → InRange task.variables fact → ¬ HasValue values fact → HasMakers task fact marks → Holds task t fact → ⊥) where
   -- no rule is the first to raise a barred variable
-  none_first : (n : ℕ) (rule : Rule) (earlier : List Rule) → ((var : ℕ) → IsTrue (is_in barred var) → RaisedBelow n
-      task t var → ⊥) → ((var : ℕ) → IsTrue (is_in barred var) → HasRule var earlier → ⊥)
-      → Derives task t (RaisedBelow n task t) n (rule ∷ earlier) → IsTrue (is_in barred rule.var) → ⊥
+  none_first : (n : ℕ) (rule : Rule) (earlier : List Rule) → ((var : ℕ) → IsTrue (has_mark barred var) → RaisedBelow n
+      task t var → ⊥) → ((var : ℕ) → IsTrue (has_mark barred var) → HasRule var earlier → ⊥)
+      → Derives task t (RaisedBelow n task t) n (rule ∷ earlier) → IsTrue (has_mark barred rule.var) → ⊥
   none_first n rule earlier low before d on =
       let bar = All-contains (IsBarredRule task values barred marks) task.rules rule rules d.0.0 on d.0.1 in
       let met = met_of task t (RaisedBelow n task t) n earlier rule.conds bar.fact d.2 bar.among in
@@ -50,21 +50,21 @@ module _ (task : TaskParts) (t values : List ℕ) (barred marks : List Bool) (fi
       (All-contains (FitsRule task) task.rules rule fits.each_rule d.0.0).conds.1 bar.among) bar.unmet makers
       (met_holds task t n earlier bar.fact d.3 met))
     where
-      by : (fact : Fact) → Met task t (RaisedBelow n task t) n earlier fact → Waits task barred marks fact → (HasMakers task fact marks → ⊥) → ⊥
+      by : (fact : Fact) → Met task t (RaisedBelow n task t) n earlier fact → CannotComeFirst task barred marks fact → (HasMakers task fact marks → ⊥) → ⊥
       by fact met (inr makers) off = off makers
       by fact (base b e) (inl (raising, it_is)) off = raising.0 b
       by fact (same l e h) (inl (raising, it_is)) off = before fact.var it_is h
       by fact (raised below l lt e h) (inl (raising, it_is)) off = low fact.var it_is h
       by fact (default below l lt e h) (inl (raising, it_is)) off = (let k = raising.1 in absurd (omega (arith, k, e)))
 
-  none_derived : (n : ℕ) → ((var : ℕ) → IsTrue (is_in barred var) → RaisedBelow n task t var → ⊥) → (list : List Rule)
-      → Derives task t (RaisedBelow n task t) n list → (var : ℕ) → IsTrue (is_in barred var) → HasRule var list → ⊥
+  none_derived : (n : ℕ) → ((var : ℕ) → IsTrue (has_mark barred var) → RaisedBelow n task t var → ⊥) → (list : List Rule)
+      → Derives task t (RaisedBelow n task t) n list → (var : ℕ) → IsTrue (has_mark barred var) → HasRule var list → ⊥
   none_derived n low [] d var on h = h
   none_derived n low (rule ∷ earlier) d var on (inl e) =
-      none_first n rule earlier low (none_derived n low earlier d.3) d (subst (λ (v : ℕ). IsTrue (is_in barred v)) (sym e) on)
+      none_first n rule earlier low (none_derived n low earlier d.3) d (subst (λ (v : ℕ). IsTrue (has_mark barred v)) (sym e) on)
   none_derived n low (rule ∷ earlier) d var on (inr h) = none_derived n low earlier d.3 var on h
 
-  none_raised : (n : ℕ) (var : ℕ) → IsTrue (is_in barred var) → RaisedBelow n task t var → ⊥
+  none_raised : (n : ℕ) (var : ℕ) → IsTrue (has_mark barred var) → RaisedBelow n task t var → ⊥
   unfolding RaisedBelow
   none_raised zero var on h = absurd h
   none_raised (suc n) var on (inl (last, earlier, is, d)) = none_derived n (none_raised n) (last ∷ earlier) d var on (inl is)

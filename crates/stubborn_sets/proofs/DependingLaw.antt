@@ -9,38 +9,39 @@ use Rattle.symk_task.specs.Variables.{IsBase}
 use Rattle.symk_task.specs.Derived.{Met, HasRule, Derives, Raised, RaisedBelow}
 use Rattle.symk_task.specs.Derived.Met.{base, same, raised, default}
 use Rattle.symk_task.specs.Steps.{Holds}
-use Rattle.commuting.proofs.Agreeing.{Agree}
+use Rattle.stubborn_sets.proofs.Agreeing.{Agree}
 use Rattle.symk_task.specs.Fits.{Fits}
 use Rattle.symk_task.proofs.Places.{within_some}
-use Rattle.stubborn_sets.specs.Depending.{is_in, IsRuleBelow, StaysIn, IsShut}
+use Rattle.stubborn_sets.specs.Depending.{has_mark, IsRuleBelow, StaysIn, IsShutByRules}
 
 -- each marked base variable has one value in both
 abbrev pub AgreeOn : TaskParts → List Bool → List ℕ → List ℕ → Type 0
-AgreeOn task marks s t = (var : ℕ) → IsBase task var → IsTrue (is_in marks var) → Agree task s t var
+AgreeOn task marks s t = (var : ℕ) → IsBase task var → IsTrue (has_mark marks var) → Agree task s t var
 
 -- the rules for marked variables
 abbrev kept : List Bool → List Rule → List Rule
-kept marks rules = filter (λ (rule : Rule). is_in marks rule.var) rules
+kept marks rules = filter (λ (rule : Rule). has_mark marks rule.var) rules
 
 either_rule : (var : ℕ) (b : Bool) (rule : Rule) (rest : List Rule) → HasRule var rest → HasRule var (cond b (rule ∷ rest) rest)
 either_rule var true rule rest h = inr h
 either_rule var false rule rest h = h
 
-has_rule : (marks : List Bool) (var : ℕ) (rules : List Rule) → IsTrue (is_in marks var) → HasRule var rules → HasRule var (kept marks rules)
+has_rule : (marks : List Bool) (var : ℕ) (rules : List Rule) → IsTrue (has_mark marks var) → HasRule var rules → HasRule var (kept marks rules)
 has_rule marks var [] on h = h
 has_rule marks var (rule ∷ rules) on (inl e) =
-    subst (λ (b : Bool). HasRule var (cond b (rule ∷ kept marks rules) (kept marks rules))) (sym (subst (λ (v : ℕ). IsTrue (is_in marks v)) (sym e) on)) (inl e)
-has_rule marks var (rule ∷ rules) on (inr h) = either_rule var (is_in marks rule.var) rule (kept marks rules) (has_rule marks var rules on h)
+    subst (λ (b : Bool). HasRule var (cond b (rule ∷ kept marks rules) (kept marks rules)))
+    (sym (subst (λ (v : ℕ). IsTrue (has_mark marks v)) (sym e) on)) (inl e)
+has_rule marks var (rule ∷ rules) on (inr h) = either_rule var (has_mark marks rule.var) rule (kept marks rules) (has_rule marks var rules on h)
 
 -- the states agree on the marked base variables, and what is raised in lower layers is the same for marked variables
 record AreAlike (task : TaskParts) (marks : List Bool) (s t : List ℕ) (Low Lower : ℕ → Type 0) : Type 0 where
   agree : AgreeOn task marks s t
-  to : (var : ℕ) → IsTrue (is_in marks var) → Low var → Lower var
-  back : (var : ℕ) → IsTrue (is_in marks var) → Lower var → Low var
+  to : (var : ℕ) → IsTrue (has_mark marks var) → Low var → Lower var
+  back : (var : ℕ) → IsTrue (has_mark marks var) → Lower var → Low var
 
-module _ (task : TaskParts) (marks : List Bool) (shut : IsShut task.rules marks) where
+module _ (task : TaskParts) (marks : List Bool) (shut : IsShutByRules task.rules marks) where
   met_on : {s t : List ℕ} {Low Lower : ℕ → Type 0} (layer : ℕ) (earlier : List Rule) (fact : Fact)
-      → AreAlike task marks s t Low Lower → IsTrue (is_in marks fact.var) → Met task s Low layer earlier fact
+      → AreAlike task marks s t Low Lower → IsTrue (has_mark marks fact.var) → Met task s Low layer earlier fact
       → Met task t Lower layer (kept marks earlier) fact
   met_on layer earlier fact alike on (base b e) = base b (sym (alike.agree fact.var b on) ∙ e)
   met_on layer earlier fact alike on (same l e h) = same l e (has_rule marks fact.var earlier on h)
@@ -49,7 +50,7 @@ module _ (task : TaskParts) (marks : List Bool) (shut : IsShut task.rules marks)
 
   mets_on : {s t : List ℕ} {Low Lower : ℕ → Type 0} (layer : ℕ) (earlier : List Rule)
       → AreAlike task marks s t Low Lower → (facts : List Fact)
-      → AllByRecursion (λ fact. IsTrue (is_in marks fact.var)) facts
+      → AllByRecursion (λ fact. IsTrue (has_mark marks fact.var)) facts
       → AllByRecursion (Met task s Low layer earlier) facts
       → AllByRecursion (Met task t Lower layer (kept marks earlier)) facts
   mets_on layer earlier alike [] on h = tt
@@ -58,12 +59,12 @@ module _ (task : TaskParts) (marks : List Bool) (shut : IsShut task.rules marks)
 
   one_rule : {s t : List ℕ} {Low Lower : ℕ → Type 0} (layer : ℕ) → AreAlike task marks s t Low Lower
       → (rule : Rule) (earlier : List Rule) → Derives task s Low layer (rule ∷ earlier) → Derives task t Lower layer (kept marks earlier)
-      → (b : Bool) → is_in marks rule.var ≡ b → Derives task t Lower layer (cond b (rule ∷ kept marks earlier) (kept marks earlier))
+      → (b : Bool) → has_mark marks rule.var ≡ b → Derives task t Lower layer (cond b (rule ∷ kept marks earlier) (kept marks earlier))
   one_rule layer alike rule earlier d rest true on = (
     d.0,
     d.1,
     mets_on layer earlier alike rule.conds
-        (recursion_from_All (λ (fact : Fact). IsTrue (is_in marks fact.var)) rule.conds (All-contains (StaysIn marks) task.rules rule shut d.0.0 on)) d.2,
+        (recursion_from_All (λ (fact : Fact). IsTrue (has_mark marks fact.var)) rule.conds (All-contains (StaysIn marks) task.rules rule shut d.0.0 on)) d.2,
     rest,
   )
   one_rule layer alike rule earlier d rest false off = rest
@@ -72,9 +73,9 @@ module _ (task : TaskParts) (marks : List Bool) (shut : IsShut task.rules marks)
       → (rules : List Rule) → Derives task s Low layer rules → Derives task t Lower layer (kept marks rules)
   derives_on layer alike [] d = tt
   derives_on layer alike (rule ∷ earlier) d =
-      one_rule layer alike rule earlier d (derives_on layer alike earlier d.3) (is_in marks rule.var) refl
+      one_rule layer alike rule earlier d (derives_on layer alike earlier d.3) (has_mark marks rule.var) refl
 
-  raised_on : (n : ℕ) (s t : List ℕ) → AgreeOn task marks s t → (var : ℕ) → IsTrue (is_in marks var) → RaisedBelow n task s var → RaisedBelow n task t var
+  raised_on : (n : ℕ) (s t : List ℕ) → AgreeOn task marks s t → (var : ℕ) → IsTrue (has_mark marks var) → RaisedBelow n task s var → RaisedBelow n task t var
   unfolding RaisedBelow
   raised_on zero s t agree var on h = absurd h
   raised_on (suc n) s t agree var on (inl (last, earlier, is, d)) =
@@ -84,7 +85,7 @@ module _ (task : TaskParts) (marks : List Bool) (shut : IsShut task.rules marks)
         is,
         subst (λ (b : Bool). Derives task t (RaisedBelow n task t) n
             (cond b (last ∷ kept marks earlier) (kept marks earlier)))
-            (subst (λ (v : ℕ). IsTrue (is_in marks v)) (sym is) on)
+            (subst (λ (v : ℕ). IsTrue (has_mark marks v)) (sym is) on)
             (let alike : AreAlike task marks s t (RaisedBelow n task s) (RaisedBelow n task t) = record {
               agree = agree;
               to = raised_on n s t agree;
@@ -94,11 +95,11 @@ module _ (task : TaskParts) (marks : List Bool) (shut : IsShut task.rules marks)
       )
   raised_on (suc n) s t agree var on (inr h) = inr (raised_on n s t agree var on h)
 
-  to_raised : (s t : List ℕ) (var : ℕ) → AgreeOn task marks s t → IsTrue (is_in marks var) → Raised task s var → Raised task t var
+  to_raised : (s t : List ℕ) (var : ℕ) → AgreeOn task marks s t → IsTrue (has_mark marks var) → Raised task s var → Raised task t var
   to_raised s t var agree on (layer, has, h) = (layer, has, raised_on (layer + 1) s t agree var on h)
 
   -- a fact of a marked variable holds in the other state too
-  pub holds_on : (s t : List ℕ) (fact : Fact) → AgreeOn task marks s t → IsTrue (is_in marks fact.var) → Holds task s fact → Holds task t fact
+  pub holds_on : (s t : List ℕ) (fact : Fact) → AgreeOn task marks s t → IsTrue (has_mark marks fact.var) → Holds task s fact → Holds task t fact
   holds_on s t fact agree on (inl (b, e)) = inl (b, sym (agree fact.var b on) ∙ e)
   holds_on s t fact agree on (inr (layer, has, iff)) =
       inr (layer, has, ((λ e. to_raised s t fact.var agree on (iff.0 e)), (λ r. iff.1 (to_raised t s fact.var (λ v b m. sym (agree v b m)) on r))))

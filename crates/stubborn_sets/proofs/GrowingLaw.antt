@@ -10,10 +10,10 @@ use Rattle.symk_task.specs.declared.parts.Operator.{Operator}
 use Rattle.symk_task.specs.declared.parts.TaskParts.{TaskParts}
 use Rattle.task_run.specs.Values.{AppliesBy}
 use Rattle.stubborn_sets.specs.declared.growing.Growing.{Growing}
-use Rattle.stubborn_sets.specs.Making.{IsMissing}
-use Rattle.stubborn_sets.specs.Closing.{is_in, HasMakers, StaysFalse, HasConflicts, HasNeeds}
+use Rattle.stubborn_sets.specs.Making.{IsMissingFact}
+use Rattle.stubborn_sets.specs.Closing.{has_mark, HasMakers, StaysFalse, HasConflicts, HasNeeds}
 use Rattle.stubborn_sets.specs.Kept.{LeavesOut, AreMakers, AreConflicts}
-use Rattle.stubborn_sets.specs.Growing.{left, Adds, IsGrowing, IsPopped, IsClosed}
+use Rattle.stubborn_sets.specs.Growing.{left, AddsNumbers, IsGrowing, IsPopped, IsClosedByNeeds}
 use Rattle.stubborn_sets.proofs.ListsLaw.{none_in}
 use Rattle.stubborn_sets.proofs.Marks.{here, still, further, one_fewer, none_marked, is_there}
 use Rattle.stubborn_sets.proofs.Needs.{Needs, needs_grow}
@@ -26,25 +26,25 @@ either false = inr (λ h. (cc))
 
 -- the makers of a fact, once they are in the set
 pub has_makers : (task : TaskParts) (fact : Fact) (ops : List ℕ) (marks : List Bool) → AreMakers task fact ops
-    → All (λ op. IsTrue (is_in marks op)) ops → HasMakers task fact marks
-has_makers task fact ops marks makers all a lt = elim (either (is_in marks a)) [
+    → All (λ op. IsTrue (has_mark marks op)) ops → HasMakers task fact marks
+has_makers task fact ops marks makers all a lt = elim (either (has_mark marks a)) [
   | inl it_is ↦ inl it_is
-  | inr off ↦ inr (makers.out a lt (λ h. off (All-contains (λ (op : ℕ). IsTrue (is_in marks op)) ops a all h)))
+  | inr off ↦ inr (makers.out a lt (λ h. off (All-contains (λ (op : ℕ). IsTrue (has_mark marks op)) ops a all h)))
 ]
 
 pub has_conflicts : (task : TaskParts) (one : ℕ) (ops : List ℕ) (marks : List Bool) → AreConflicts task one ops
-    → All (λ op. IsTrue (is_in marks op)) ops → HasConflicts task one marks
-has_conflicts task one ops marks conflicts all a lt = elim (either (is_in marks a)) [
+    → All (λ op. IsTrue (has_mark marks op)) ops → HasConflicts task one marks
+has_conflicts task one ops marks conflicts all a lt = elim (either (has_mark marks a)) [
   | inl it_is ↦ inl it_is
-  | inr off ↦ inr (conflicts.out a lt (λ h. off (All-contains (λ (op : ℕ). IsTrue (is_in marks op)) ops a all h)))
+  | inr off ↦ inr (conflicts.out a lt (λ h. off (All-contains (λ (op : ℕ). IsTrue (has_mark marks op)) ops a all h)))
 ]
 
 -- What an addition keeps.
 
-pub adds_refl : (set : Growing) → Adds set set
+pub adds_refl : (set : Growing) → AddsNumbers set set
 adds_refl s = record { grows = λ a h. h; each = refl; keeps = λ a h. h; waits = λ a h. inl h; marked = λ a h. inl h; room = refl }
 
-pub adds_trans : (a b c : Growing) → Adds a b → Adds b c → Adds a c
+pub adds_trans : (a b c : Growing) → AddsNumbers a b → AddsNumbers b c → AddsNumbers a c
 adds_trans a b c to on = record {
   grows = further a.marks.items b.marks.items c.marks.items to.grows on.grows;
   each = on.each ∙ to.each;
@@ -61,18 +61,18 @@ adds_trans a b c to on = record {
 }
 
 -- one number, which was not in the set
-pub adds_new : (old new : Growing) (op : ℕ) → op < length old.marks.items → ¬ IsTrue (is_in old.marks.items op)
+pub adds_new : (old new : Growing) (op : ℕ) → op < length old.marks.items → ¬ IsTrue (has_mark old.marks.items op)
     → new.marks.items ≡ set old.marks.items op true → new.waiting.items ≡ old.waiting.items ++ op ∷ []
-    → Adds old new
+    → AddsNumbers old new
 adds_new old new op lt off marks last = record {
-  grows = λ a h. subst (λ (z : List Bool). IsTrue (is_in z a)) (sym marks) (still old.marks.items op lt a h);
+  grows = λ a h. subst (λ (z : List Bool). IsTrue (has_mark z a)) (sym marks) (still old.marks.items op lt a h);
   each = ap (λ (z : List Bool). length z) marks ∙ simp length-set;
   keeps = λ a h. subst (λ (z : List ℕ). Contains z a) (sym last) (Contains-append_left old.waiting.items (op ∷ []) a h);
   waits = waits;
   marked = λ a h. elim (Contains-push_cases old.waiting.items op a (subst (λ (z : List ℕ). Contains z a) last h)) [
     | inl was ↦ inl was
-    | inr is ↦ inr (subst (λ (z : ℕ). IsTrue (is_in new.marks.items z)) is
-        (subst (λ (z : List Bool). IsTrue (is_in z op)) (sym marks) (here old.marks.items op lt)))
+    | inr is ↦ inr (subst (λ (z : ℕ). IsTrue (has_mark new.marks.items z)) is
+        (subst (λ (z : List Bool). IsTrue (has_mark z op)) (sym marks) (here old.marks.items op lt)))
   ];
   room = (
       let f = one_fewer old.marks.items op lt off in
@@ -82,13 +82,13 @@ adds_new old new op lt off marks last = record {
       omega (arith, f, m, o, l));
 }
   where
-    waits : (a : ℕ) → IsTrue (is_in new.marks.items a) → IsTrue (is_in old.marks.items a) ⊎ Contains new.waiting.items a
+    waits : (a : ℕ) → IsTrue (has_mark new.marks.items a) → IsTrue (has_mark old.marks.items a) ⊎ Contains new.waiting.items a
     waits a h = elim (cases_eq a op) [
       | inl same ↦ inr (subst (λ (z : List ℕ). Contains z a) (sym last)
           (subst (λ (z : ℕ). Contains (old.waiting.items ++ op ∷ []) z) (sym same)
           (Contains-push old.waiting.items op)))
       | inr off ↦ (let ne : a ≢ op = off in inl (sym (get_or-set_other old.marks.items op a true false ne) ∙ subst
-          (λ (z : List Bool). IsTrue (is_in z a)) marks h))
+          (λ (z : List Bool). IsTrue (has_mark z a)) marks h))
     ]
 
 -- A set of operators before its growth, and after each step.
@@ -98,10 +98,10 @@ pub growing_begins : (task : TaskParts) (values : List ℕ) (set : Growing) (n :
 growing_begins task values s n each marks last = record {
   each = ap (λ (z : List Bool). length z) marks ∙ length-replicate n false ∙ each;
   marked = λ a h. absurd (none_in a (subst (λ (z : List ℕ). Contains z a) last h));
-  needs = λ a h. absurd (none_marked n a (subst (λ (z : List Bool). IsTrue (is_in z a)) marks h));
+  needs = λ a h. absurd (none_marked n a (subst (λ (z : List Bool). IsTrue (has_mark z a)) marks h));
 }
 
-pub growing_adds : (task : TaskParts) (values : List ℕ) (old new : Growing) → IsGrowing task values old → Adds old new → IsGrowing task values new
+pub growing_adds : (task : TaskParts) (values : List ℕ) (old new : Growing) → IsGrowing task values old → AddsNumbers old new → IsGrowing task values new
 growing_adds task values old new g d = record {
   each = d.each ∙ g.each;
   marked = λ a h. elim (d.marked a h) [ inl was ↦ d.grows a (g.marked a was) | inr it_is ↦ it_is ];
@@ -116,7 +116,7 @@ growing_adds task values old new g d = record {
 
 -- one that was popped has what it needs
 growing_served : (task : TaskParts) (values : List ℕ) (one : ℕ) (old new : Growing) → IsPopped task values one old
-    → Adds old new → HasNeeds task values one new.marks.items → IsGrowing task values new
+    → AddsNumbers old new → HasNeeds task values one new.marks.items → IsGrowing task values new
 growing_served task values one old new p d has = record {
   each = d.each ∙ p.each;
   marked = λ a h. elim (d.marked a h) [ inl was ↦ d.grows a (p.marked a was) | inr it_is ↦ it_is ];
@@ -132,8 +132,8 @@ growing_served task values one old new p d has = record {
 
 -- by what a missing precondition waits for
 pub served_false : {task : TaskParts} {values : List ℕ} {one : ℕ} {old new : Growing} (operator : Operator)
-    (fact : Fact) → slice_get task.operators one ≡ Some operator → IsMissing values operator fact
-    → IsPopped task values one old → Adds old new → StaysFalse task values new.marks.items fact
+    (fact : Fact) → slice_get task.operators one ≡ Some operator → IsMissingFact values operator fact
+    → IsPopped task values one old → AddsNumbers old new → StaysFalse task values new.marks.items fact
     → IsGrowing task values new
 served_false {task} {values} {one} {old} {new} operator fact is lacks p d stays =
     growing_served task values one old new p d
@@ -142,8 +142,8 @@ served_false {task} {values} {one} {old} {new} operator fact is lacks p d stays 
 -- by those that don't commute with it
 pub served_conflicts : {task : TaskParts} {values : List ℕ} {one : ℕ} {old new : Growing} (operator : Operator)
     (ops : List ℕ) → slice_get task.operators one ≡ Some operator → AppliesBy values operator
-    → AreConflicts task one ops → IsPopped task values one old → Adds old new
-    → All (λ op. IsTrue (is_in new.marks.items op)) ops → IsGrowing task values new
+    → AreConflicts task one ops → IsPopped task values one old → AddsNumbers old new
+    → All (λ op. IsTrue (has_mark new.marks.items op)) ops → IsGrowing task values new
 served_conflicts {task} {values} {one} {old} {new} operator ops is applies conflicts p d all =
     growing_served task values one old new p d
     (subst (λ (o : Option Operator). IsSomeAnd o (Needs task values one new.marks.items)) (sym is)
@@ -170,10 +170,10 @@ pub popped : (task : TaskParts) (values : List ℕ) (old new : Growing) (one : �
 popped task values old new one g last marks = record {
   within = (let lt = is_there old.marks.items one member in omega (arith, lt, g.each));
   each = ap (λ (z : List Bool). length z) marks ∙ g.each;
-  marked = λ a h. subst (λ (z : List Bool). IsTrue (is_in z a)) (sym marks)
+  marked = λ a h. subst (λ (z : List Bool). IsTrue (has_mark z a)) (sym marks)
       (g.marked a (subst (λ (z : List ℕ). Contains z a) (sym last)
       (Contains-append_left new.waiting.items (one ∷ []) a h)));
-  needs = λ a h. elim (g.needs a (subst (λ (z : List Bool). IsTrue (is_in z a)) marks h)) [
+  needs = λ a h. elim (g.needs a (subst (λ (z : List Bool). IsTrue (has_mark z a)) marks h)) [
     | inl was ↦ elim (Contains-push_cases new.waiting.items one a (subst (λ (z : List ℕ). Contains z a) last was)) [
       | inl still ↦ inr (inl still)
       | inr is ↦ inl (sym is)
@@ -182,11 +182,11 @@ popped task values old new one g last marks = record {
   ];
 }
   where
-    member : IsTrue (is_in old.marks.items one)
+    member : IsTrue (has_mark old.marks.items one)
     member = g.marked one (subst (λ (z : List ℕ). Contains z one) (sym last) (Contains-push new.waiting.items one))
 
 -- nothing is last
-pub closed : (task : TaskParts) (values : List ℕ) (set : Growing) → IsGrowing task values set → set.waiting.items ≡ [] → IsClosed task values set
+pub closed : (task : TaskParts) (values : List ℕ) (set : Growing) → IsGrowing task values set → set.waiting.items ≡ [] → IsClosedByNeeds task values set
 closed task values s g last = record {
   each = g.each;
   needs = λ a h. elim (g.needs a h) [

@@ -10,9 +10,9 @@ use Rattle.symk_task.specs.declared.parts.Operator.{Operator}
 use Rattle.symk_task.specs.declared.parts.TaskParts.{TaskParts}
 use Rattle.symk_task.specs.Variables.{IsBase}
 use Rattle.stubborn_sets.specs.declared.conflicts.Conflicts.{Conflicts}
-use Rattle.stubborn_sets.specs.Depending.{is_in, IsShut, WritesOff, LeavesAlone}
+use Rattle.stubborn_sets.specs.Depending.{has_mark, IsShutByRules, WritesOff, LeavesAlone}
 use Rattle.stubborn_sets.specs.Making.{CannotMake}
-use Rattle.stubborn_sets.specs.Kept.{AddsOne, number_of, given_by, AreGiversBelow, AreGivers, LeavesOut, IsOff, AreChangers, AreMakers, IsForOther, AreConflicts, row_at, PutsRow, KnowsConflicts}
+use Rattle.stubborn_sets.specs.Kept.{AddsOne, number_of, given_by, AreGiversBelow, AreGivers, LeavesOut, IsOff, AreChangers, AreMakers, IsForOther, AreConflicts, conflicts_at, PutsRow, KnowsConflicts}
 use Rattle.stubborn_sets.proofs.ListsLaw.{none_in}
 
 -- Numbers, one after the other, of which each is put last or left out.
@@ -116,8 +116,8 @@ makers_changers task ops fact (inr g) derived = record {
 }
 
 -- those off a set out of which no rule leads
-pub changers_off : (task : TaskParts) (var : ℕ) (marks : List Bool) (ops : List ℕ) → IsTrue (is_in marks var)
-    → IsShut task.rules marks → LeavesOut (IsOff task marks) (length task.operators) ops → AreChangers task var ops
+pub changers_off : (task : TaskParts) (var : ℕ) (marks : List Bool) (ops : List ℕ) → IsTrue (has_mark marks var)
+    → IsShutByRules task.rules marks → LeavesOut (IsOff task marks) (length task.operators) ops → AreChangers task var ops
 changers_off task var marks ops on shut g = inr (record {
   within = g.within;
   out = λ a lt off. some_and (λ (o : Operator). WritesOff marks o.effects)
@@ -151,7 +151,7 @@ rules_more rules n rule old new within is was adds has var = record {
 -- The lists of operators that don't commute.
 
 pub conflicts_put : (task : TaskParts) (old new : Conflicts) (one : ℕ) (ops : List ℕ) → KnowsConflicts task old
-    → PutsRow (row_at old) (row_at new) one ops → AreConflicts task one ops → KnowsConflicts task new
+    → PutsRow (conflicts_at old) (conflicts_at new) one ops → AreConflicts task one ops → KnowsConflicts task new
 conflicts_put task old new one ops knows puts are = record {
   each = λ i list h. elim (puts i list h) [
     | inl was ↦ knows.each i list was

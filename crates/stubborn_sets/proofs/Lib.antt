@@ -9,3 +9,9 @@ pub mod Needs
 pub mod Remaining
 pub mod Stopping
 pub mod StubbornLaw
+pub mod Moving
+pub mod Agreeing
+pub mod Values
+pub mod Applying
+pub mod Pair
+pub mod CommuteLaw

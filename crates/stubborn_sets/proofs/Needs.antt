@@ -9,22 +9,22 @@ use Rattle.symk_task.proofs.Places.{within_some}
 use Rattle.task_run.specs.Values.{AppliesBy, AreBelow, IsOn}
 use Rattle.task_run.proofs.Applying.{below}
 use Rattle.task_run.proofs.Stepping.{operator_at}
-use Rattle.stubborn_sets.specs.Making.{IsMissing}
+use Rattle.stubborn_sets.specs.Making.{IsMissingFact}
 use Rattle.symk_task.specs.declared.parts.Rule.{Rule}
-use Rattle.stubborn_sets.specs.Barring.{Waits, HasBar, IsStopped}
-use Rattle.stubborn_sets.specs.Closing.{Grows, HasMakers, StaysFalse, HasConflicts, HasNeeds}
+use Rattle.stubborn_sets.specs.Barring.{CannotComeFirst, HasBar, IsStopped}
+use Rattle.stubborn_sets.specs.Closing.{GrowsMarks, HasMakers, StaysFalse, HasConflicts, HasNeeds}
 
-pub makers_grow : (task : TaskParts) (fact : Fact) (old new : List Bool) → Grows old new → HasMakers task fact old → HasMakers task fact new
+pub makers_grow : (task : TaskParts) (fact : Fact) (old new : List Bool) → GrowsMarks old new → HasMakers task fact old → HasMakers task fact new
 makers_grow task fact old new grows h a lt = elim (h a lt) [ inl it_is ↦ inl (grows a it_is) | inr off ↦ inr off ]
 
 -- a fact waits on, as more variables are barred and more operators marked
-pub waits_grow : (task : TaskParts) (fact : Fact) (bars more old new : List Bool) → Grows bars more → Grows old new
-    → Waits task bars old fact → Waits task more new fact
+pub waits_grow : (task : TaskParts) (fact : Fact) (bars more old new : List Bool) → GrowsMarks bars more → GrowsMarks old new
+    → CannotComeFirst task bars old fact → CannotComeFirst task more new fact
 waits_grow task fact bars more old new to on (inl (raising, it_is)) = inl (raising, to fact.var it_is)
 waits_grow task fact bars more old new to on (inr makers) = inr (makers_grow task fact old new on makers)
 
 pub bar_grows : (task : TaskParts) (values : List ℕ) (bars more old new : List Bool) (conds : List Fact)
-    → Grows bars more → Grows old new → HasBar task values bars old conds → HasBar task values more new conds
+    → GrowsMarks bars more → GrowsMarks old new → HasBar task values bars old conds → HasBar task values more new conds
 bar_grows task values bars more old new conds to on b = record {
   fact = b.fact;
   among = b.among;
@@ -34,10 +34,10 @@ bar_grows task values bars more old new conds to on b = record {
 }
 
 pub stopped_grows : (task : TaskParts) (values : List ℕ) (bars more old new : List Bool) (rule : Rule)
-    → Grows bars more → Grows old new → IsStopped task values bars old rule → IsStopped task values more new rule
+    → GrowsMarks bars more → GrowsMarks old new → IsStopped task values bars old rule → IsStopped task values more new rule
 stopped_grows task values bars more old new rule to on h raises = bar_grows task values bars more old new rule.conds to on (h raises)
 
-pub false_grows : (task : TaskParts) (values : List ℕ) (fact : Fact) (old new : List Bool) → Grows old new
+pub false_grows : (task : TaskParts) (values : List ℕ) (fact : Fact) (old new : List Bool) → GrowsMarks old new
     → StaysFalse task values old fact → StaysFalse task values new fact
 false_grows task values fact old new grows (inl makers) = inl (makers_grow task fact old new grows makers)
 false_grows task values fact old new grows (inr b) = inr (record {
@@ -46,16 +46,16 @@ false_grows task values fact old new grows (inr b) = inr (record {
   rules = λ k d lt on raises. bar_grows task values b.barred b.barred old new (get_or task.rules k d).conds (λ a h. h) grows (b.rules k d lt on raises);
 })
 
-conflicts_grow : (task : TaskParts) (one : ℕ) (old new : List Bool) → Grows old new → HasConflicts task one old → HasConflicts task one new
+conflicts_grow : (task : TaskParts) (one : ℕ) (old new : List Bool) → GrowsMarks old new → HasConflicts task one old → HasConflicts task one new
 conflicts_grow task one old new grows h a lt = elim (h a lt) [ inl it_is ↦ inl (grows a it_is) | inr off ↦ inr off ]
 
 -- what one operator needs, by the operator
 abbrev pub Needs : TaskParts → List ℕ → ℕ → List Bool → Operator → Type 0
 Needs task values one marks operator = (AppliesBy values operator × HasConflicts task one marks)
-    ⊎ ((fact : Fact) × IsMissing values operator fact × StaysFalse task values marks fact)
+    ⊎ ((fact : Fact) × IsMissingFact values operator fact × StaysFalse task values marks fact)
 
 pub needs_grow : (task : TaskParts) (values : List ℕ) (one : ℕ) (old new : List Bool) (o : Option Operator)
-    → Grows old new → IsSomeAnd o (Needs task values one old) → IsSomeAnd o (Needs task values one new)
+    → GrowsMarks old new → IsSomeAnd o (Needs task values one old) → IsSomeAnd o (Needs task values one new)
 needs_grow task values one old new None grows h = h
 needs_grow task values one old new (Some operator) grows (inl (applies, conflicts)) = inl (applies, conflicts_grow task one old new grows conflicts)
 needs_grow task values one old new (Some operator) grows (inr (fact, lacks, makers)) = inr (fact, lacks, false_grows task values fact old new grows makers)

@@ -11,13 +11,13 @@ use Rattle.symk_task.specs.Steps.{Holds, Fires, Step, ValueAfter}
 use Rattle.symk_task.specs.Fits.{Fits, InRange}
 use Rattle.symk_task.proofs.Layers.{base_derived, which}
 use Rattle.symk_task.proofs.Running.{step_state}
-use Rattle.task_system.specs.System.{Runs}
+use Rattle.task_system.specs.System.{RunsInSystem}
 use Rattle.task_system.specs.Computed.{system_of}
 use Rattle.task_system.proofs.RunsLaw.{leads_law}
-use Rattle.commuting.proofs.Values.{at_written, unwritten, at_last}
-use Rattle.commuting.proofs.Pair.{Leaves, base_value}
-use Rattle.commuting.proofs.CommuteLaw.{leaves_by}
-use Rattle.stubborn_sets.specs.Depending.{is_in, WritesOff}
+use Rattle.stubborn_sets.proofs.Values.{at_written, unwritten, at_last}
+use Rattle.stubborn_sets.proofs.Pair.{Leaves, base_value}
+use Rattle.stubborn_sets.proofs.CommuteLaw.{leaves_by}
+use Rattle.stubborn_sets.specs.Depending.{has_mark, WritesOff}
 use Rattle.stubborn_sets.specs.Making.{GivesOther, CannotMake, IsNoMaker}
 use Rattle.stubborn_sets.proofs.DependingLaw.{AgreeOn, holds_on}
 
@@ -51,8 +51,8 @@ stays task s t operator fact within leaves cannot h = elim (which task fact with
 ]
   where
     agree : (marks : List Bool) → WritesOff marks operator.effects → AgreeOn task marks t s
-    agree marks off var on in_them = elim (at_written (λ (v : ℕ). ¬ IsTrue (is_in marks v)) operator.effects var
-        (recursion_from_All (λ (e : Effect). ¬ IsTrue (is_in marks e.var)) operator.effects off)) [
+    agree marks off var on in_them = elim (at_written (λ (v : ℕ). ¬ IsTrue (has_mark marks v)) operator.effects var
+        (recursion_from_All (λ (e : Effect). ¬ IsTrue (has_mark marks e.var)) operator.effects off)) [
           | inl none ↦ unwritten (Fires task s) operator.effects var (get_or s (place task var) 0) (get_or t (place task var) 0) none (leaves var on)
           | inr un ↦ absurd (un in_them)
         ]
@@ -67,7 +67,7 @@ one_step task s t a fact fits within step cannot h = go (slice_get task.operator
 
 -- a run
 pub run_stays : (task : TaskParts) (p : List ℕ) (s t : List ℕ) (fact : Fact) → Fits task → InRange task.variables fact
-    → IsState task s → Runs (system_of task) s p t → AllByRecursion (IsNoMaker task fact) p
+    → IsState task s → RunsInSystem (system_of task) s p t → AllByRecursion (IsNoMaker task fact) p
     → Holds task t fact → Holds task s fact
 run_stays task [] s t fact fits within state runs cannot h = subst (λ (z : List ℕ). Holds task z fact) (sym runs) h
 run_stays task (a ∷ p) s t fact fits within state (m, lead, rest) cannot h =

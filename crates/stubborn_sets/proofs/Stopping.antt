@@ -8,9 +8,9 @@ use Rattle.symk_task.specs.declared.parts.Rule.{Rule}
 use Rattle.symk_task.specs.declared.parts.TaskParts.{TaskParts}
 use Rattle.stubborn_sets.specs.declared.growing.Growing.{Growing}
 use Rattle.stubborn_sets.specs.Barring.{IsStopped, AreStopped, AreBarredRules}
-use Rattle.stubborn_sets.specs.Closing.{is_in, Grows}
-use Rattle.stubborn_sets.specs.Growing.{Adds, IsBarring}
-use Rattle.stubborn_sets.specs.Kept.{AreRules}
+use Rattle.stubborn_sets.specs.Closing.{has_mark, GrowsMarks}
+use Rattle.stubborn_sets.specs.Growing.{AddsNumbers, IsBarring}
+use Rattle.stubborn_sets.specs.Kept.{AreRulesFor}
 use Rattle.stubborn_sets.proofs.ListsLaw.{none_in}
 use Rattle.stubborn_sets.proofs.Marks.{none_marked}
 use Rattle.stubborn_sets.proofs.Needs.{stopped_grows}
@@ -30,7 +30,7 @@ either_in (y ∷ xs) x = elim (cases_eq y x) [
 ]
 
 -- the rules for a variable are stopped where those are that are listed for it
-pub all_stopped : (task : TaskParts) (values : List ℕ) (barred marks : List Bool) (var : ℕ) (numbers : List ℕ) → AreRules task.rules var numbers
+pub all_stopped : (task : TaskParts) (values : List ℕ) (barred marks : List Bool) (var : ℕ) (numbers : List ℕ) → AreRulesFor task.rules var numbers
     → ((j d : ℕ) (e : Rule) → j < length numbers → IsStopped task values barred marks
     (get_or task.rules (get_or numbers j d) e)) → AreStopped task values barred marks var
 all_stopped task values barred marks var numbers are each k d lt on = elim (either_in numbers k) [
@@ -40,7 +40,7 @@ all_stopped task values barred marks var numbers are each k d lt on = elim (eith
 
 -- one variable is barred
 pub barring_begins : (task : TaskParts) (values : List ℕ) (first next set : Growing) (n : ℕ)
-    → n ≡ length task.variables → first.marks.items ≡ replicate n false → first.waiting.items ≡ [] → Adds first next
+    → n ≡ length task.variables → first.marks.items ≡ replicate n false → first.waiting.items ≡ [] → AddsNumbers first next
     → IsBarring task values next set
 barring_begins task values first next set n each marks last d = record {
   each = d.each ∙ ap (λ (z : List Bool). length z) marks ∙ length-replicate n false ∙ each;
@@ -49,7 +49,7 @@ barring_begins task values first next set n each marks last d = record {
     | inr it_is ↦ it_is
   ];
   rules = λ var h. elim (d.waits var h) [
-    | inl was ↦ absurd (none_marked n var (subst (λ (z : List Bool). IsTrue (is_in z var)) marks was))
+    | inl was ↦ absurd (none_marked n var (subst (λ (z : List Bool). IsTrue (has_mark z var)) marks was))
     | inr new ↦ inl new
   ];
 }
@@ -57,7 +57,7 @@ barring_begins task values first next set n each marks last d = record {
 -- the rules for one that waited are stopped
 pub barring_on : {task : TaskParts} {values : List ℕ} {bars next old : Growing} (new : Growing)
     (rest : Vec ℕ Global) (one : ℕ) → IsBarring task values bars old → bars.waiting.items ≡ rest.items ++ one ∷ []
-    → Adds (record { marks = bars.marks; waiting = rest }) next → Grows old.marks.items new.marks.items
+    → AddsNumbers (record { marks = bars.marks; waiting = rest }) next → GrowsMarks old.marks.items new.marks.items
     → AreStopped task values next.marks.items new.marks.items one → IsBarring task values next new
 barring_on {task} {values} {bars} {next} {old} new rest one g last d grows here = record {
   each = d.each ∙ g.each;

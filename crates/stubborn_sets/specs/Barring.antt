@@ -5,12 +5,12 @@ use Rattle.symk_task.specs.declared.parts.Rule.{Rule}
 use Rattle.symk_task.specs.declared.parts.TaskParts.{TaskParts}
 use Rattle.symk_task.specs.Variables.{IsBase, other_value}
 use Rattle.task_run.specs.Values.{HasValue}
-use Rattle.stubborn_sets.specs.Depending.{is_in}
+use Rattle.stubborn_sets.specs.Depending.{has_mark}
 use Rattle.stubborn_sets.specs.Making.{IsNoMaker}
 
 -- each operator is marked, or can't make the fact true
 abbrev pub HasMakers : TaskParts → Fact → List Bool → Type 0
-HasMakers task fact marks = (a : ℕ) → a < length task.operators → IsTrue (is_in marks a) ⊎ IsNoMaker task fact a
+HasMakers task fact marks = (a : ℕ) → a < length task.operators → IsTrue (has_mark marks a) ⊎ IsNoMaker task fact a
 
 -- it says of a derived variable that rules raise it
 abbrev pub IsRaising : TaskParts → Fact → Type 0
@@ -18,18 +18,18 @@ IsRaising task fact = ¬ IsBase task fact.var × (fact.val ≡ other_value task 
 
 -- it says so of a barred one
 abbrev pub RaisesBarred : TaskParts → List Bool → Fact → Type 0
-RaisesBarred task barred fact = IsRaising task fact × IsTrue (is_in barred fact.var)
+RaisesBarred task barred fact = IsRaising task fact × IsTrue (has_mark barred fact.var)
 
 -- the fact can't come true first: it says that a barred variable is raised, or the operators that can make it true are marked
-abbrev pub Waits : TaskParts → List Bool → List Bool → Fact → Type 0
-Waits task barred marks fact = RaisesBarred task barred fact ⊎ HasMakers task fact marks
+abbrev pub CannotComeFirst : TaskParts → List Bool → List Bool → Fact → Type 0
+CannotComeFirst task barred marks fact = RaisesBarred task barred fact ⊎ HasMakers task fact marks
 
 -- One of the conditions doesn't hold by the values, and can't come true first.
 pub record HasBar (task : TaskParts) (values : List ℕ) (barred marks : List Bool) (conds : List Fact) : Type 0 where
   pub fact : Fact
   pub among : Contains conds fact
   pub unmet : ¬ HasValue values fact
-  pub waits : Waits task barred marks fact
+  pub waits : CannotComeFirst task barred marks fact
 
 -- if the rule raises its variable, one of its conditions is so
 abbrev pub IsStopped : TaskParts → List ℕ → List Bool → List Bool → Rule → Type 0
@@ -41,7 +41,7 @@ AreStopped task values barred marks var = All (λ rule. rule.var ≡ var → IsS
 
 -- the rule is, if it is for a barred variable
 abbrev pub IsBarredRule : TaskParts → List ℕ → List Bool → List Bool → Rule → Type 0
-IsBarredRule task values barred marks rule = IsTrue (is_in barred rule.var) → IsStopped task values barred marks rule
+IsBarredRule task values barred marks rule = IsTrue (has_mark barred rule.var) → IsStopped task values barred marks rule
 
 abbrev pub AreBarredRules : TaskParts → List ℕ → List Bool → List Bool → List Rule → Type 0
 AreBarredRules task values barred marks rules = All (IsBarredRule task values barred marks) rules

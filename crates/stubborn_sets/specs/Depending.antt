@@ -6,12 +6,12 @@ use Rattle.symk_task.specs.declared.parts.TaskParts.{TaskParts}
 use Rattle.task_run.specs.Values.{AreBelow}
 
 -- whether the thing of this number is marked
-abbrev pub is_in : List Bool → ℕ → Bool
-is_in marks a = slice_index_or marks a false
+abbrev pub has_mark : List Bool → ℕ → Bool
+has_mark marks a = slice_index_or marks a false
 
 -- what was marked is marked still
-abbrev pub Grows : List Bool → List Bool → Type 0
-Grows old new = (a : ℕ) → IsTrue (is_in old a) → IsTrue (is_in new a)
+abbrev pub GrowsMarks : List Bool → List Bool → Type 0
+GrowsMarks old new = (a : ℕ) → IsTrue (has_mark old a) → IsTrue (has_mark new a)
 
 -- how many are not marked
 abbrev pub left : List Bool → ℕ
@@ -19,7 +19,7 @@ left marks = count_by not marks
 
 -- Marks were added if the test says so: fewer are left then, else the same are there.
 pub record Spreads (old new : List Bool) (more : Bool) : Type 0 where
-  pub grows : Grows old new
+  pub grows : GrowsMarks old new
   pub none : IsFalse more → new ≡ old
   pub some : IsTrue more → left new < left old
 
@@ -29,16 +29,16 @@ IsRuleBelow n rule = (rule.var < n) × AreBelow n rule.conds
 
 -- if the rule is for a marked variable, each of its conditions is on one
 abbrev pub StaysIn : List Bool → Rule → Type 0
-StaysIn marks rule = IsTrue (is_in marks rule.var) → All (λ cond. IsTrue (is_in marks cond.var)) rule.conds
+StaysIn marks rule = IsTrue (has_mark marks rule.var) → All (λ cond. IsTrue (has_mark marks cond.var)) rule.conds
 
 -- no rule leads out of the marked variables
-abbrev pub IsShut : List Rule → List Bool → Type 0
-IsShut rules marks = All (StaysIn marks) rules
+abbrev pub IsShutByRules : List Rule → List Bool → Type 0
+IsShutByRules rules marks = All (StaysIn marks) rules
 
 -- no effect is on a marked variable
 abbrev pub WritesOff : List Bool → List Effect → Type 0
-WritesOff marks effects = All (λ effect. ¬ IsTrue (is_in marks effect.var)) effects
+WritesOff marks effects = All (λ effect. ¬ IsTrue (has_mark marks effect.var)) effects
 
 -- no effect is on what the variable depends on: there are variables, this one among them, out of which no rule leads, and no effect is on one of them
 abbrev pub LeavesAlone : TaskParts → ℕ → List Effect → Type 0
-LeavesAlone task var effects = (marks : List Bool) × IsTrue (is_in marks var) × IsShut task.rules marks × WritesOff marks effects
+LeavesAlone task var effects = (marks : List Bool) × IsTrue (has_mark marks var) × IsShutByRules task.rules marks × WritesOff marks effects

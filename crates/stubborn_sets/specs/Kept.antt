@@ -7,7 +7,7 @@ use Rattle.symk_task.specs.declared.parts.Rule.{Rule}
 use Rattle.symk_task.specs.declared.parts.TaskParts.{TaskParts}
 use Rattle.symk_task.specs.Variables.{IsBase}
 use Rattle.task_system.specs.Computed.{system_of}
-use Rattle.commuting.specs.Commuting.{Commute}
+use Rattle.stubborn_sets.specs.Commuting.{Commute}
 use Rattle.stubborn_sets.specs.declared.lists.Lists.{Lists}
 use Rattle.stubborn_sets.specs.declared.makers.Makers.{Makers}
 use Rattle.stubborn_sets.specs.declared.conflicts.Conflicts.{Conflicts}
@@ -76,14 +76,14 @@ abbrev pub IsForOther : List Rule → ℕ → ℕ → Type 0
 IsForOther rules var k = (d : Rule) → (slice_index_or rules k d).var ≢ var
 
 -- rules, among them each that is for the variable
-abbrev pub AreRules : List Rule → ℕ → List ℕ → Type 0
-AreRules rules var numbers = LeavesOut (IsForOther rules var) (length rules) numbers
+abbrev pub AreRulesFor : List Rule → ℕ → List ℕ → Type 0
+AreRulesFor rules var numbers = LeavesOut (IsForOther rules var) (length rules) numbers
 
 -- the operators that can make a fact true are known, and the rules for a variable
 pub record KnowsMakers (task : TaskParts) (makers : Makers) : Type 0 where
   pub given : AreGivers task (givers_of makers.firsts.items makers.given)
   pub changers : (var : ℕ) → var < length task.variables → AreChangers task var (list_in makers.changers.items var)
-  pub rules : (var : ℕ) → AreRules task.rules var (list_at makers.rules var)
+  pub rules : (var : ℕ) → AreRulesFor task.rules var (list_at makers.rules var)
 
 -- operators, among them each that doesn't commute with this one
 abbrev pub AreConflicts : TaskParts → ℕ → List ℕ → Type 0
@@ -95,8 +95,8 @@ items_found (Some None) = None
 items_found (Some (Some v)) = Some v.items
 
 -- the list of this operator, if it was made
-abbrev pub row_at : Conflicts → ℕ → Option (List ℕ)
-row_at conflicts i = items_found (slice_get conflicts.rows.items i)
+abbrev pub conflicts_at : Conflicts → ℕ → Option (List ℕ)
+conflicts_at conflicts i = items_found (slice_get conflicts.rows.items i)
 
 -- no other list is new than this one, of this operator
 abbrev pub PutsRow : (ℕ → Option (List ℕ)) → (ℕ → Option (List ℕ)) → ℕ → List ℕ → Type 0
@@ -104,4 +104,4 @@ PutsRow old new one ops = (i : ℕ) (list : List ℕ) → new i ≡ Some list �
 
 -- each list that was made has the operators that don't commute with its own
 pub record KnowsConflicts (task : TaskParts) (conflicts : Conflicts) : Type 0 where
-  pub each : (i : ℕ) (ops : List ℕ) → row_at conflicts i ≡ Some ops → AreConflicts task i ops
+  pub each : (i : ℕ) (ops : List ℕ) → conflicts_at conflicts i ≡ Some ops → AreConflicts task i ops

@@ -5,3 +5,8 @@ pub mod Closing
 pub mod Kept
 pub mod Growing
 pub mod Sets
+pub mod Stubborn
+pub mod Laws
+pub mod Commuting
+pub mod Reading
+pub mod Meeting

@@ -29,13 +29,13 @@ abbrev pub IsUnmet : List ℕ → List Fact → Fact → Type 0
 IsUnmet values facts fact = Contains facts fact × ¬ HasValue values fact
 
 -- the effect asks for it, and its variable has another value
-abbrev pub IsRefused : List ℕ → Effect → Fact → Type 0
-IsRefused values effect fact = (fact.var ≡ effect.var) × (effect.pre ≡ Some fact.val) × ¬ HasValue values fact
+abbrev pub IsRefusedFact : List ℕ → Effect → Fact → Type 0
+IsRefusedFact values effect fact = (fact.var ≡ effect.var) × (effect.pre ≡ Some fact.val) × ¬ HasValue values fact
 
 -- one of the effects asks for it
 abbrev pub IsRefusedOf : List ℕ → List Effect → Fact → Type 0
-IsRefusedOf values effects fact = (effect : Effect) × Contains effects effect × IsRefused values effect fact
+IsRefusedOf values effects fact = (effect : Effect) × Contains effects effect × IsRefusedFact values effect fact
 
 -- it is a precondition of the operator, and doesn't have its value
-abbrev pub IsMissing : List ℕ → Operator → Fact → Type 0
-IsMissing values operator fact = IsUnmet values operator.prevail fact ⊎ IsRefusedOf values operator.effects fact
+abbrev pub IsMissingFact : List ℕ → Operator → Fact → Type 0
+IsMissingFact values operator fact = IsUnmet values operator.prevail fact ⊎ IsRefusedOf values operator.effects fact

@@ -4,15 +4,15 @@ ghost use Rattle.std.specs.Prelude.{◌≡◌, ◌<◌, ◌↔◌, IsTrue, IfOk,
 ghost use Rattle.symk_task.specs.Fits.{Fits};
 ghost use Rattle.symk_task.specs.Variables.{other_value};
 ghost use Rattle.task_run.specs.Values.{AreBelow};
-ghost use Rattle.stubborn_sets.specs.Depending.{Grows};
-ghost use Rattle.stubborn_sets.specs.Barring.{HasMakers, IsRaising, Waits, IsStopped, AreStopped, AreBarredRules, IsBarred, StaysFalse};
-ghost use Rattle.stubborn_sets.specs.Growing.{Adds, IsBarring};
+ghost use Rattle.stubborn_sets.specs.Depending.{GrowsMarks};
+ghost use Rattle.stubborn_sets.specs.Barring.{HasMakers, IsRaising, CannotComeFirst, IsStopped, AreStopped, AreBarredRules, IsBarred, StaysFalse};
+ghost use Rattle.stubborn_sets.specs.Growing.{AddsNumbers, IsBarring};
 ghost use Rattle.stubborn_sets.specs.Kept.{KnowsMakers};
 
 use crate::choosing::{Lack, scarcest};
 use crate::growing::Growing;
 use crate::makers::Makers;
-use commuting::is_base;
+use crate::reading::is_base;
 use std::alloc::Global;
 use symk_task::{Fact, Memory, Rule, TaskParts};
 
@@ -46,7 +46,7 @@ fn add_makers(
     requires known { KnowsMakers parts.now makers.now }
     requires each { length set.old.marks.items ≡ length parts.now.operators }
     requires within { fact.var < length parts.now.variables }
-    ensures adds { OnOk result (Adds set.old set.new) }
+    ensures adds { OnOk result (AddsNumbers set.old set.new) }
     ensures has { OnOk result (HasMakers parts.now fact set.new.marks.items) }
 {
     set.add_all(makers.of(parts, fact))
@@ -65,10 +65,10 @@ fn bar(
     requires each { length set.old.marks.items ≡ length parts.now.operators }
     requires variables { length barred.old.marks.items ≡ length parts.now.variables }
     requires within { lack.fact.var < length parts.now.variables }
-    requires none { lack.makers ≡ 0 → Waits parts.now barred.old.marks.items set.old.marks.items lack.fact }
-    ensures bars { OnOk result (Adds barred.old barred.new) }
-    ensures adds { OnOk result (Adds set.old set.new) }
-    ensures waits { OnOk result (Waits parts.now barred.new.marks.items set.new.marks.items lack.fact) }
+    requires none { lack.makers ≡ 0 → CannotComeFirst parts.now barred.old.marks.items set.old.marks.items lack.fact }
+    ensures bars { OnOk result (AddsNumbers barred.old barred.new) }
+    ensures adds { OnOk result (AddsNumbers set.old set.new) }
+    ensures waits { OnOk result (CannotComeFirst parts.now barred.new.marks.items set.new.marks.items lack.fact) }
 {
     if lack.makers == 0 {
         return Ok(());
@@ -93,8 +93,8 @@ fn bar_rule(
     requires variables { length barred.old.marks.items ≡ length parts.now.variables }
     requires valued { length values.now ≡ length parts.now.variables }
     requires within { AreBelow (length values.now) rule.now.conds }
-    ensures spreads { OnOk result (Adds barred.old barred.new) }
-    ensures adds { OnOk result (Adds set.old set.new) }
+    ensures spreads { OnOk result (AddsNumbers barred.old barred.new) }
+    ensures adds { OnOk result (AddsNumbers set.old set.new) }
     ensures bars { IfOk result (λ done. IsTrue done →
         IsStopped parts.now values.now barred.new.marks.items set.new.marks.items rule.now) }
 {
@@ -131,8 +131,8 @@ fn bar_rules(
     requires each { length set.old.marks.items ≡ length parts.now.operators }
     requires variables { length barred.old.marks.items ≡ length parts.now.variables }
     requires valued { length values.now ≡ length parts.now.variables }
-    ensures spreads { OnOk result (Adds barred.old barred.new) }
-    ensures adds { OnOk result (Adds set.old set.new) }
+    ensures spreads { OnOk result (AddsNumbers barred.old barred.new) }
+    ensures adds { OnOk result (AddsNumbers set.old set.new) }
     ensures bars { IfOk result (λ all. IsTrue all →
         AreStopped parts.now values.now barred.new.marks.items set.new.marks.items var) }
 {
@@ -160,8 +160,8 @@ fn bar_on(
     requires each { length set.old.marks.items ≡ length parts.now.operators }
     requires valued { length values.now ≡ length parts.now.variables }
     requires barring { IsBarring parts.now values.now barred.old set.old }
-    ensures grows { IfOk result (λ all. IsTrue all → Grows barred.old.marks.items barred.new.marks.items) }
-    ensures adds { OnOk result (Adds set.old set.new) }
+    ensures grows { IfOk result (λ all. IsTrue all → GrowsMarks barred.old.marks.items barred.new.marks.items) }
+    ensures adds { OnOk result (AddsNumbers set.old set.new) }
     ensures bars { IfOk result (λ all. IsTrue all →
         AreBarredRules parts.now values.now barred.new.marks.items set.new.marks.items parts.now.rules) }
 {
@@ -188,7 +188,7 @@ fn bar_raised(
     requires valued { length values.now ≡ length parts.now.variables }
     requires within { fact.var < length parts.now.variables }
     requires raising { IsRaising parts.now fact }
-    ensures adds { OnOk result (Adds set.old set.new) }
+    ensures adds { OnOk result (AddsNumbers set.old set.new) }
     ensures barred { IfOk result (λ all. IsTrue all → IsBarred parts.now values.now set.new.marks.items fact) }
 {
     let mut barred = Growing::new(alloc, parts.variables.len())?;
@@ -211,7 +211,7 @@ fn serve_raised(
     requires valued { length values.now ≡ length parts.now.variables }
     requires within { fact.var < length parts.now.variables }
     requires raising { IsRaising parts.now fact }
-    ensures adds { OnOk result (Adds set.old set.new) }
+    ensures adds { OnOk result (AddsNumbers set.old set.new) }
     ensures stays { OnOk result (StaysFalse parts.now values.now set.new.marks.items fact) }
 {
     if bar_raised(alloc, makers, parts, values, fact, set)? {
@@ -238,7 +238,7 @@ pub(crate) fn serve(
     requires each { length set.old.marks.items ≡ length parts.now.operators }
     requires valued { length values.now ≡ length parts.now.variables }
     requires within { fact.var < length parts.now.variables }
-    ensures adds { OnOk result (Adds set.old set.new) }
+    ensures adds { OnOk result (AddsNumbers set.old set.new) }
     ensures stays { OnOk result (StaysFalse parts.now values.now set.new.marks.items fact) }
 {
     if is_raising(parts, fact) {
@@ -263,7 +263,7 @@ pub(crate) fn serve_lack(
     requires valued { length values.now ≡ length parts.now.variables }
     requires within { lack.fact.var < length parts.now.variables }
     requires none { lack.makers ≡ 0 → HasMakers parts.now lack.fact set.old.marks.items }
-    ensures adds { OnOk result (Adds set.old set.new) }
+    ensures adds { OnOk result (AddsNumbers set.old set.new) }
     ensures stays { OnOk result (StaysFalse parts.now values.now set.new.marks.items lack.fact) }
 {
     if lack.makers == 0 {

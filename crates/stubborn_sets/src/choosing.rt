@@ -2,9 +2,9 @@
 
 ghost use Rattle.std.specs.Prelude.{◌≡◌, ◌<◌, ◌⊎◌, All, IsTrue, IfSome, MatchOption, None, Some, length};
 ghost use Rattle.task_run.specs.Values.{HasValue, AllowsBy, AppliesBy, AreBelow, IsOn};
-ghost use Rattle.stubborn_sets.specs.Making.{IsUnmet, IsRefused, IsRefusedOf, IsMissing};
-ghost use Rattle.stubborn_sets.specs.Depending.{is_in};
-ghost use Rattle.stubborn_sets.specs.Barring.{HasMakers, Waits};
+ghost use Rattle.stubborn_sets.specs.Making.{IsUnmet, IsRefusedFact, IsRefusedOf, IsMissingFact};
+ghost use Rattle.stubborn_sets.specs.Depending.{has_mark};
+ghost use Rattle.stubborn_sets.specs.Barring.{HasMakers, CannotComeFirst};
 ghost use Rattle.stubborn_sets.specs.Kept.{KnowsMakers};
 
 use crate::barring::is_raising;
@@ -98,7 +98,7 @@ fn unmet_asked(
 /// How many of the operators are not marked. The count ends where it comes to `most`.
 fn unmarked(ops: &[u32], marks: &[bool], most: usize) -> usize
     requires { All (λ op. op < length marks.now) ops.now }
-    ensures { result ≡ 0 → All (λ op. IsTrue (is_in marks.now op)) ops.now }
+    ensures { result ≡ 0 → All (λ op. IsTrue (has_mark marks.now op)) ops.now }
 {
     let mut count = 0;
     for op in ops {
@@ -125,7 +125,7 @@ fn weight(
     requires known { KnowsMakers parts.now makers.now }
     requires each { length marks.now ≡ length parts.now.operators }
     requires within { fact.var < length parts.now.variables }
-    ensures { result ≡ 0 → Waits parts.now barred.now marks.now fact }
+    ensures { result ≡ 0 → CannotComeFirst parts.now barred.now marks.now fact }
 {
     if is_marked(barred, fact.var) && is_raising(parts, fact) {
         return 0;
@@ -147,9 +147,10 @@ fn scarcer(
     requires known { KnowsMakers parts.now makers.now }
     requires each { length marks.now ≡ length parts.now.operators }
     requires within { fact.var < length parts.now.variables }
-    requires before { IfSome before (λ lack. lack.makers ≡ 0 → Waits parts.now barred.now marks.now lack.fact) }
+    requires before { IfSome before (λ lack. lack.makers ≡ 0
+        → CannotComeFirst parts.now barred.now marks.now lack.fact) }
     ensures which { (result.fact ≡ fact) ⊎ (before ≡ Some result) }
-    ensures waits { result.makers ≡ 0 → Waits parts.now barred.now marks.now result.fact }
+    ensures waits { result.makers ≡ 0 → CannotComeFirst parts.now barred.now marks.now result.fact }
 {
     match before {
         None => Lack {
@@ -185,7 +186,7 @@ fn scarcest_among(
     requires within { AreBelow (length values.now) facts.now }
     ensures which { MatchOption result (All (HasValue values.now) facts.now)
         (λ lack. IsUnmet values.now facts.now lack.fact) }
-    ensures waits { IfSome result (λ lack. lack.makers ≡ 0 → Waits parts.now barred.now marks.now lack.fact) }
+    ensures waits { IfSome result (λ lack. lack.makers ≡ 0 → CannotComeFirst parts.now barred.now marks.now lack.fact) }
 {
     let mut best = None;
     for fact in facts {
@@ -213,7 +214,7 @@ pub(crate) fn scarcest(
     requires within { AreBelow (length values.now) facts.now }
     ensures which { MatchOption result (All (HasValue values.now) facts.now)
         (λ lack. IsUnmet values.now facts.now lack.fact) }
-    ensures waits { IfSome result (λ lack. lack.makers ≡ 0 → Waits parts.now barred.now marks.now lack.fact) }
+    ensures waits { IfSome result (λ lack. lack.makers ≡ 0 → CannotComeFirst parts.now barred.now marks.now lack.fact) }
 {
     let most = unmet_among(makers, parts, values, facts, Unmet::none()).far_enough();
     scarcest_among(makers, parts, values, marks, barred, facts, most)
@@ -222,7 +223,7 @@ pub(crate) fn scarcest(
 /// The fact that the effect asks for, where it asks for one and that doesn't have its value.
 fn refused(values: &[u32], effect: &Effect) -> Option<Fact>
     requires { effect.now.var < length values.now }
-    ensures { MatchOption result (AllowsBy values.now effect.now) (IsRefused values.now effect.now) }
+    ensures { MatchOption result (AllowsBy values.now effect.now) (IsRefusedFact values.now effect.now) }
 {
     let val = effect.pre?;
     if values[effect.var as usize] == val {
@@ -277,7 +278,7 @@ pub(crate) fn missing(
     requires prevail { AreBelow (length values.now) operator.now.prevail }
     requires effects { All (IsOn (length values.now)) operator.now.effects }
     ensures which { MatchOption result (AppliesBy values.now operator.now)
-        (λ lack. IsMissing values.now operator.now lack.fact) }
+        (λ lack. IsMissingFact values.now operator.now lack.fact) }
     ensures waits { IfSome result (λ lack. lack.makers ≡ 0 → HasMakers parts.now lack.fact marks.now) }
 {
     let prevail = operator.prevail.as_slice();

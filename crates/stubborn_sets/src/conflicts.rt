@@ -8,9 +8,9 @@ pub(crate) struct Conflicts {
 }
 
 ghost use Rattle.std.specs.Prelude.{◌≡◌, ◌<◌, ◌↔◌, ℕ, IsTrue, None, IfOk, OnOk, IsSome, Some, length};
-ghost use Rattle.stubborn_sets.specs.Kept.{row_at, AreConflicts, KnowsConflicts, PutsRow};
+ghost use Rattle.stubborn_sets.specs.Kept.{conflicts_at, AreConflicts, KnowsConflicts, PutsRow};
 
-use commuting::commute;
+use crate::testing::commute;
 use std::alloc::Global;
 use symk_task::{Memory, Task};
 
@@ -30,7 +30,7 @@ fn conflicts_of(alloc: Global, task: &Task, one: u32) -> Result<Vec<u32>, Memory
 
 impl Conflicts {
     pub(crate) fn new(alloc: Global) -> Conflicts
-        ensures { (i : ℕ) → row_at result i ≡ None }
+        ensures { (i : ℕ) → conflicts_at result i ≡ None }
     {
         Conflicts {
             rows: Vec::new(alloc),
@@ -39,15 +39,15 @@ impl Conflicts {
 
     /// Whether the operator's list was made.
     fn has(&self, one: usize) -> bool
-        ensures { IsTrue result ↔ IsSome (row_at self.now one) }
+        ensures { IsTrue result ↔ IsSome (conflicts_at self.now one) }
     {
         one < self.rows.len() && self.rows[one].is_some()
     }
 
     /// Keeps the operator's list.
     fn keep(&mut self, one: usize, ops: Vec<u32>) -> Result<(), Memory>
-        ensures ok { OnOk result (row_at self.new one ≡ Some ops.items) }
-        ensures puts { PutsRow (row_at self.old) (row_at self.new) one ops.items }
+        ensures ok { OnOk result (conflicts_at self.new one ≡ Some ops.items) }
+        ensures puts { PutsRow (conflicts_at self.old) (conflicts_at self.new) one ops.items }
     {
         'places: while self.rows.len() <= one {
             self.rows.push(None)?;
@@ -61,7 +61,7 @@ impl Conflicts {
         requires one { one < length task.now.operators }
         requires known { KnowsConflicts task.now self.old }
         ensures known { KnowsConflicts task.now self.new }
-        ensures found { OnOk result (IsSome (row_at self.new one)) }
+        ensures found { OnOk result (IsSome (conflicts_at self.new one)) }
     {
         if self.has(one as usize) {
             return Ok(());
@@ -72,8 +72,8 @@ impl Conflicts {
 
     /// The operator's list.
     pub(crate) fn of(&self, one: usize) -> &[u32]
-        requires { IsSome (row_at self.now one) }
-        ensures { row_at self.now one ≡ Some result.now }
+        requires { IsSome (conflicts_at self.now one) }
+        ensures { conflicts_at self.now one ≡ Some result.now }
     {
         match &self.rows[one] {
             Some(ops) => ops.as_slice(),

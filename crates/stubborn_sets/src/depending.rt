@@ -3,7 +3,7 @@
 ghost use Rattle.std.specs.Prelude.{◌≡◌, ◌<◌, ◌↔◌, All, IsTrue, IsFalse, IfOk, length};
 ghost use Rattle.symk_task.specs.Fits.{Fits};
 ghost use Rattle.task_run.specs.Values.{AreBelow};
-ghost use Rattle.stubborn_sets.specs.Depending.{is_in, Grows, Spreads, IsRuleBelow, StaysIn, IsShut, WritesOff};
+ghost use Rattle.stubborn_sets.specs.Depending.{has_mark, GrowsMarks, Spreads, IsRuleBelow, StaysIn, IsShutByRules, WritesOff};
 
 use std::alloc::Global;
 use symk_task::{Effect, Fact, Memory, Rule, TaskParts};
@@ -12,7 +12,7 @@ use symk_task::{Effect, Fact, Memory, Rule, TaskParts};
 pub(crate) fn mark(marks: &mut [bool], at: usize) -> bool
     requires { at < length marks.old }
     ensures spreads { Spreads marks.old marks.new result }
-    ensures has { IsTrue (is_in marks.new at) }
+    ensures has { IsTrue (has_mark marks.new at) }
 {
     if marks[at] {
         return false;
@@ -25,7 +25,7 @@ pub(crate) fn mark(marks: &mut [bool], at: usize) -> bool
 fn mark_all(facts: &[Fact], marks: &mut [bool]) -> bool
     requires { AreBelow (length marks.old) facts.now }
     ensures spreads { Spreads marks.old marks.new result }
-    ensures has { All (λ fact. IsTrue (is_in marks.new fact.var)) facts.now }
+    ensures has { All (λ fact. IsTrue (has_mark marks.new fact.var)) facts.now }
 {
     let mut more = false;
     for fact in facts {
@@ -53,7 +53,7 @@ fn follow(rule: &Rule, marks: &mut [bool]) -> bool
 fn spread(rules: &[Rule], marks: &mut [bool]) -> bool
     requires { All (IsRuleBelow (length marks.old)) rules.now }
     ensures spreads { Spreads marks.old marks.new result }
-    ensures shut { IsFalse result → IsShut rules.now marks.new }
+    ensures shut { IsFalse result → IsShutByRules rules.now marks.new }
 {
     let mut more = false;
     for rule in rules {
@@ -67,8 +67,8 @@ fn spread(rules: &[Rule], marks: &mut [bool]) -> bool
 /// Marks all that the rules lead to from marked variables.
 fn spread_on(rules: &[Rule], marks: &mut [bool])
     requires { All (IsRuleBelow (length marks.old)) rules.now }
-    ensures grows { Grows marks.old marks.new }
-    ensures shut { IsShut rules.now marks.new }
+    ensures grows { GrowsMarks marks.old marks.new }
+    ensures shut { IsShutByRules rules.now marks.new }
 {
     'spreading: loop {
         if !spread(rules, marks) {
@@ -81,8 +81,8 @@ fn spread_on(rules: &[Rule], marks: &mut [bool])
 pub(crate) fn dependencies(alloc: Global, parts: &TaskParts, var: u32) -> Result<Vec<bool>, Memory>
     requires fits { Fits parts.now }
     requires within { var < length parts.now.variables }
-    ensures itself { IfOk result (λ marks. IsTrue (is_in marks.items var)) }
-    ensures shut { IfOk result (λ marks. IsShut parts.now.rules marks.items) }
+    ensures itself { IfOk result (λ marks. IsTrue (has_mark marks.items var)) }
+    ensures shut { IfOk result (λ marks. IsShutByRules parts.now.rules marks.items) }
 {
     let mut marks = vec![in alloc; false; parts.variables.len()]?;
     marks[var as usize] = true;
@@ -92,7 +92,7 @@ pub(crate) fn dependencies(alloc: Global, parts: &TaskParts, var: u32) -> Result
 
 /// Whether the variable is marked.
 pub(crate) fn is_marked(marks: &[bool], var: u32) -> bool
-    ensures { result ≡ is_in marks.now var }
+    ensures { result ≡ has_mark marks.now var }
 {
     match marks.get(var as usize) {
         Some(mark) => *mark,

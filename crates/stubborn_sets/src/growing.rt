@@ -10,8 +10,8 @@ pub(crate) struct Growing {
 }
 
 ghost use Rattle.std.specs.Prelude.{◌≡◌, ◌<◌, [], All, IsTrue, IfOk, OnOk, length, replicate, false};
-ghost use Rattle.stubborn_sets.specs.Closing.{is_in};
-ghost use Rattle.stubborn_sets.specs.Growing.{Adds};
+ghost use Rattle.stubborn_sets.specs.Closing.{has_mark};
+ghost use Rattle.stubborn_sets.specs.Growing.{AddsNumbers};
 
 use crate::depending::is_marked;
 use std::alloc::Global;
@@ -32,8 +32,8 @@ impl Growing {
     /// Adds the number, unless it is in the set.
     pub(crate) fn add(&mut self, number: u32) -> Result<(), Memory>
         requires { number < length self.old.marks.items }
-        ensures adds { OnOk result (Adds self.old self.new) }
-        ensures has { OnOk result (IsTrue (is_in self.new.marks.items number)) }
+        ensures adds { OnOk result (AddsNumbers self.old self.new) }
+        ensures has { OnOk result (IsTrue (has_mark self.new.marks.items number)) }
     {
         if self.marks[number as usize] {
             return Ok(());
@@ -46,8 +46,8 @@ impl Growing {
     /// Adds the numbers that are not in the set.
     pub(crate) fn add_all(&mut self, numbers: &[u32]) -> Result<(), Memory>
         requires { All (λ number. number < length self.old.marks.items) numbers.now }
-        ensures adds { OnOk result (Adds self.old self.new) }
-        ensures has { OnOk result (All (λ number. IsTrue (is_in self.new.marks.items number)) numbers.now) }
+        ensures adds { OnOk result (AddsNumbers self.old self.new) }
+        ensures has { OnOk result (All (λ number. IsTrue (has_mark self.new.marks.items number)) numbers.now) }
     {
         for number in numbers {
             self.add(*number)?;

@@ -15,11 +15,11 @@ pub(crate) struct Makers {
 
 ghost use Rattle.std.specs.Prelude.{◌≡◌, ◌≤◌, ◌<◌, ℕ, All, Contains, IfOk, OnOk, length};
 ghost use Rattle.symk_task.specs.Fits.{FitsVariable};
-ghost use Rattle.stubborn_sets.specs.Kept.{number_of, given_by, list_at, givers_of, AddsOne, list_in, LeavesOut, IsOff, AreGivers, AreChangers, AreMakers, AreRules, KnowsMakers};
+ghost use Rattle.stubborn_sets.specs.Kept.{number_of, given_by, list_at, givers_of, AddsOne, list_in, LeavesOut, IsOff, AreGivers, AreChangers, AreMakers, AreRulesFor, KnowsMakers};
 
 use crate::depending::{dependencies, writes_off};
 use crate::lists::{Lists, list_of};
-use commuting::is_base;
+use crate::reading::is_base;
 use std::alloc::Global;
 use symk_task::{Effect, Fact, Memory, Rule, Task, TaskParts, Variable};
 
@@ -124,7 +124,7 @@ fn changers(alloc: Global, task: &Task) -> Result<Vec<Vec<u32>>, Memory>
 /// Of each variable the rules for it.
 fn rules_by_variable(alloc: Global, rules: &[Rule]) -> Result<Lists, Memory>
     requires { length rules.now ≤ 1000000 }
-    ensures { IfOk result (λ lists. (var : ℕ) → AreRules rules.now var (list_at lists var)) }
+    ensures { IfOk result (λ lists. (var : ℕ) → AreRulesFor rules.now var (list_at lists var)) }
 {
     let mut lists = Lists::new(alloc);
     for number in 0..rules.len() {
@@ -167,7 +167,7 @@ impl Makers {
     /// The rules for the variable.
     pub(crate) fn rules_for(&self, parts: &TaskParts, var: u32) -> &[u32]
         requires { KnowsMakers parts.now self.now }
-        ensures { AreRules parts.now.rules var result.now }
+        ensures { AreRulesFor parts.now.rules var result.now }
     {
         self.rules.at(var as usize)
     }

@@ -14,7 +14,7 @@ use Rattle.plan_run.specs.declared.options.Reach.TheVariants.{All, UpTo, Percent
 use Rattle.run_status.specs.declared.status.Status.{Status}
 use Rattle.run_status.specs.declared.status.Status.TheVariants as status
 use Rattle.run_status.specs.Sent.{Sent, nothing, IsOne}
-use Rattle.run_status.specs.Ends.{Ends, FrontOf, AsOne, OrFront, Puts}
+use Rattle.run_status.specs.Ends.{EndsWithText, FrontOf, AsOne, OrFront, PutsOutWith}
 use Rattle.symk_cli.specs.Wishes.{Ask, Further, Wish, lists, continues, checks, shows, proves, refutes}
 use Rattle.symk_cli.specs.Refusals.{IsTaskText, FileRefused}
 use Rattle.plan_run.specs.Lists.{Aim, aim, Listing, MayCome, end_status}
@@ -132,7 +132,10 @@ module _ (rose : Type 0) where
   front_answers wish F P May whole status.Unreadable out m = (whole status.Unreadable out.pieces m.0, m.1)
   front_answers wish F P May whole status.CostRange out m = (whole status.CostRange out.pieces m.0, m.1)
 
-  pub front_answered : (wish : Option Wish) (told : Option Told) (F P : Option Bytes) (May : Status → Bytes → Type 0) (old new : SinkView) (result : Status) → ((result : Status) (pieces : List Bytes) → AsOne May result pieces → Whole rose wish F P result pieces) → AreTexts told wish F P → Puts (OrFront May) old new result → Answered rose wish told old new result
+  pub front_answered : (wish : Option Wish) (told : Option Told) (F P : Option Bytes) (May : Status → Bytes → Type 0)
+      (old new : SinkView) (result : Status) → ((result : Status) (pieces : List Bytes) → AsOne May result pieces
+      → Whole rose wish F P result pieces) → AreTexts told wish F P → PutsOutWith (OrFront May) old new result
+      → Answered rose wish told old new result
   front_answered wish told F P May old new result whole texts p = record { F = F; P = P; texts = texts; out = p.0; taken = p.1; answer = front_answers wish F P May whole result p.0 p.2 }
 
   -- out of memory, before anything is put
@@ -143,7 +146,9 @@ module _ (rose : Type 0) where
   usage_whole wish status.Usage pieces m = m
   usage_whole wish result pieces m = absurd m.2
 
-  pub usage_answered : (wish : Option Wish) (told : Option Told) (text : Bytes) (old new : SinkView) (result : Status) → wish ≡ None → text ≡ usage_text → Ends status.Usage text old new result → Answered rose wish told old new result
+  pub usage_answered : (wish : Option Wish) (told : Option Told) (text : Bytes) (old new : SinkView) (result : Status)
+      → wish ≡ None → text ≡ usage_text → EndsWithText status.Usage text old new result
+      → Answered rose wish told old new result
   usage_answered wish told text old new result none e ends =
       front_answered wish told None None (IsUsage wish) old new result (usage_whole wish) (nothing_read told wish) (end_puts (IsUsage wish) status.Usage text old new result (none, e) ends)
 
@@ -154,7 +159,9 @@ module _ (rose : Type 0) where
   refused_lists ask F P status.Offending pieces m = m
   refused_lists ask F P result pieces m = absurd m.2
 
-  pub lists_refused : (told : Option Told) (ask : Ask) (old new : SinkView) (result : Status) → HasRead told ask.file (λ F. Puts (OrFront (FileRefused rose F)) old new result) → Answered rose (Some (lists ask)) told old new result
+  pub lists_refused : (told : Option Told) (ask : Ask) (old new : SinkView) (result : Status)
+      → HasRead told ask.file (λ F. PutsOutWith (OrFront (FileRefused rose F)) old new result)
+      → Answered rose (Some (lists ask)) told old new result
   lists_refused told ask old new result h =
       front_answered (Some (lists ask)) told h.0 None (FileRefused rose h.0) old new result (refused_lists ask h.0 None) h.1 h.2
 
@@ -164,7 +171,9 @@ module _ (rose : Type 0) where
   refused_checks file plans mode F P status.Offending pieces m = (m.0, m.1, inl m.2)
   refused_checks file plans mode F P result pieces m = absurd m.2
 
-  pub checks_refused : (told : Option Told) (file plans : Bytes) (mode : Mode) (old new : SinkView) (result : Status) → HasRead told file (λ F. Puts (OrFront (FileRefused rose F)) old new result) → Answered rose (Some (checks file plans mode)) told old new result
+  pub checks_refused : (told : Option Told) (file plans : Bytes) (mode : Mode) (old new : SinkView) (result : Status)
+      → HasRead told file (λ F. PutsOutWith (OrFront (FileRefused rose F)) old new result)
+      → Answered rose (Some (checks file plans mode)) told old new result
   checks_refused told file plans mode old new result h =
       front_answered (Some (checks file plans mode)) told h.0 None (FileRefused rose h.0) old new result (refused_checks file plans mode h.0 None) (h.1, tt) h.2
 
@@ -175,7 +184,10 @@ module _ (rose : Type 0) where
   plans_whole file plans mode F P task t status.Offending pieces m = (m.0, m.1, inr ((task, t), m.2))
   plans_whole file plans mode F P task t result pieces m = absurd m.2
 
-  pub plans_refused : (told : Option Told) (file plans : Bytes) (mode : Mode) (task : TaskParts) (old new : SinkView) (result : Status) → HasText told file (λ F. IsTaskText F task) → HasRead told plans (λ P. Puts (OrFront (PlansRefused rose P)) old new result) → Answered rose (Some (checks file plans mode)) told old new result
+  pub plans_refused : (told : Option Told) (file plans : Bytes) (mode : Mode) (task : TaskParts) (old new : SinkView)
+      (result : Status) → HasText told file (λ F. IsTaskText F task)
+      → HasRead told plans (λ P. PutsOutWith (OrFront (PlansRefused rose P)) old new result)
+      → Answered rose (Some (checks file plans mode)) told old new result
   plans_refused told file plans mode task old new result f p =
       front_answered (Some (checks file plans mode)) told (Some f.0) p.0 (PlansRefused rose p.0) old new result (plans_whole file plans mode f.0 p.0 task f.2) (f.1, p.1) p.2
 
@@ -186,7 +198,9 @@ module _ (rose : Type 0) where
   refused_continues ask F P status.Offending pieces m = (m.0, m.1, inl m.2)
   refused_continues ask F P result pieces m = absurd m.2
 
-  pub continues_refused : (told : Option Told) (ask : Further) (old new : SinkView) (result : Status) → HasRead told ask.file (λ F. Puts (OrFront (FileRefused rose F)) old new result) → Answered rose (Some (continues ask)) told old new result
+  pub continues_refused : (told : Option Told) (ask : Further) (old new : SinkView) (result : Status)
+      → HasRead told ask.file (λ F. PutsOutWith (OrFront (FileRefused rose F)) old new result)
+      → Answered rose (Some (continues ask)) told old new result
   continues_refused told ask old new result h =
       front_answered (Some (continues ask)) told h.0 None (FileRefused rose h.0) old new result (refused_continues ask h.0 None) (h.1, tt) h.2
 
@@ -196,7 +210,9 @@ module _ (rose : Type 0) where
   earlier_whole ask F P task t status.Offending pieces m = (m.0, m.1, inr ((task, t), m.2))
   earlier_whole ask F P task t result pieces m = absurd m.2
 
-  pub earlier_refused : (told : Option Told) (ask : Further) (task : TaskParts) (old new : SinkView) (result : Status) → HasText told ask.file (λ F. IsTaskText F task) → HasRead told ask.plans (λ P. Puts (OrFront (PlansRefused rose P)) old new result)
+  pub earlier_refused : (told : Option Told) (ask : Further) (task : TaskParts) (old new : SinkView) (result : Status)
+      → HasText told ask.file (λ F. IsTaskText F task) → HasRead told ask.plans
+      (λ P. PutsOutWith (OrFront (PlansRefused rose P)) old new result)
       → Answered rose (Some (continues ask)) told old new result
   earlier_refused told ask task old new result f p =
       front_answered (Some (continues ask)) told (Some f.0) p.0 (PlansRefused rose p.0) old new result (earlier_whole ask f.0 p.0 task f.2) (f.1, p.1) p.2
@@ -225,7 +241,10 @@ module _ (rose : Type 0) where
   list_answers ask F P task t status.CostRange out l = ((task, t, l.0), l.1)
   list_answers ask F P task t result out l = absurd (may_status task ask result out.pieces l.0)
 
-  pub lists_answered : (told : Option Told) (ask : Ask) (task : TaskParts) (old new : SinkView) (result : Status) → HasText told ask.file (λ F. IsTaskText F task) → Puts (OrReached task ask.mode ask.wanted ask.reach) old new result → Answered rose (Some (lists ask)) told old new result
+  pub lists_answered : (told : Option Told) (ask : Ask) (task : TaskParts) (old new : SinkView) (result : Status)
+      → HasText told ask.file (λ F. IsTaskText F task)
+      → PutsOutWith (OrReached task ask.mode ask.wanted ask.reach) old new result
+      → Answered rose (Some (lists ask)) told old new result
   lists_answered told ask task old new result h p =
       record { F = Some h.0; P = None; texts = h.1; out = p.0; taken = p.1; answer = list_answers ask h.0 None task h.2 result p.0 p.2 }
 
@@ -259,7 +278,7 @@ module _ (rose : Type 0) where
     going_answers result out l = (going_whole result out.pieces l.0, l.1)
 
   pub continues_answered : (told : Option Told) (ask : Further) (task : TaskParts) (blocks : List ReadBlock) (old new : SinkView) (result : Status) → HasText told ask.file (λ F. IsTaskText F task) → HasText told ask.plans (λ P. IsPlansText P blocks)
-      → Puts (OrGoesOn task ask.mode ask.wanted blocks) old new result → Answered rose (Some (continues ask)) told old new result
+      → PutsOutWith (OrGoesOn task ask.mode ask.wanted blocks) old new result → Answered rose (Some (continues ask)) told old new result
   continues_answered told ask task blocks old new result f p g =
       record { F = Some f.0; P = Some p.0; texts = (f.1, p.1); out = g.0; taken = g.1; answer = going_answers ask f.0 p.0 task blocks f.2 p.2 result g.0 g.2 }
 
@@ -270,7 +289,9 @@ module _ (rose : Type 0) where
   verdict_whole file plans mode task blocks t p result pieces v = absurd (verdict_is task mode blocks result v.0 v.2)
 
   pub checks_answered : (told : Option Told) (file plans : Bytes) (mode : Mode) (task : TaskParts) (blocks : List ReadBlock) {old new : SinkView} {result : Status}
-      → HasText told file (λ F. IsTaskText F task) → HasText told plans (λ P. IsPlansText P blocks) → Puts (OrFront (Verdict task mode blocks)) old new result → Answered rose (Some (checks file plans mode)) told old new result
+      → HasText told file (λ F. IsTaskText F task) → HasText told plans (λ P. IsPlansText P blocks)
+      → PutsOutWith (OrFront (Verdict task mode blocks)) old new result
+      → Answered rose (Some (checks file plans mode)) told old new result
   checks_answered told file plans mode task blocks {old = old} {new = new} {result = result} f p v =
       front_answered (Some (checks file plans mode)) told (Some f.0) (Some p.0) (Verdict task mode blocks) old new result
       (verdict_whole file plans mode task blocks f.2 p.2) (f.1, p.1) v

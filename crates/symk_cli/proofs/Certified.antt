@@ -7,11 +7,11 @@ use Rattle.certificates.proofs.NoPlan.{no_plan}
 use Rattle.cert_run.specs.Proofs.{Proves, Refutes, IsUnsolvable}
 use Rattle.run_status.specs.declared.status.Status.{Status}
 use Rattle.run_status.specs.declared.status.Status.TheVariants as status
-use Rattle.run_status.specs.Ends.{AsOne, OrFront, Puts}
+use Rattle.run_status.specs.Ends.{AsOne, OrFront, PutsOutWith}
 use Rattle.symk_cli.specs.declared.reading.Named.TheVariants.{Cert}
 use Rattle.symk_cli.specs.Wishes.{Wish, lists, continues, checks, shows, proves, refutes}
 use Rattle.symk_cli.specs.Refusals.{most_bytes, IsTaskText, TextRefused, FileRefused}
-use Rattle.symk_cli.specs.Certs.{BothAre, StatesUnsolvable, IsSettled}
+use Rattle.symk_cli.specs.Certs.{BothAre, StatesUnsolvable, IsCertSettled}
 use Rattle.symk_cli.specs.Named.{IsToldText, HasText, HasRead}
 use Rattle.symk_cli.specs.Answer.{Whole, Answer, AreTexts, Certifies, Answered}
 use Rattle.symk_cli.proofs.Answering.{front_answered}
@@ -35,7 +35,8 @@ by_cert told file cert None C out t c = absurd c
 by_cert told file cert (Some F) None out t c = absurd c.2
 by_cert told file cert (Some F) (Some C) out t c = let last = c.2 in (F, t.0, (c.0, c.1, unsolvable c.0 C out F c.1 last.1))
 
-settled_by_proof : (asked : Option Wish) (told : Option Told) (F C : Option Bytes) (out : Bytes) → AreTexts told asked F C → Certifies asked F C status.Proved out → IsSettled asked told
+settled_by_proof : (asked : Option Wish) (told : Option Told) (F C : Option Bytes) (out : Bytes)
+    → AreTexts told asked F C → Certifies asked F C status.Proved out → IsCertSettled asked told
 settled_by_proof None told F C out t c = c
 settled_by_proof (Some (lists ask)) told F C out t c = c
 settled_by_proof (Some (continues ask)) told F C out t c = c
@@ -44,7 +45,8 @@ settled_by_proof (Some (shows number)) told F C out t c = c
 settled_by_proof (Some (proves file)) told F C out t c = by_proof told file F out t c
 settled_by_proof (Some (refutes file cert)) told F C out t c = absurd (both_not F C (λ task bytes. ⊥) (λ task bytes n. n) c)
 
-settled_by_cert : (asked : Option Wish) (told : Option Told) (F C : Option Bytes) (out : Bytes) → AreTexts told asked F C → Certifies asked F C status.Refuted out → IsSettled asked told
+settled_by_cert : (asked : Option Wish) (told : Option Told) (F C : Option Bytes) (out : Bytes)
+    → AreTexts told asked F C → Certifies asked F C status.Refuted out → IsCertSettled asked told
 settled_by_cert None told F C out t c = c
 settled_by_cert (Some (lists ask)) told F C out t c = c
 settled_by_cert (Some (continues ask)) told F C out t c = c
@@ -62,7 +64,9 @@ module _ (rose : Type 0) where
   refused_proves file F P status.Offending pieces m = m
   refused_proves file F P result pieces m = absurd m.2
 
-  pub proves_refused : (told : Option Told) (file : Bytes) (old new : SinkView) (result : Status) → HasRead told file (λ F. Puts (OrFront (FileRefused rose F)) old new result) → Answered rose (Some (proves file)) told old new result
+  pub proves_refused : (told : Option Told) (file : Bytes) (old new : SinkView) (result : Status)
+      → HasRead told file (λ F. PutsOutWith (OrFront (FileRefused rose F)) old new result)
+      → Answered rose (Some (proves file)) told old new result
   proves_refused told file old new result h = front_answered rose (Some (proves file)) told h.0 None (FileRefused rose h.0) old new result (refused_proves file h.0 None) h.1 h.2
 
   refused_refutes : (file cert : Bytes) (F C : Option Bytes) (result : Status) (pieces : List Bytes) → AsOne (FileRefused rose F) result pieces → Whole rose (Some (refutes file cert)) F C result pieces
@@ -71,7 +75,9 @@ module _ (rose : Type 0) where
   refused_refutes file cert F C status.Offending pieces m = (m.0, m.1, inl m.2)
   refused_refutes file cert F C result pieces m = absurd m.2
 
-  pub refutes_refused : (told : Option Told) (file cert : Bytes) (old new : SinkView) (result : Status) → HasRead told file (λ F. Puts (OrFront (FileRefused rose F)) old new result) → Answered rose (Some (refutes file cert)) told old new result
+  pub refutes_refused : (told : Option Told) (file cert : Bytes) (old new : SinkView) (result : Status)
+      → HasRead told file (λ F. PutsOutWith (OrFront (FileRefused rose F)) old new result)
+      → Answered rose (Some (refutes file cert)) told old new result
   refutes_refused told file cert old new result h =
       front_answered rose (Some (refutes file cert)) told h.0 None (FileRefused rose h.0) old new result (refused_refutes file cert h.0 None) (h.1, tt) h.2
 
@@ -81,7 +87,9 @@ module _ (rose : Type 0) where
   proof_whole file F task t status.HasPlan pieces v = (v.0, v.1, (task, t, v.2))
   proof_whole file F task t result pieces v = absurd v.2
 
-  pub proves_answered : (told : Option Told) (file : Bytes) (task : TaskParts) (old new : SinkView) (result : Status) → HasText told file (λ F. IsTaskText F task) → Puts (OrFront (Proves task)) old new result → Answered rose (Some (proves file)) told old new result
+  pub proves_answered : (told : Option Told) (file : Bytes) (task : TaskParts) (old new : SinkView) (result : Status)
+      → HasText told file (λ F. IsTaskText F task) → PutsOutWith (OrFront (Proves task)) old new result
+      → Answered rose (Some (proves file)) told old new result
   proves_answered told file task old new result f p = front_answered rose (Some (proves file)) told (Some f.0) None (Proves task) old new result (proof_whole file f.0 task f.2) f.1 p
 
   -- CERT is refused
@@ -90,7 +98,9 @@ module _ (rose : Type 0) where
   cert_whole file cert F C task t status.TooLong pieces m = (m.0, m.1, inr ((task, t), m.2))
   cert_whole file cert F C task t result pieces m = absurd m.2
 
-  pub cert_refused : (told : Option Told) (file cert : Bytes) (task : TaskParts) (old new : SinkView) (result : Status) → HasText told file (λ F. IsTaskText F task) → HasRead told cert (λ C. Puts (OrFront (TextRefused rose Cert C)) old new result)
+  pub cert_refused : (told : Option Told) (file cert : Bytes) (task : TaskParts) (old new : SinkView)
+      (result : Status) → HasText told file (λ F. IsTaskText F task)
+      → HasRead told cert (λ C. PutsOutWith (OrFront (TextRefused rose Cert C)) old new result)
       → Answered rose (Some (refutes file cert)) told old new result
   cert_refused told file cert task old new result f p =
       front_answered rose (Some (refutes file cert)) told (Some f.0) p.0 (TextRefused rose Cert p.0) old new result (cert_whole file cert f.0 p.0 task f.2) (f.1, p.1) p.2
@@ -104,16 +114,18 @@ module _ (rose : Type 0) where
 
   pub refutes_answered : (told : Option Told) (file cert : Bytes) (task : TaskParts) (C : Bytes) {old new : SinkView} {result : Status} → HasText told file (λ F. IsTaskText F task) → IsToldText told cert C
       → length C ≤ most_bytes
-      → Puts (OrFront (Refutes task C)) old new result → Answered rose (Some (refutes file cert)) told old new result
+      → PutsOutWith (OrFront (Refutes task C)) old new result → Answered rose (Some (refutes file cert)) told old new result
   refutes_answered told file cert task C {old = old} {new = new} {result = result} f known short p =
       front_answered rose (Some (refutes file cert)) told (Some f.0) (Some C) (Refutes task C) old new result (verdict_whole file cert f.0 C task f.2 short) (f.1, known) p
 
-  pub proved_settles : (asked : Option Wish) (told : Option Told) (old new : SinkView) (result : Status) → Answered rose asked told old new result → result ≡ status.Proved → IsSettled asked told
+  pub proved_settles : (asked : Option Wish) (told : Option Told) (old new : SinkView) (result : Status)
+      → Answered rose asked told old new result → result ≡ status.Proved → IsCertSettled asked told
   proved_settles asked told old new result a e =
       let answer = subst (λ s. Answer rose asked a.F a.P s a.out) e a.answer in
       settled_by_proof asked told a.F a.P answer.0.0 a.texts answer.0.2
 
-  pub refuted_settles : (asked : Option Wish) (told : Option Told) (old new : SinkView) (result : Status) → Answered rose asked told old new result → result ≡ status.Refuted → IsSettled asked told
+  pub refuted_settles : (asked : Option Wish) (told : Option Told) (old new : SinkView) (result : Status)
+      → Answered rose asked told old new result → result ≡ status.Refuted → IsCertSettled asked told
   refuted_settles asked told old new result a e =
       let answer = subst (λ s. Answer rose asked a.F a.P s a.out) e a.answer in
       settled_by_cert asked told a.F a.P answer.0.0 a.texts answer.0.2

@@ -22,7 +22,7 @@ use Rattle.symk_cli.specs.Refusals.{most_bytes, IsTaskText, FileOffence}
 use Rattle.symk_cli.specs.Plans.{IsPlansText, PlansOffence}
 use Rattle.symk_cli.specs.Certs.{IsCertText, BothAre}
 use Rattle.symk_cli.specs.Goes.{AreGood, aim_from}
-use Rattle.symk_cli.specs.Answer.{Lists, Answer, Answered}
+use Rattle.symk_cli.specs.Answer.{ListsPlans, Answer, Answered}
 use Rattle.symk_cli.specs.Complete.{TellsText, TellsTexts, Finishes, IsQuiet, Complete}
 use Rattle.plan_run.specs.Lists.{Aim, MayCome, IsTrueEnd, end_status}
 use Rattle.plan_out.specs.declared.end.End.{End}
@@ -108,7 +108,7 @@ some_none : (wish : Wish) → Some wish ≡ None → ⊥
 some_none wish e = cc
 
 -- a list that goes on from no other names no plan that is missed
-no_gap_listed : (ask : Ask) (F P : Option Bytes) (pieces : List Bytes) → Lists (Some (lists ask)) F P status.Gap pieces → ⊥
+no_gap_listed : (ask : Ask) (F P : Option Bytes) (pieces : List Bytes) → ListsPlans (Some (lists ask)) F P status.Gap pieces → ⊥
 no_gap_listed ask None P pieces l = l
 no_gap_listed ask (Some F) P pieces l = may_status l.0 ask status.Gap pieces l.2
 
@@ -133,7 +133,7 @@ plans_bounded : (ask : Further) (task : TaskParts) (P : Option Bytes) (pieces : 
 plans_bounded ask task None pieces g = g
 plans_bounded ask task (Some P) pieces g = comes_bounded (aim_from task ask.mode ask.wanted g.0) refl pieces g.3
 
-never_bounded : (ask : Further) (F P : Option Bytes) (pieces : List Bytes) → Lists (Some (continues ask)) F P status.Bounded pieces → ⊥
+never_bounded : (ask : Further) (F P : Option Bytes) (pieces : List Bytes) → ListsPlans (Some (continues ask)) F P status.Bounded pieces → ⊥
 never_bounded ask None P pieces g = g
 never_bounded ask (Some F) P pieces g = plans_bounded ask g.0 P pieces g.2
 

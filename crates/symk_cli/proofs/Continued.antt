@@ -19,7 +19,7 @@ use Rattle.plan_run.specs.declared.earlier.Earlier.{Earlier}
 use Rattle.run_status.specs.declared.status.Status.{Status}
 use Rattle.run_status.specs.declared.status.Status.TheVariants as status
 use Rattle.run_status.specs.Sent.{Sent, nothing}
-use Rattle.run_status.specs.Ends.{AsOne, FrontOf, OrFront, Puts}
+use Rattle.run_status.specs.Ends.{AsOne, FrontOf, OrFront, PutsOutWith}
 use Rattle.plan_run.specs.Earlier.{IsEarlier}
 use Rattle.plan_run.specs.Lists.{OrPart, MayCome, PartListing, aim_after}
 use Rattle.run_status.proofs.Took.{took_nothing}
@@ -63,11 +63,13 @@ module _ (task : TaskParts) (mode : Mode) (blocks : List ReadBlock) where
   good_is n finds = subst (λ (m : ℕ). Finds task mode blocks (Good m)) finds.0 finds
 
   -- a list that goes on from them
-  pub list_goes : (wanted : Wanted) (plans : List (List ℕ)) (n : ℕ) (old new : SinkView) (result : Status) → Finds task mode blocks (Good n) → plans ≡ plans_of blocks → Puts (OrPart (aim_after task mode wanted None plans)) old new result
-      → Puts (OrGoesOn task mode wanted blocks) old new result
+  pub list_goes : (wanted : Wanted) (plans : List (List ℕ)) (n : ℕ) (old new : SinkView) (result : Status)
+      → Finds task mode blocks (Good n) → plans ≡ plans_of blocks
+      → PutsOutWith (OrPart (aim_after task mode wanted None plans)) old new result
+      → PutsOutWith (OrGoesOn task mode wanted blocks) old new result
   list_goes wanted plans n old new result finds same p =
       let g = good_is n finds in
-      let q = subst (λ (l : List (List ℕ)). Puts (OrPart (aim_after task mode wanted None l)) old new result) same p in (
+      let q = subst (λ (l : List (List ℕ)). PutsOutWith (OrPart (aim_after task mode wanted None l)) old new result) same p in (
         q.0,
         q.1,
         whole_or_part (MayCome (aim_from task mode wanted blocks)) (MayGoOn task mode wanted blocks) (PartListing (aim_from task mode wanted blocks)) (MayGoPart task mode wanted blocks)
@@ -85,11 +87,13 @@ module _ (task : TaskParts) (mode : Mode) (blocks : List ReadBlock) where
     as_goes result out m = (inl m.0, m.1)
 
     -- or the verdict on them
-    pub bad_goes : (old new : SinkView) (result : Status) → Puts (OrFront (IsBad task mode blocks)) old new result → Puts (OrGoesOn task mode wanted blocks) old new result
+    pub bad_goes : (old new : SinkView) (result : Status)
+        → PutsOutWith (OrFront (IsBad task mode blocks)) old new result
+        → PutsOutWith (OrGoesOn task mode wanted blocks) old new result
     bad_goes old new result p = (p.0, p.1, as_goes result p.0 p.2)
 
     -- nothing, when out of memory
-    pub memory_goes : (old : SinkView) → Puts (OrGoesOn task mode wanted blocks) old old status.Memory
+    pub memory_goes : (old : SinkView) → PutsOutWith (OrGoesOn task mode wanted blocks) old old status.Memory
     memory_goes old = (nothing, took_nothing old, inl (inl refl))
 
 -- So much of a list of blocks was gone through: its plans, and what the last block of it states to cost.

@@ -16,7 +16,7 @@ use Rattle.cert_run.specs.Proofs.{CertOffence, Proves, Refutes}
 use Rattle.plan_run.specs.Reaches.{MayList}
 use Rattle.plan_run.specs.Lists.{MayCome}
 use Rattle.symk_cli.specs.Goes.{AreGood, aim_from}
-use Rattle.symk_cli.specs.Answer.{GoesOn, Answer, Answered}
+use Rattle.symk_cli.specs.Answer.{GoesOnWithPlans, Answer, Answered}
 use Rattle.symk_cli.specs.Lengths.{IsShort, IsLong, IsOffending, FileLengths, BothLengths, Lengths}
 
 -- a text that was read is so, and what follows of it
@@ -63,7 +63,9 @@ offence_of_two : (told : Option Told) (file plans out : Bytes) (F P : Option Byt
 offence_of_two told file plans out F P f p (inl h) = inl (offending_text told file out F f h)
 offence_of_two told file plans out F P f p (inr h) = inr (short_task told file F f h.0, short_offence told plans out P p h.1)
 
-short_going : (told : Option Told) (file plans : Bytes) (mode : Mode) (More : TaskParts → List ReadBlock → Type 0) (F P : Option Bytes) → IfSome F (IsToldText told file) → IfSome P (IsToldText told plans) → GoesOn F P mode More
+short_going : (told : Option Told) (file plans : Bytes) (mode : Mode) (More : TaskParts → List ReadBlock → Type 0)
+    (F P : Option Bytes) → IfSome F (IsToldText told file) → IfSome P (IsToldText told plans)
+    → GoesOnWithPlans F P mode More
     → IsShort told file × IsShort told plans
 short_going told file plans mode More None P f p so = absurd so
 short_going told file plans mode More (Some text) P f p so = ((text, f, so.1.short), short_good told plans mode so.0 (More so.0) P p so.2)

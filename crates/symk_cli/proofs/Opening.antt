@@ -8,9 +8,9 @@ use Rattle.symk_cli.specs.declared.reading.Named.{Named}
 use Rattle.symk_cli.specs.declared.reading.Named.TheVariants.{File}
 use Rattle.run_status.specs.declared.status.Status.{Status}
 use Rattle.run_status.specs.declared.status.Status.TheVariants as status
-use Rattle.run_status.specs.Ends.{HasCauses, OrFront, Puts}
+use Rattle.run_status.specs.Ends.{HasCauses, OrFront, PutsOutWith}
 use Rattle.symk_cli.specs.Named.{IsToldText, HasText, HasRead, StopsAt}
-use Rattle.symk_cli.specs.Opens.{Opens}
+use Rattle.symk_cli.specs.Opens.{OpensFiles}
 
 -- reading a file leaves the texts
 pub text_before : (name other : Bytes) (old new : Option Told) (text : Bytes) → Tells (Opened name) old new → IsToldText new other text → IsToldText old other text
@@ -34,14 +34,16 @@ same_names a b name e f =
     omega (arith, m, n)
 
 -- FILE was
-pub file_opened : (file : Bytes) (others : List (Named × Bytes)) (told told' : Option Told) (old new : Option Bytes) (result : Status) → Tells (Opened file) told told' → (result ≡ status.Unreadable → ⊥) → Opens ((File, file) ∷ others) told told' old new result
+pub file_opened : (file : Bytes) (others : List (Named × Bytes)) (told told' : Option Told) (old new : Option Bytes)
+    (result : Status) → Tells (Opened file) told told' → (result ≡ status.Unreadable → ⊥)
+    → OpensFiles ((File, file) ∷ others) told told' old new result
 file_opened file others None None old new result t other = record { count = 1; within = omega arith; first = tt; last = λ e. absurd (other e) }
 file_opened file others None (Some b) old new result t other = absurd t
 file_opened file others (Some a) None old new result t other = absurd t
 file_opened file others (Some a) (Some b) old new result t other = record { count = 1; within = omega arith; first = record { texts = t.texts; opened = t.names }; last = λ e. absurd (other e) }
 
 may_by : (file : Bytes) (others : List (Named × Bytes)) (a b : Told) (old new : Option Bytes) (result : Status) → StopsAt File file (Some a) (Some b) old new result → (b.opened ≡ a.opened) ⊎ (b.opened ≡ a.opened ++ (file ∷ []))
-    → Opens ((File, file) ∷ others) (Some a) (Some b) old new result
+    → OpensFiles ((File, file) ∷ others) (Some a) (Some b) old new result
 may_by file others a b old new result s (inl e) = record {
   count = 0;
   within = omega arith;
@@ -51,7 +53,9 @@ may_by file others a b old new result s (inl e) = record {
 may_by file others a b old new result s (inr e) = record { count = 1; within = omega arith; first = record { texts = s.names.texts; opened = e }; last = λ is. s.unreadable is }
 
 -- FILE was, if anything, and its text is refused
-pub file_stops : (file : Bytes) (others : List (Named × Bytes)) (told told' : Option Told) (old new : Option Bytes) (result : Status) → StopsAt File file told told' old new result → Opens ((File, file) ∷ others) told told' old new result
+pub file_stops : (file : Bytes) (others : List (Named × Bytes)) (told told' : Option Told) (old new : Option Bytes)
+    (result : Status) → StopsAt File file told told' old new result
+    → OpensFiles ((File, file) ∷ others) told told' old new result
 file_stops file others None None old new result s = record { count = 1; within = omega arith; first = tt; last = λ is. s.unreadable is }
 file_stops file others None (Some b) old new result s = absurd s.names
 file_stops file others (Some a) None old new result s = absurd s.names
@@ -66,7 +70,9 @@ module _ (file : Bytes) (other : Named) (name : Bytes) where
   abbrev both : List (Named × Bytes)
   both = (File, file) ∷ (other, name) ∷ []
 
-  pub both_opened : (told mid told' : Option Told) (old new : Option Bytes) (result : Status) → Tells (Opened file) told mid → Tells (Opened name) mid told' → (result ≡ status.Unreadable → ⊥) → Opens both told told' old new result
+  pub both_opened : (told mid told' : Option Told) (old new : Option Bytes) (result : Status)
+      → Tells (Opened file) told mid → Tells (Opened name) mid told' → (result ≡ status.Unreadable → ⊥)
+      → OpensFiles both told told' old new result
   both_opened None None None old new result t u readable = record { count = 2; within = omega arith; first = tt; last = λ e. absurd (readable e) }
   both_opened None None (Some c) old new result t u readable = absurd u
   both_opened None (Some b) c old new result t u readable = absurd t
@@ -75,7 +81,9 @@ module _ (file : Bytes) (other : Named) (name : Bytes) where
   both_opened (Some a) (Some b) (Some c) old new result t u readable =
       record { count = 2; within = omega arith; first = record { texts = u.texts ∙ t.texts; opened = two_names a.opened b.opened c.opened file name t.names u.names }; last = λ e. absurd (readable e) }
 
-  other_by : (a b c : Told) (old new : Option Bytes) (result : Status) → Opened file a b → StopsAt other name (Some b) (Some c) old new result → (c.opened ≡ b.opened) ⊎ (c.opened ≡ b.opened ++ (name ∷ [])) → Opens both (Some a) (Some c) old new result
+  other_by : (a b c : Told) (old new : Option Bytes) (result : Status) → Opened file a b
+      → StopsAt other name (Some b) (Some c) old new result → (c.opened ≡ b.opened)
+      ⊎ (c.opened ≡ b.opened ++ (name ∷ [])) → OpensFiles both (Some a) (Some c) old new result
   other_by a b c old new result t s (inl e) = record {
     count = 1;
     within = omega arith;
@@ -90,7 +98,9 @@ module _ (file : Bytes) (other : Named) (name : Bytes) where
   }
 
   -- FILE was, and the other after it, if anything, and its text is refused
-  pub other_stops : (told mid told' : Option Told) (old new : Option Bytes) (result : Status) → Tells (Opened file) told mid → StopsAt other name mid told' old new result → Opens both told told' old new result
+  pub other_stops : (told mid told' : Option Told) (old new : Option Bytes) (result : Status)
+      → Tells (Opened file) told mid → StopsAt other name mid told' old new result
+      → OpensFiles both told told' old new result
   other_stops None None None old new result t s = record { count = 2; within = omega arith; first = tt; last = λ is. s.unreadable is }
   other_stops None None (Some c) old new result t s = absurd s.names
   other_stops None (Some b) c old new result t s = absurd t
@@ -109,8 +119,9 @@ stops_after named name told told' old mid new result same s = subst (λ (v : Sin
 -- and what is refused after it, and after files of which no fault was counted
 pub refused_before : (May : Type 0 → Option Bytes → Status → Bytes → Type 0) (told mid : Option Told) (file name : Bytes) {before between : ℕ} (after : ℕ) {old then : SinkView} (new : SinkView) (result : Status)
     → Tells (Opened file) told mid → between ≡ before → then ≡ old
-    → HasRead mid name (λ read. Puts (OrFront (May (Rose between after) read)) then new result) → HasRead told name (λ read. Puts (OrFront (May (Rose before after) read)) old new result)
+    → HasRead mid name (λ read. PutsOutWith (OrFront (May (Rose between after) read)) then new result)
+    → HasRead told name (λ read. PutsOutWith (OrFront (May (Rose before after) read)) old new result)
 refused_before May told mid file name {before = before} {between = between} after {old = old} new result t quiet same h =
     let p = h.2 in
-    let q = subst (λ (v : SinkView). Puts (OrFront (May (Rose between after) h.0)) v new result) same p in
-    (h.0, read_before file name told mid h.0 t h.1, subst (λ (n : ℕ). Puts (OrFront (May (Rose n after) h.0)) old new result) quiet q)
+    let q = subst (λ (v : SinkView). PutsOutWith (OrFront (May (Rose between after) h.0)) v new result) same p in
+    (h.0, read_before file name told mid h.0 t h.1, subst (λ (n : ℕ). PutsOutWith (OrFront (May (Rose n after) h.0)) old new result) quiet q)

@@ -18,7 +18,7 @@ use Rattle.symk_task.specs.Variables.{IsBase, HasLayer, is_base, range, place, o
 use Rattle.symk_task.specs.Steps.{Holds, Fires, Allows, Applies, ValueAfter, After, Step, cost_at}
 use Rattle.symk_task.specs.Derived.{Met, base, RaisedBelow, Raised}
 use Rattle.symk_task.specs.Plans.{Runs, IsInitial, IsPlan, cost_of, AllInRange}
-use Rattle.task_gen.specs.Switches.{up_to, fact, is_on, switch, all_on, variables, effect, flip, rule, switches}
+use Rattle.task_gen.specs.Switches.{up_to, switch_fact, switched_on, switch, all_on, variables, effect, flip, rule, switches}
 use Rattle.task_gen.proofs.Counting.{length_up_to, get_up_to, All_up_to}
 
 -- The variables and operators of the task.
@@ -90,18 +90,18 @@ place_of n (suc i) le =
 -- Steps.
 
 -- a switch has a value
-holds : (n i val : ℕ) (s : List ℕ) → i < n → get_or s i 0 ≡ val → Holds (switches n) s (fact i val)
+holds : (n i val : ℕ) (s : List ℕ) → i < n → get_or s i 0 ≡ val → Holds (switches n) s (switch_fact i val)
 holds n i val s lt e = inl (switch_is_base n i lt, ap (λ k. get_or s k 0) (place_of n i (omega arith)) ∙ e)
 
-held : (n i val : ℕ) (s : List ℕ) → i < n → Holds (switches n) s (fact i val) → get_or s i 0 ≡ val
+held : (n i val : ℕ) (s : List ℕ) → i < n → Holds (switches n) s (switch_fact i val) → get_or s i 0 ≡ val
 held n i val s lt (inl h) = ap (λ k. get_or s k 0) (sym (place_of n i (omega arith))) ∙ h.1
 held n i val s lt (inr h) = absurd (switch_has_no_layer n i h.0 lt h.1)
 
 fires : (n i old new : ℕ) (s : List ℕ) → i < n → get_or s i 0 ≡ old → Fires (switches n) s (effect i old new)
-fires n i old new s lt e = All-cons (Holds (switches n) s) (fact i old) [] (holds n i old s lt e) (All-nil (Holds (switches n) s))
+fires n i old new s lt e = All-cons (Holds (switches n) s) (switch_fact i old) [] (holds n i old s lt e) (All-nil (Holds (switches n) s))
 
 fired : (n i old new : ℕ) (s : List ℕ) → i < n → Fires (switches n) s (effect i old new) → get_or s i 0 ≡ old
-fired n i old new s lt h = held n i old s lt (All-head (Holds (switches n) s) (fact i old) [] h)
+fired n i old new s lt h = held n i old s lt (All-head (Holds (switches n) s) (switch_fact i old) [] h)
 
 applies : (n i : ℕ) (s : List ℕ) → i < n → Applies (switches n) s i
 applies n i s lt =
@@ -240,13 +240,15 @@ all_raised n t h = (0, last_has_layer n, inl (rule n, [], refl, (((0, lit, refl)
     lit : 0 < 1
     lit = omega arith
 
-    conds : AllByRecursion (Met (switches n) t (RaisedBelow 0 (switches n) t) 0 []) (up_to is_on n)
-    conds = recursion_from_All (Met (switches n) t (RaisedBelow 0 (switches n) t) 0 []) (up_to is_on n)
-        (All_up_to (Met (switches n) t (RaisedBelow 0 (switches n) t) 0 []) is_on n
+    conds : AllByRecursion (Met (switches n) t (RaisedBelow 0 (switches n) t) 0 []) (up_to switched_on n)
+    conds = recursion_from_All (Met (switches n) t (RaisedBelow 0 (switches n) t) 0 []) (up_to switched_on n)
+        (All_up_to (Met (switches n) t (RaisedBelow 0 (switches n) t) 0 []) switched_on n
         (λ i lt. base (switch_is_base n i lt) (ap (λ k. get_or t k 0) (place_of n i (omega (arith, lt))) ∙ h.on i lt)))
 
 reaches_goal : (n : ℕ) (t : List ℕ) → IsOn n n t → All (Holds (switches n) t) (switches n).goal
-reaches_goal n t h = All-cons (Holds (switches n) t) (fact n 1) [] (inr (0, last_has_layer n, ((λ _. all_raised n t h), (λ _. sym (other_is_one n))))) (All-nil (Holds (switches n) t))
+reaches_goal n t h = All-cons (Holds (switches n) t) (switch_fact n 1) []
+    (inr (0, last_has_layer n, ((λ _. all_raised n t h), (λ _. sym (other_is_one n)))))
+    (All-nil (Holds (switches n) t))
 
 cost_of_each : (operators : List Operator) (a : ℕ) → All (λ operator. operator.cost ≡ 1) operators → option_map_or (λ operator. operator.cost) (slice_get operators a) 0 ≤ 1
 cost_of_each [] a each = omega arith

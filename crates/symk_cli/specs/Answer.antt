@@ -10,7 +10,7 @@ use Rattle.symk_cli.specs.Refusals.{IsTaskText, IsTask, FileRefused}
 use Rattle.symk_cli.specs.Plans.{IsPlansText, PlansRefused, Judged}
 use Rattle.symk_cli.specs.Certs.{BothAre, CertRefused}
 use Rattle.symk_cli.specs.Goes.{AreGood, aim_from}
-use Rattle.run_status.specs.Sent.{Sent, nothing, Took, IsWhole, IsOne, IsFront}
+use Rattle.run_status.specs.Sent.{Sent, nothing, Took, AreWholePieces, IsOne, IsFrontOfPieces}
 use Rattle.plan_run.specs.Lists.{MayCome, PartListing}
 use Rattle.plan_run.specs.Reaches.{MayList, MayPart}
 use Rattle.cert_run.specs.Proofs.{Proves, Refutes}
@@ -38,27 +38,30 @@ Refused rose (Some (refutes file cert)) F C result out = FileRefused rose F resu
 Refused rose None F P result out = ⊥
 
 -- FILE states a task, and PLANS states blocks, each of which is good
-abbrev pub GoesOn : Option Bytes → Option Bytes → Mode → (TaskParts → List ReadBlock → Type 0) → Type 0
-GoesOn F P mode IsSo =
+abbrev pub GoesOnWithPlans : Option Bytes → Option Bytes → Mode → (TaskParts → List ReadBlock → Type 0) → Type 0
+GoesOnWithPlans F P mode IsSo =
     IsSomeAnd F (λ text. (task : TaskParts) × IsTaskText text task × IsSomeAnd P (λ plans. (blocks : List ReadBlock) × IsPlansText plans blocks × AreGood task mode blocks × IsSo task blocks))
 
 -- plans of the task that FILE states are listed, if need be after those that PLANS states, or what those miss is told
-abbrev pub Lists : Option Wish → Option Bytes → Option Bytes → Status → List Bytes → Type 0
-Lists (Some (lists ask)) F P result pieces = IsSomeAnd F (λ text. (task : TaskParts) × IsTaskText text task × MayList task ask.mode ask.wanted ask.reach result pieces)
-Lists (Some (continues ask)) F P result pieces = GoesOn F P ask.mode (λ task blocks. MayCome (aim_from task ask.mode ask.wanted blocks) result pieces)
-Lists wish F P result pieces = ⊥
+abbrev pub ListsPlans : Option Wish → Option Bytes → Option Bytes → Status → List Bytes → Type 0
+ListsPlans (Some (lists ask)) F P result pieces = IsSomeAnd F
+    (λ text. (task : TaskParts) × IsTaskText text task × MayList task ask.mode ask.wanted ask.reach result pieces)
+ListsPlans (Some (continues ask)) F P result pieces = GoesOnWithPlans F P ask.mode
+    (λ task blocks. MayCome (aim_from task ask.mode ask.wanted blocks) result pieces)
+ListsPlans wish F P result pieces = ⊥
 
 -- a front of a list goes out
 abbrev pub PartLists : Option Wish → Option Bytes → Option Bytes → Sent → Type 0
 PartLists (Some (lists ask)) F P out = IsSomeAnd F (λ text. (task : TaskParts) × IsTaskText text task × MayPart task ask.mode ask.wanted ask.reach out)
-PartLists (Some (continues ask)) F P out = GoesOn F P ask.mode (λ task blocks. PartListing (aim_from task ask.mode ask.wanted blocks) out)
+PartLists (Some (continues ask)) F P out = GoesOnWithPlans F P ask.mode (λ task blocks. PartListing (aim_from task ask.mode ask.wanted blocks) out)
 PartLists wish F P out = ⊥
 
 -- the blocks that PLANS states are judged by the task that FILE states; where a list is to go on from them, that one fails
-abbrev pub Judges : Option Wish → Option Bytes → Option Bytes → Status → Bytes → Type 0
-Judges (Some (checks file plans mode)) F P result out = IsSomeAnd F (λ text. (task : TaskParts) × IsTaskText text task × Judged task mode P result out)
-Judges (Some (continues ask)) F P status.BadList out = IsSomeAnd F (λ text. (task : TaskParts) × IsTaskText text task × Judged task ask.mode P status.BadList out)
-Judges wish F P result out = ⊥
+abbrev pub JudgesBlocks : Option Wish → Option Bytes → Option Bytes → Status → Bytes → Type 0
+JudgesBlocks (Some (checks file plans mode)) F P result out = IsSomeAnd F (λ text. (task : TaskParts) × IsTaskText text task × Judged task mode P result out)
+JudgesBlocks (Some (continues ask)) F P status.BadList out = IsSomeAnd F
+    (λ text. (task : TaskParts) × IsTaskText text task × Judged task ask.mode P status.BadList out)
+JudgesBlocks wish F P result out = ⊥
 
 -- a demonstration is summed up
 abbrev pub Shows : Option Wish → Status → Bytes → Type 0
@@ -77,14 +80,14 @@ Whole rose wish F P status.Usage pieces = IsOne (λ out. (wish ≡ None) × (out
 Whole rose wish F P status.Unreadable pieces = IsOne (Refused rose wish F P status.Unreadable) pieces
 Whole rose wish F P status.TooLong pieces = IsOne (Refused rose wish F P status.TooLong) pieces
 Whole rose wish F P status.Offending pieces = IsOne (Refused rose wish F P status.Offending) pieces
-Whole rose wish F P status.Reached pieces = Lists wish F P status.Reached pieces
-Whole rose wish F P status.MoreLeft pieces = Lists wish F P status.MoreLeft pieces
-Whole rose wish F P status.Bounded pieces = Lists wish F P status.Bounded pieces
-Whole rose wish F P status.Exhausted pieces = Lists wish F P status.Exhausted pieces
-Whole rose wish F P status.CostRange pieces = Lists wish F P status.CostRange pieces
-Whole rose wish F P status.Gap pieces = Lists wish F P status.Gap pieces
-Whole rose wish F P status.Good pieces = IsOne (Judges wish F P status.Good) pieces
-Whole rose wish F P status.BadList pieces = IsOne (Judges wish F P status.BadList) pieces
+Whole rose wish F P status.Reached pieces = ListsPlans wish F P status.Reached pieces
+Whole rose wish F P status.MoreLeft pieces = ListsPlans wish F P status.MoreLeft pieces
+Whole rose wish F P status.Bounded pieces = ListsPlans wish F P status.Bounded pieces
+Whole rose wish F P status.Exhausted pieces = ListsPlans wish F P status.Exhausted pieces
+Whole rose wish F P status.CostRange pieces = ListsPlans wish F P status.CostRange pieces
+Whole rose wish F P status.Gap pieces = ListsPlans wish F P status.Gap pieces
+Whole rose wish F P status.Good pieces = IsOne (JudgesBlocks wish F P status.Good) pieces
+Whole rose wish F P status.BadList pieces = IsOne (JudgesBlocks wish F P status.BadList) pieces
 Whole rose wish F P status.Shown pieces = IsOne (Shows wish status.Shown) pieces
 Whole rose wish F P status.Proved pieces = IsOne (Certifies wish F P status.Proved) pieces
 Whole rose wish F P status.HasPlan pieces = IsOne (Certifies wish F P status.HasPlan) pieces
@@ -95,14 +98,15 @@ Whole rose wish F P status.Memory pieces = ⊥
 
 -- nothing, a front of whole pieces, or a front of a list that goes on
 abbrev pub Part : Type 0 → Option Wish → Option Bytes → Option Bytes → Sent → Type 0
-Part rose wish F P out = (out ≡ nothing) ⊎ ((result : Status) × (whole : List Bytes) × Whole rose wish F P result whole × IsFront out whole) ⊎ PartLists wish F P out
+Part rose wish F P out = (out ≡ nothing) ⊎ ((result : Status) × (whole : List Bytes)
+    × Whole rose wish F P result whole × IsFrontOfPieces out whole) ⊎ PartLists wish F P out
 
 -- What the sink took under a status, given what is asked for and the texts that were read of FILE and of PLANS or CERT: whole
 -- pieces, or a part of them where the sink failed or memory ran out.
 abbrev pub Answer : Type 0 → Option Wish → Option Bytes → Option Bytes → Status → Sent → Type 0
 Answer rose wish F P status.WriteFault out = Part rose wish F P out
 Answer rose wish F P status.Memory out = Part rose wish F P out
-Answer rose wish F P result out = IsWhole (Whole rose wish F P result) out
+Answer rose wish F P result out = AreWholePieces (Whole rose wish F P result) out
 
 -- what was read of the files that are asked for are their texts, those told where texts are told
 abbrev pub AreTexts : Option Told → Option Wish → Option Bytes → Option Bytes → Type 0

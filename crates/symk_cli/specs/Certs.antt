@@ -32,7 +32,7 @@ abbrev pub StatesUnsolvable : Option Told → Bytes → Type 0
 StatesUnsolvable told file = HasText told file (λ text. (task : TaskParts) × IsTaskText text task × IsUnsolvable task)
 
 -- a certificate is asked for, or a verdict on one, and FILE states a task that has no plan
-abbrev pub IsSettled : Option Wish → Option Told → Type 0
-IsSettled (Some (proves file)) told = StatesUnsolvable told file
-IsSettled (Some (refutes file cert)) told = StatesUnsolvable told file
-IsSettled wish told = ⊥
+abbrev pub IsCertSettled : Option Wish → Option Told → Type 0
+IsCertSettled (Some (proves file)) told = StatesUnsolvable told file
+IsCertSettled (Some (refutes file cert)) told = StatesUnsolvable told file
+IsCertSettled wish told = ⊥

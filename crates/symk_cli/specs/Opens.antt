@@ -7,7 +7,7 @@ use Rattle.run_status.specs.declared.status.Status.{Status}
 use Rattle.run_status.specs.declared.status.Status.TheVariants.{Unreadable}
 
 -- the texts stay, and the first so many of these files were opened, in this order
-pub record OpensFirst (count : ℕ) (files : List (Named × Bytes)) (old new : Told) : Type 0 where
+pub record OpensFirstFiles (count : ℕ) (files : List (Named × Bytes)) (old new : Told) : Type 0 where
   pub texts : new.text ≡ old.text
   pub opened : new.opened ≡ old.opened ++ map (λ (f : Named × Bytes). f.1) (take count files)
 
@@ -17,8 +17,8 @@ TellsUnreadable zero files before after = ⊥
 TellsUnreadable (suc n) files before after = IsSomeAnd (slice_get files n) (λ f. Tells (Grew (unreadable_text f.0)) before after)
 
 -- The files that were opened are the first of those asked for; where one can't be read, it is the last that was opened.
-pub record Opens (files : List (Named × Bytes)) (old new : Option Told) (before after : Option Bytes) (result : Status) : Type 0 where
+pub record OpensFiles (files : List (Named × Bytes)) (old new : Option Told) (before after : Option Bytes) (result : Status) : Type 0 where
   pub count : ℕ
   pub within : count ≤ length files
-  pub first : Tells (OpensFirst count files) old new
+  pub first : Tells (OpensFirstFiles count files) old new
   pub last : result ≡ Unreadable → TellsUnreadable count files before after

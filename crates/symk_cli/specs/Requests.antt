@@ -15,19 +15,19 @@ abbrev pub further_asked : FurtherRequest → Further
 further_asked r = record { file = r.file.now; plans = r.plans.now; wanted = r.wanted; mode = r.mode; search = r.search }
 
 -- what it asks for
-abbrev pub wished : Request → Wish
-wished (request.Plan list) = lists (list_asked list)
-wished (request.Further list) = continues (further_asked list)
-wished (request.Check file plans mode) = checks file.now plans.now mode
-wished (request.Demo switches) = shows switches
-wished (request.Prove file) = proves file.now
-wished (request.Refute file cert) = refutes file.now cert.now
+abbrev pub wish_asked : Request → Wish
+wish_asked (request.Plan list) = lists (list_asked list)
+wish_asked (request.Further list) = continues (further_asked list)
+wish_asked (request.Check file plans mode) = checks file.now plans.now mode
+wish_asked (request.Demo switches) = shows switches
+wish_asked (request.Prove file) = proves file.now
+wish_asked (request.Refute file cert) = refutes file.now cert.now
 
 -- 1 to 1,000,000,000 plans are asked for, or 1 to 64 switches
-abbrev pub IsWithin : Request → Type 0
-IsWithin (request.Plan list) = (1 ≤ list.wanted.count) × (list.wanted.count ≤ 1000000000) × IsNear list.reach
-IsWithin (request.Further list) = (1 ≤ list.wanted.count) × (list.wanted.count ≤ 1000000000)
-IsWithin (request.Check file plans mode) = ⊤
-IsWithin (request.Demo switches) = (1 ≤ switches) × (switches ≤ 64)
-IsWithin (request.Prove file) = ⊤
-IsWithin (request.Refute file cert) = ⊤
+abbrev pub IsWithinLimits : Request → Type 0
+IsWithinLimits (request.Plan list) = (1 ≤ list.wanted.count) × (list.wanted.count ≤ 1000000000) × IsNear list.reach
+IsWithinLimits (request.Further list) = (1 ≤ list.wanted.count) × (list.wanted.count ≤ 1000000000)
+IsWithinLimits (request.Check file plans mode) = ⊤
+IsWithinLimits (request.Demo switches) = (1 ≤ switches) × (switches ≤ 64)
+IsWithinLimits (request.Prove file) = ⊤
+IsWithinLimits (request.Refute file cert) = ⊤

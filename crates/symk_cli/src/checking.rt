@@ -1,7 +1,7 @@
 //! The verdict on a list of plans.
 
 ghost use Rattle.std.specs.Prelude.{◌≡◌, ◌++◌, ◌-◌, All, length, IfOk, OnOk};
-ghost use Rattle.run_status.specs.Ends.{HasCauses, OrFront, Puts};
+ghost use Rattle.run_status.specs.Ends.{HasCauses, OrFront, PutsOutWith};
 ghost use Rattle.symk_cli.specs.Verdicts.{Verdict, verdict_text, why_text};
 
 use crate::pieces::{push_cost_after, push_number_after};
@@ -21,7 +21,7 @@ pub fn judge<K: Sink>(
     sink: &mut K,
 ) -> Status
     requires { All (λ block. length block.names ≡ length block.ops) blocks.now.list }
-    ensures verdict { Puts (OrFront (Verdict task.now mode blocks.now.list)) (K.view sink.old)
+    ensures verdict { PutsOutWith (OrFront (Verdict task.now mode blocks.now.list)) (K.view sink.old)
         (K.view sink.new) result }
     ensures causes { HasCauses result 0 0 (K.view sink.old).faults (K.view sink.new).faults }
 {

@@ -2,7 +2,7 @@
 
 ghost use Rattle.std.specs.Prelude.{◌≡◌, ◌≤◌, ◌<◌, ◌^◌, All, length, IfOk};
 ghost use Rattle.plan_out.specs.Lists.{plans_of};
-ghost use Rattle.run_status.specs.Ends.{HasCauses, Puts};
+ghost use Rattle.run_status.specs.Ends.{HasCauses, PutsOutWith};
 ghost use Rattle.symk_cli.specs.Goes.{OrGoesOn, last_stated};
 
 use crate::checking::bad_text;
@@ -27,7 +27,8 @@ pub fn go_on<K: Sink>(
     requires names { All (λ block. length block.names ≡ length block.ops) blocks.now.list }
     requires least { 1 ≤ wanted.count }
     requires count { wanted.count ≤ 1000000000 }
-    ensures goes { Puts (OrGoesOn task.now mode wanted blocks.now.list) (K.view sink.old) (K.view sink.new) result }
+    ensures goes { PutsOutWith (OrGoesOn task.now mode wanted blocks.now.list) (K.view sink.old)
+        (K.view sink.new) result }
     ensures causes { HasCauses result 0 0 (K.view sink.old).faults (K.view sink.new).faults }
 {
     // A task fits.

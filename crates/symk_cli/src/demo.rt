@@ -2,7 +2,7 @@
 
 ghost use Rattle.std.specs.Prelude.{◌≡◌, ◌≤◌, ◌++◌, IfOk, OnOk};
 ghost use Rattle.task_gen.specs.Switches.{switches as switches_task};
-ghost use Rattle.run_status.specs.Ends.{HasCauses, OrFront, Puts};
+ghost use Rattle.run_status.specs.Ends.{HasCauses, OrFront, PutsOutWith};
 ghost use Rattle.symk_cli.specs.Shown.{IsSummary, Summary, counts_line, costs_line, lines_of, reached_line};
 
 use crate::pieces::{push_cost_after, push_number_after};
@@ -20,7 +20,7 @@ use task_gen::switches;
 pub fn show<K: Sink>(alloc: Global, number: u32, sink: &mut K) -> Status
     requires least { 1 ≤ number }
     requires most { number ≤ 64 }
-    ensures shows { Puts (OrFront (IsSummary number)) (K.view sink.old) (K.view sink.new) result }
+    ensures shows { PutsOutWith (OrFront (IsSummary number)) (K.view sink.old) (K.view sink.new) result }
     ensures causes { HasCauses result 0 0 (K.view sink.old).faults (K.view sink.new).faults }
 {
     end_with(sink, summary(alloc, number), Status::Shown)

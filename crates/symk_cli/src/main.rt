@@ -18,7 +18,7 @@ mod top;
 
 ghost use Rattle.std.specs.Prelude.{◌≡◌, pos};
 ghost use Rattle.std.specs.Process.{exit_status};
-ghost use Rattle.run_status.specs.Codes.{code_of};
+ghost use Rattle.run_status.specs.Codes.{status_code_of};
 
 pub use run_status::Status;
 use std::env;
@@ -35,7 +35,7 @@ fn main(rt: HostRuntime) -> ExitCode {
 
 /// What the program ends with: the number of the status.
 fn exit_of(status: Status) -> ExitCode
-    ensures { pos (exit_status result) ≡ code_of status }
+    ensures { pos (exit_status result) ≡ status_code_of status }
 {
     ExitCode::from(u8::try_from(status.code()).unwrap_or(u8::MAX))
 }

@@ -4,7 +4,7 @@ ghost use Rattle.std.specs.Prelude.{◌≡◌, ◌≤◌, All, length, IfOk, IfE
 ghost use Rattle.symk_io.specs.Causes.{Rose};
 ghost use Rattle.symk_io.specs.View.{Tells};
 ghost use Rattle.symk_io.specs.Told.{Opened};
-ghost use Rattle.run_status.specs.Ends.{HasCauses, OrFront, Puts};
+ghost use Rattle.run_status.specs.Ends.{HasCauses, OrFront, PutsOutWith};
 ghost use Rattle.symk_cli.specs.Refusals.{most_bytes, IsTaskText, TextRefused, FileRefused, unreadable_text, too_long_text, offence_text, plans_offence_text};
 ghost use Rattle.symk_cli.specs.Plans.{IsPlansText, PlansRefused};
 ghost use Rattle.symk_cli.specs.Named.{IsToldText, HasText, HasRead, StopsAt};
@@ -65,7 +65,8 @@ pub fn text_of<F: Files, K: Sink>(
         × ((K.view sink.new).faults ≡ (K.view sink.old).faults)) }
     ensures untouched { OnOk result (K.view sink.new ≡ K.view sink.old) }
     ensures refused { IfErr result (λ status. HasRead (F.view files.old).told name.now
-        (λ read. Puts (OrFront (TextRefused (Rose (F.view files.old).faults (F.view files.new).faults) named read))
+        (λ read. PutsOutWith (OrFront (TextRefused (Rose (F.view files.old).faults
+        (F.view files.new).faults) named read))
         (K.view sink.old) (K.view sink.new) status)) }
     ensures stops { IfErr result (StopsAt named name.now (F.view files.old).told (F.view files.new).told
         (K.view sink.old).taken (K.view sink.new).taken) }
@@ -93,7 +94,7 @@ pub fn task_of<F: Files, K: Sink>(
         × ((K.view sink.new).faults ≡ (K.view sink.old).faults)) }
     ensures untouched { OnOk result (K.view sink.new ≡ K.view sink.old) }
     ensures refused { IfErr result (λ status. HasRead (F.view files.old).told name.now
-        (λ read. Puts (OrFront (FileRefused (Rose (F.view files.old).faults (F.view files.new).faults) read))
+        (λ read. PutsOutWith (OrFront (FileRefused (Rose (F.view files.old).faults (F.view files.new).faults) read))
         (K.view sink.old) (K.view sink.new) status)) }
     ensures stops { IfErr result (StopsAt Named.File name.now (F.view files.old).told (F.view files.new).told
         (K.view sink.old).taken (K.view sink.new).taken) }
@@ -127,7 +128,7 @@ pub fn plans_of<F: Files, K: Sink>(
         × ((K.view sink.new).faults ≡ (K.view sink.old).faults)) }
     ensures untouched { OnOk result (K.view sink.new ≡ K.view sink.old) }
     ensures refused { IfErr result (λ status. HasRead (F.view files.old).told name.now
-        (λ read. Puts (OrFront (PlansRefused (Rose (F.view files.old).faults (F.view files.new).faults) read))
+        (λ read. PutsOutWith (OrFront (PlansRefused (Rose (F.view files.old).faults (F.view files.new).faults) read))
         (K.view sink.old) (K.view sink.new) status)) }
     ensures stops { IfErr result (StopsAt Named.Plans name.now (F.view files.old).told (F.view files.new).told
         (K.view sink.old).taken (K.view sink.new).taken) }

@@ -4,7 +4,7 @@ ghost use Rattle.std.specs.Prelude.{◌≡◌, ◌≤◌, IfSome, option_map};
 ghost use Rattle.symk_words.specs.Texts.{view_of};
 ghost use Rattle.plan_run.specs.Reaches.{IsNear};
 ghost use Rattle.symk_cli.specs.Wishes.{number_within, mode_named, mode_of, direction_named, direction_of, reach_of, serves, lists_after, spelled};
-ghost use Rattle.symk_cli.specs.Requests.{list_asked, wished, IsWithin};
+ghost use Rattle.symk_cli.specs.Requests.{list_asked, wish_asked, IsWithinLimits};
 
 use plan_run::{Direction, Reach, Search, Wanted};
 use symk_task::Mode;
@@ -58,8 +58,8 @@ pub enum Request<'a> {
 
 /// The request that the texts spell, None where one of them isn't as the usage text says.
 pub fn request_of<'a>(asked: &Asked<'a>) -> Option<Request<'a>>
-    ensures wish { option_map wished result ≡ spelled (view_of asked.now) }
-    ensures within { IfSome result IsWithin }
+    ensures wish { option_map wish_asked result ≡ spelled (view_of asked.now) }
+    ensures within { IfSome result IsWithinLimits }
 {
     match *asked {
         Asked::Plan {
@@ -108,9 +108,9 @@ fn list_request<'a>(list: ListRequest<'a>, after: Option<&'a str>) -> Option<Req
     requires least { 1 ≤ list.wanted.count }
     requires most { list.wanted.count ≤ 1000000000 }
     requires near { IsNear list.reach }
-    ensures wish { option_map wished result
+    ensures wish { option_map wish_asked result
         ≡ lists_after (option_map (λ s. s.now) after.entry) (list_asked list.entry) }
-    ensures within { IfSome result IsWithin }
+    ensures within { IfSome result IsWithinLimits }
 {
     match (after, list.reach) {
         (None, _) => Some(Request::Plan(list)),

@@ -6,11 +6,11 @@ ghost use Rattle.symk_io.specs.NoFault.{files_view, sink_view};
 ghost use Rattle.run_status.specs.Ends.{HasCauses};
 ghost use Rattle.plan_run.specs.Reaches.{IsNear};
 ghost use Rattle.symk_cli.specs.Wishes.{wish_of, files_of, lists, continues, checks, proves, refutes};
-ghost use Rattle.symk_cli.specs.Requests.{further_asked, list_asked, wished, IsWithin};
+ghost use Rattle.symk_cli.specs.Requests.{further_asked, list_asked, wish_asked, IsWithinLimits};
 ghost use Rattle.symk_cli.specs.LawfulWords.{AreLawful};
 ghost use Rattle.symk_cli.specs.Answer.{Answered, usage_text};
-ghost use Rattle.symk_cli.specs.Opens.{Opens};
-ghost use Rattle.symk_cli.specs.Certs.{IsSettled};
+ghost use Rattle.symk_cli.specs.Opens.{OpensFiles};
+ghost use Rattle.symk_cli.specs.Certs.{IsCertSettled};
 ghost use Rattle.symk_cli.specs.Complete.{Complete};
 ghost use Rattle.symk_cli.specs.Lengths.{Lengths};
 
@@ -51,15 +51,15 @@ pub fn run<F: Files, K: Sink>(
     ensures causes { HasCauses result (F.view files.old).faults (F.view files.new).faults
         (K.view sink.old).faults (K.view sink.new).faults }
     // The files are opened in their order, and none but those asked for, each at most once.
-    ensures opened { Opens (files_of (wish_of (map (λ w. string_bytes w) words.now))) (F.view files.old).told
+    ensures opened { OpensFiles (files_of (wish_of (map (λ w. string_bytes w) words.now))) (F.view files.old).told
         (F.view files.new).told (K.view sink.old).taken (K.view sink.new).taken result }
     // Usage comes of no lawful words, and too long of no text that isn't.
     ensures lawful { AreLawful (map (λ w. string_bytes w) words.now) → result ≢ Status.Usage }
     ensures lengths { Lengths (wish_of (map (λ w. string_bytes w) words.now)) (F.view files.old).told result }
     // A certificate goes out, and one is taken, only where the task has no plan, whoever wrote it.
-    ensures proved { result ≡ Status.Proved → IsSettled (wish_of (map (λ w. string_bytes w) words.now))
+    ensures proved { result ≡ Status.Proved → IsCertSettled (wish_of (map (λ w. string_bytes w) words.now))
         (F.view files.old).told }
-    ensures refuted { result ≡ Status.Refuted → IsSettled (wish_of (map (λ w. string_bytes w) words.now))
+    ensures refuted { result ≡ Status.Refuted → IsCertSettled (wish_of (map (λ w. string_bytes w) words.now))
         (F.view files.old).told }
     // Where nothing stands against it, what is asked for comes, unless out of memory.
     ensures complete { Complete (wish_of (map (λ w. string_bytes w) words.now)) (F.view files.old)
@@ -78,13 +78,13 @@ pub fn run_in_memory(
     ensures answer { Answered (Rose (files_view files.old).faults (files_view files.new).faults)
         (wish_of (map (λ w. string_bytes w) words.now)) (files_view files.old).told
         (sink_view sink.old) (sink_view sink.new) result }
-    ensures opened { Opens (files_of (wish_of (map (λ w. string_bytes w) words.now))) (files_view files.old).told
+    ensures opened { OpensFiles (files_of (wish_of (map (λ w. string_bytes w) words.now))) (files_view files.old).told
         (files_view files.new).told (sink_view sink.old).taken (sink_view sink.new).taken result }
     ensures lawful { AreLawful (map (λ w. string_bytes w) words.now) → result ≢ Status.Usage }
     ensures lengths { Lengths (wish_of (map (λ w. string_bytes w) words.now)) (files_view files.old).told result }
-    ensures proved { result ≡ Status.Proved → IsSettled (wish_of (map (λ w. string_bytes w) words.now))
+    ensures proved { result ≡ Status.Proved → IsCertSettled (wish_of (map (λ w. string_bytes w) words.now))
         (files_view files.old).told }
-    ensures refuted { result ≡ Status.Refuted → IsSettled (wish_of (map (λ w. string_bytes w) words.now))
+    ensures refuted { result ≡ Status.Refuted → IsCertSettled (wish_of (map (λ w. string_bytes w) words.now))
         (files_view files.old).told }
     ensures complete { Complete (wish_of (map (λ w. string_bytes w) words.now)) (files_view files.old)
         (files_view files.new) (sink_view sink.old) (sink_view sink.new) result }
@@ -101,7 +101,7 @@ fn answer<F: Files, K: Sink>(alloc: Global, words: &[String], files: &mut F, sin
         (K.view sink.old) (K.view sink.new) result }
     ensures causes { HasCauses result (F.view files.old).faults (F.view files.new).faults
         (K.view sink.old).faults (K.view sink.new).faults }
-    ensures opened { Opens (files_of (wish_of (map (λ w. string_bytes w) words.now))) (F.view files.old).told
+    ensures opened { OpensFiles (files_of (wish_of (map (λ w. string_bytes w) words.now))) (F.view files.old).told
         (F.view files.new).told (K.view sink.old).taken (K.view sink.new).taken result }
 {
     match request_in(alloc, words) {
@@ -113,8 +113,8 @@ fn answer<F: Files, K: Sink>(alloc: Global, words: &[String], files: &mut F, sin
 
 /// What the words ask for.
 fn request_in<'a>(alloc: Global, words: &'a [String]) -> Result<Request<'a>, WordsFault>
-    ensures ok { IfOk result (λ request. wish_of (map (λ w. string_bytes w) words.now) ≡ Some (wished request)) }
-    ensures within { IfOk result IsWithin }
+    ensures ok { IfOk result (λ request. wish_of (map (λ w. string_bytes w) words.now) ≡ Some (wish_asked request)) }
+    ensures within { IfOk result IsWithinLimits }
     ensures usage { IsErrOf result WordsFault.Usage → wish_of (map (λ w. string_bytes w) words.now) ≡ None }
 {
     match read_words(alloc, words) {
@@ -133,13 +133,13 @@ fn serve<F: Files, K: Sink>(
     files: &mut F,
     sink: &mut K,
 ) -> Status
-    requires { IsWithin request }
+    requires { IsWithinLimits request }
     ensures answer { Answered (Rose (F.view files.old).faults (F.view files.new).faults)
-        (Some (wished request.entry)) (F.view files.old).told (K.view sink.old)
+        (Some (wish_asked request.entry)) (F.view files.old).told (K.view sink.old)
         (K.view sink.new) result }
     ensures causes { HasCauses result (F.view files.old).faults (F.view files.new).faults
         (K.view sink.old).faults (K.view sink.new).faults }
-    ensures opened { Opens (files_of (Some (wished request.entry))) (F.view files.old).told
+    ensures opened { OpensFiles (files_of (Some (wish_asked request.entry))) (F.view files.old).told
         (F.view files.new).told (K.view sink.old).taken (K.view sink.new).taken result }
 {
     match request {
@@ -167,7 +167,7 @@ fn plan<F: Files, K: Sink>(
         (K.view sink.old) (K.view sink.new) result }
     ensures causes { HasCauses result (F.view files.old).faults (F.view files.new).faults
         (K.view sink.old).faults (K.view sink.new).faults }
-    ensures opened { Opens ((Named.File, list.entry.file.now) ∷ []) (F.view files.old).told
+    ensures opened { OpensFiles ((Named.File, list.entry.file.now) ∷ []) (F.view files.old).told
         (F.view files.new).told (K.view sink.old).taken (K.view sink.new).taken result }
 {
     match task_of(alloc, files, sink, list.file) {
@@ -198,7 +198,7 @@ fn further<F: Files, K: Sink>(
         (K.view sink.old) (K.view sink.new) result }
     ensures causes { HasCauses result (F.view files.old).faults (F.view files.new).faults
         (K.view sink.old).faults (K.view sink.new).faults }
-    ensures opened { Opens ((Named.File, list.entry.file.now) ∷ (Named.Plans, list.entry.plans.now) ∷ [])
+    ensures opened { OpensFiles ((Named.File, list.entry.file.now) ∷ (Named.Plans, list.entry.plans.now) ∷ [])
         (F.view files.old).told (F.view files.new).told (K.view sink.old).taken
         (K.view sink.new).taken result }
 {
@@ -234,7 +234,7 @@ fn check<F: Files, K: Sink>(
         (K.view sink.old) (K.view sink.new) result }
     ensures causes { HasCauses result (F.view files.old).faults (F.view files.new).faults
         (K.view sink.old).faults (K.view sink.new).faults }
-    ensures opened { Opens ((Named.File, file.now) ∷ (Named.Plans, plans.now) ∷ []) (F.view files.old).told
+    ensures opened { OpensFiles ((Named.File, file.now) ∷ (Named.Plans, plans.now) ∷ []) (F.view files.old).told
         (F.view files.new).told (K.view sink.old).taken (K.view sink.new).taken result }
 {
     let task = match task_of(alloc, files, sink, file) {
@@ -254,7 +254,7 @@ fn prove<F: Files, K: Sink>(alloc: Global, files: &mut F, sink: &mut K, file: &s
         (K.view sink.new) result }
     ensures causes { HasCauses result (F.view files.old).faults (F.view files.new).faults
         (K.view sink.old).faults (K.view sink.new).faults }
-    ensures opened { Opens ((Named.File, file.now) ∷ []) (F.view files.old).told (F.view files.new).told
+    ensures opened { OpensFiles ((Named.File, file.now) ∷ []) (F.view files.old).told (F.view files.new).told
         (K.view sink.old).taken (K.view sink.new).taken result }
 {
     match task_of(alloc, files, sink, file) {
@@ -276,7 +276,7 @@ fn refute<F: Files, K: Sink>(
         (K.view sink.new) result }
     ensures causes { HasCauses result (F.view files.old).faults (F.view files.new).faults
         (K.view sink.old).faults (K.view sink.new).faults }
-    ensures opened { Opens ((Named.File, file.now) ∷ (Named.Cert, cert.now) ∷ []) (F.view files.old).told
+    ensures opened { OpensFiles ((Named.File, file.now) ∷ (Named.Cert, cert.now) ∷ []) (F.view files.old).told
         (F.view files.new).told (K.view sink.old).taken (K.view sink.new).taken result }
 {
     let task = match task_of(alloc, files, sink, file) {

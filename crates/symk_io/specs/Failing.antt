@@ -22,7 +22,7 @@ abbrev pub NeverOtherwise : Type 0
 NeverOtherwise = ⊥
 
 -- One call: it is counted and the list stays, it fails where it is listed, and where it isn't it fails only for another cause.
-pub record Meets (Otherwise : Type 0) {T : Type 0} (old new : Failing) (result : Result T IoFault) : Type 0 where
+pub record FailsAsListed (Otherwise : Type 0) {T : Type 0} (old new : Failing) (result : Result T IoFault) : Type 0 where
   pub counted : HasMade old.calls.items (next_call old.made) new
   pub ok : OnOk result (IsFalse (fails_next old))
   pub failed : IsErrOf result Failed → IsTrue (fails_next old) ⊎ Otherwise

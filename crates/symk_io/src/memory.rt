@@ -2,7 +2,7 @@
 
 ghost use Rattle.std.specs.Prelude.{◌≡◌, ◌^◌, ◌-◌, ◌<◌, ◌≤◌, ◌+◌, length, min, max, IfOk, OnErr, OnOk, [], Some};
 ghost use Rattle.symk_io.specs.Causes.{Counted};
-ghost use Rattle.symk_io.specs.Failing.{fails_next, next_call, HasMade, Meets, NeverOtherwise};
+ghost use Rattle.symk_io.specs.Failing.{fails_next, next_call, HasMade, FailsAsListed, NeverOtherwise};
 
 use crate::mem_files::Shelf;
 use crate::{Files, IoFault, MemFile, Sink};
@@ -92,7 +92,7 @@ impl Files for MemFiles {
         ensures told { Tells (Opens name.now result) (files_view self.old).told (files_view self.new).told }
         ensures cause { HasCause (files_view self.old).faults (files_view self.new).faults result }
         // A call that is listed fails, and another one only where the name isn't there.
-        ensures listed { Meets (text_in self.old.shelf.files.items name.now ≡ None) self.old.failing
+        ensures listed { FailsAsListed (text_in self.old.shelf.files.items name.now ≡ None) self.old.failing
             self.new.failing result }
     {
         let fails = self.failing.count_call();
@@ -108,7 +108,7 @@ impl Files for MemFiles {
         ensures told { Tells (Reads buf.new result) (files_view self.old).told (files_view self.new).told }
         ensures cause { HasCause (files_view self.old).faults (files_view self.new).faults result }
         // A call that is listed fails, and no other.
-        ensures listed { Meets NeverOtherwise self.old.failing self.new.failing result }
+        ensures listed { FailsAsListed NeverOtherwise self.old.failing self.new.failing result }
     {
         if self.failing.count_call() {
             return Err(self.failing.fail());
@@ -194,7 +194,7 @@ impl Sink for MemSink {
         // As much as it may take; a call that is listed fails, and no other.
         ensures full { IfOk result (λ n. n ≡ min (max self.old.most 1) (length piece.now)) }
         ensures most { self.new.most ≡ self.old.most }
-        ensures listed { Meets NeverOtherwise self.old.failing self.new.failing result }
+        ensures listed { FailsAsListed NeverOtherwise self.old.failing self.new.failing result }
     {
         if self.failing.count_call() {
             return Err(self.failing.fail());
@@ -212,7 +212,7 @@ impl Sink for MemSink {
         ensures cause { HasCause (sink_view self.old).faults (sink_view self.new).faults result }
         // A call that is listed fails, and no other.
         ensures most { self.new.most ≡ self.old.most }
-        ensures listed { Meets NeverOtherwise self.old.failing self.new.failing result }
+        ensures listed { FailsAsListed NeverOtherwise self.old.failing self.new.failing result }
     {
         if self.failing.count_call() {
             return Err(self.failing.fail());

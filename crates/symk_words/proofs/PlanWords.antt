@@ -19,7 +19,7 @@ use Rattle.clap.specs.Simple.{Shape, App, subcommand_of, built, built_leaf, inhe
 use Rattle.clap.specs.Kinds.{Kinds, or_else}
 use Rattle.clap.specs.Faults.{fault_of, turn_fault, walk_fault, settle_fault, default_fault, given_default_fault, defaults_fault, check_fault, level_fault, entered_fault}
 use Rattle.clap.proofs.OnLiterals.{clap_on_literals}
-use Rattle.symk_words.specs.App.{symk_app, top_app, plan_app, place, wanted, wished, flag}
+use Rattle.symk_words.specs.App.{symk_app, top_app, plan_app, positional_rule, wanted, wished, flag}
 use Rattle.symk_words.specs.Lawful.{Plain, PlainIfSome, ArePlain, option_words, flag_words, plan_words}
 use Rattle.symk_words.specs.Texts.{PlanTexts, plan, plan_with, is_set, texts_asked, texts_of, unless_fault}
 
@@ -31,7 +31,7 @@ leaf = built_leaf (inherited (marked_built top_app.top) plan_app.top)
 abbrev pub at_start : Walk
 at_start = walk_from nothing_held
 
--- the walk goes through the words to a place, with no fault
+-- the walk goes through the words to a positional_rule, with no fault
 record Goes (w : Walk) (words : List Text) (v : Walk) : Type 0 where
   there : fold (walked leaf.rules []) w words ≡ v
   right : walk_fault leaf [] w words ≡ []
@@ -364,7 +364,7 @@ rows_past rows (a ∷ rules) rest e = ap (λ r. fold with_default r (rules ++ re
 
 -- the options before the first one without a value, and those between it and the last one
 abbrev first_rules : List Rule
-first_rules = filled_from 1 (place (codes "file") ∷ wanted (codes "k") ∷ wished (codes "mode") ∷ wished (codes "search") ∷ [])
+first_rules = filled_from 1 (positional_rule (codes "file") ∷ wanted (codes "k") ∷ wished (codes "mode") ∷ wished (codes "search") ∷ [])
 
 abbrev more_rule : Rule
 more_rule = filled (flag (codes "more"))

@@ -18,7 +18,7 @@ ghost use Rattle.clap.specs.Walk.{Text};
 ghost use Rattle.std.specs.declared.option.Option.{Option};
 ghost use Rattle.clap.specs.Simple.{app_of};
 ghost use Rattle.clap.specs.declared.builder.command.Command.TheViews.{out-Command};
-ghost use Rattle.symk_words.specs.App.{symk_app, found_app, reach_app, plan_app, check_app, demo_app, prove_app, refute_app, place as place_rule, wanted as wanted_rule, wished as wished_rule, flag as flag_rule};
+ghost use Rattle.symk_words.specs.App.{symk_app, found_app, reach_app, plan_app, check_app, demo_app, prove_app, refute_app, positional_rule as place_rule, wanted as wanted_rule, wished as wished_rule, flag as flag_rule};
 
 use clap::error::ErrorKind;
 use clap::{Arg, ArgAction, ArgMatches, Command};

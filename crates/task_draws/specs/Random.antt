@@ -2,9 +2,9 @@
 use Rattle.std.specs.Prelude.{ℕ, ◌+◌, ◌*◌, ◌/◌, ◌%◌, ◌^◌}
 use Rattle.std.specs.Int.RustNames.{bit_xor}
 
--- the state after this one
-unfoldable pub after : ℕ → ℕ
-after state = (state + 11400714819323198485) % 2 ^ 64
+-- the state random_after this one
+unfoldable pub random_after : ℕ → ℕ
+random_after state = (state + 11400714819323198485) % 2 ^ 64
 
 -- n, with its bits from the k-th on laid over it, times an odd number
 abbrev pub stirred : ℕ → ℕ → ℕ → ℕ

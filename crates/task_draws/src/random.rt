@@ -1,7 +1,7 @@
 //! Numbers that look drawn by chance.
 
 ghost use Rattle.std.specs.Prelude.{◌≡◌, ◌<◌, ◌%◌, ◌==◌};
-ghost use Rattle.task_draws.specs.Random.{mixed, after};
+ghost use Rattle.task_draws.specs.Random.{mixed, random_after};
 
 /// The stream of numbers of a seed.
 ///
@@ -31,9 +31,9 @@ impl Random {
     }
 
     /// The next number of the stream.
-    #[tactic(auto, unfolding(crate::specs::Random::after))]
+    #[tactic(auto, unfolding(crate::specs::Random::random_after))]
     pub fn next(&mut self) -> u64
-        ensures state { self.new.state ≡ after self.old.state }
+        ensures state { self.new.state ≡ random_after self.old.state }
         ensures number { result ≡ mixed self.new.state }
     {
         self.state = self.state.wrapping_add(0x9e37_79b9_7f4a_7c15);
@@ -43,8 +43,8 @@ impl Random {
     /// A number below `count`: the next of the stream, by what is left of it when it is divided by `count`.
     pub fn below(&mut self, count: u32) -> u32
         requires { 0 < count }
-        ensures state { self.new.state ≡ after self.old.state }
-        ensures number { result ≡ mixed (after self.old.state) % count }
+        ensures state { self.new.state ≡ random_after self.old.state }
+        ensures number { result ≡ mixed (random_after self.old.state) % count }
         ensures most { result < count }
     {
         (self.next() % u64::from(count)) as u32
@@ -53,8 +53,8 @@ impl Random {
     /// Whether one of `count` numbers is drawn.
     pub fn one_in(&mut self, count: u32) -> bool
         requires { 0 < count }
-        ensures state { self.new.state ≡ after self.old.state }
-        ensures drawn { result ≡ (mixed (after self.old.state) % count == 0) }
+        ensures state { self.new.state ≡ random_after self.old.state }
+        ensures drawn { result ≡ (mixed (random_after self.old.state) % count == 0) }
     {
         self.below(count) == 0
     }

@@ -15,7 +15,7 @@ use Rattle.symk_task.specs.declared.parts.Operator.{Operator}
 use Rattle.symk_task.specs.declared.parts.Rule.{Rule}
 use Rattle.symk_task.specs.Variables.{range, width, doublings, IsBase, HasLayer}
 use Rattle.symk_task.specs.Fits.{IsName, InRange, AreFacts, bits_of, FitsRange, FitsVariable, FitsEffect, FitsOperator, FitsRule, MayStand, Fits}
-use Rattle.task_gen.specs.Switches.{up_to, fact, is_on, switch, all_on, variables, effect, flip, rule, switches}
+use Rattle.task_gen.specs.Switches.{up_to, switch_fact, switched_on, switch, all_on, variables, effect, flip, rule, switches}
 use Rattle.task_gen.proofs.Counting.{length_up_to, get_up_to, All_up_to, sum_up_to}
 
 abbrev NotEnd : ℕ → Type 0
@@ -113,10 +113,10 @@ few_bits n most =
     let switches_bits = sum_up_to bits_of switch n 1 bits_of_switch in
     rw (sum_by-append bits_of (up_to switch n) (all_on ∷ [])) (omega (arith, switches_bits))
 
-switch_in_range : (n i val : ℕ) → i < n → val < 2 → InRange (variables n) (fact i val)
+switch_in_range : (n i val : ℕ) → i < n → val < 2 → InRange (variables n) (switch_fact i val)
 switch_in_range n i val lt small = subst (λ (o : Option Variable). IsSomeAnd o (λ v. val < range v)) (sym (at_switch n i lt)) small
 
-all_in_range : (n : ℕ) → InRange (variables n) (fact n 1)
+all_in_range : (n : ℕ) → InRange (variables n) (switch_fact n 1)
 all_in_range n = subst (λ (o : Option Variable). IsSomeAnd o (λ v. 1 < range v)) (sym (at_last n)) (lit< tt)
 
 one_fact : (n : ℕ) (f : Fact) → InRange (variables n) f → AreFacts (variables n) (f ∷ [])
@@ -124,7 +124,7 @@ one_fact n f h = (lit≤ tt, All-cons (InRange (variables n)) f [] h (All-nil (I
 
 fits_effect : (n i old new : ℕ) → i < n → old < 2 → new < 2 → FitsEffect (variables n) (effect i old new)
 fits_effect n i old new lt o w = record {
-  conds = one_fact n (fact i old) (switch_in_range n i old lt o);
+  conds = one_fact n (switch_fact i old) (switch_in_range n i old lt o);
   on = subst (λ (v : Option Variable). IsSomeAnd v (λ x. (x.layer ≡ None) × (new < range x))) (sym (at_switch n i lt)) (refl, w);
   pre = tt;
 }
@@ -144,14 +144,14 @@ fits_flip n i most lt =
 fits_rule : (n : ℕ) → n ≤ 64 → FitsRule (switches n) (rule n)
 fits_rule n most = record {
   conds = (
-    subst (λ (k : ℕ). k ≤ 65536) (sym (length_up_to is_on n)) (omega arith),
+    subst (λ (k : ℕ). k ≤ 65536) (sym (length_up_to switched_on n)) (omega arith),
     All_up_to (InRange (variables n))
-        is_on n (λ i lt. switch_in_range n i 1 lt (lit< tt)),
+        switched_on n (λ i lt. switch_in_range n i 1 lt (lit< tt)),
   );
   layer = 0;
   on = subst (λ (v : Option Variable). IsSomeAnd v (λ x. x.layer ≡ Some 0)) (sym (at_last n)) refl;
   new = lit< tt;
-  kept = (λ _. All_up_to (MayStand (switches n) 0) is_on n (λ i lt. inl
+  kept = (λ _. All_up_to (MayStand (switches n) 0) switched_on n (λ i lt. inl
       (subst (λ (v : Option Variable). IsSomeAnd v (λ x. x.layer ≡ None)) (sym (at_switch n i lt)) refl)));
 }
 
@@ -165,7 +165,7 @@ switches_fit n most = record {
   each_mutex = All-nil (AreFacts (variables n));
   initial = length-replicate (n + 1) 0 ∙ sym (length_variables n);
   each_value = starts_in_range n;
-  goal = one_fact n (fact n 1) (all_in_range n);
+  goal = one_fact n (switch_fact n 1) (all_in_range n);
   operators = subst (λ (k : ℕ). k ≤ 1000000) (sym (length_up_to flip n)) (omega arith);
   each_operator = All_up_to (FitsOperator (variables n)) flip n (λ i lt. fits_flip n i most lt);
   rules = lit≤ tt;

@@ -12,12 +12,12 @@ abbrev pub up_to : {X : Type 0} → (ℕ → X) → ℕ → List X
 up_to f zero = []
 up_to f (suc n) = up_to f n ++ f n ∷ []
 
-abbrev pub fact : ℕ → ℕ → Fact
-fact var val = record { var = var; val = val }
+abbrev pub switch_fact : ℕ → ℕ → Fact
+switch_fact var val = record { var = var; val = val }
 
 -- switch i is on
-abbrev pub is_on : ℕ → Fact
-is_on i = fact i 1
+abbrev pub switched_on : ℕ → Fact
+switched_on i = switch_fact i 1
 
 -- switch i
 abbrev pub switch : ℕ → Variable
@@ -32,7 +32,7 @@ variables n = up_to switch n ++ all_on ∷ []
 
 -- where switch i has the value old, it gets the value new
 abbrev pub effect : ℕ → ℕ → ℕ → Effect
-effect i old new = record { conds = fact i old ∷ []; var = i; pre = None; post = new }
+effect i old new = record { conds = switch_fact i old ∷ []; var = i; pre = None; post = new }
 
 -- turns switch i on where it is off, and off where it is on
 abbrev pub flip : ℕ → Operator
@@ -40,7 +40,7 @@ flip i = record { name = codes "flip " ++ decimal i; prevail = []; effects = eff
 
 -- all are on where each switch is on
 abbrev pub rule : ℕ → Rule
-rule n = record { conds = up_to is_on n; var = n; new = 1 }
+rule n = record { conds = up_to switched_on n; var = n; new = 1 }
 
 -- The task of n switches, each off at first and all to be on.
 abbrev pub switches : ℕ → TaskParts
@@ -49,7 +49,7 @@ switches n = record {
   variables = variables n;
   mutexes = [];
   initial = replicate (n + 1) 0;
-  goal = fact n 1 ∷ [];
+  goal = switch_fact n 1 ∷ [];
   operators = up_to flip n;
   rules = rule n ∷ [];
 }

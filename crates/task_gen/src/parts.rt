@@ -1,7 +1,7 @@
 //! What the task of the switches states.
 
 ghost use Rattle.std.specs.Prelude.{◌≡◌, ◌+◌, ◌∷◌, [], ◌++◌, IfOk, codes, decimal, replicate};
-ghost use Rattle.task_gen.specs.Switches.{switches, switch, all_on, variables, fact, is_on, effect, flip, rule, up_to};
+ghost use Rattle.task_gen.specs.Switches.{switches, switch, all_on, variables, switch_fact, switched_on, effect, flip, rule, up_to};
 
 use std::alloc::Global;
 use symk_task::{Effect, Fact, List, Memory, Name, Operator, Rule, TaskParts, Variable};
@@ -72,7 +72,7 @@ fn all_off(alloc: Global, n: u32) -> Result<List<u32>, Memory>
 }
 
 fn fact(var: u32, val: u32) -> Fact
-    ensures { result ≡ fact var val }
+    ensures { result ≡ switch_fact var val }
 {
     Fact { var, val }
 }
@@ -136,7 +136,7 @@ fn rule(alloc: Global, n: u32) -> Result<Rule, Memory>
 }
 
 fn each_on(alloc: Global, n: u32) -> Result<List<Fact>, Memory>
-    ensures { IfOk result (λ list. list ≡ up_to is_on n) }
+    ensures { IfOk result (λ list. list ≡ up_to switched_on n) }
 {
     let mut items = Vec::new(alloc);
     for i in 0..n {

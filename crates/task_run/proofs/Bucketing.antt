@@ -8,9 +8,9 @@ use Rattle.std.proofs.lemmas.List.{get_or_default}
 use Rattle.symk_task.specs.declared.parts.Rule.{Rule}
 use Rattle.symk_task.specs.declared.parts.TaskParts.{TaskParts}
 use Rattle.task_run.specs.declared.counting.Counting.{Counting}
-use Rattle.task_run.specs.Layer.{IsOwn}
+use Rattle.task_run.specs.Layer.{IsOwnRule}
 use Rattle.task_run.specs.Counted.{IsCounting}
-use Rattle.task_run.specs.Work.{Stands}
+use Rattle.task_run.specs.Work.{StandsInList}
 use Rattle.symk_task.proofs.Layers.{one_layer}
 use Rattle.task_run.proofs.Placing.{stands_left, stands_right, stands_parts}
 
@@ -34,19 +34,19 @@ counting_at layer rule = record { layer = layer; rule = rule }
 
 -- what the number says of the rule
 own_at : (task : TaskParts) (i : ℕ) (rule : Rule) (counting : Counting) → slice_get task.rules i ≡ Some rule
-    → counting.rule ≡ i → IsCounting task counting → IsOwn task counting.layer rule
+    → counting.rule ≡ i → IsCounting task counting → IsOwnRule task counting.layer rule
 own_at task i rule counting at e h =
     let at2 : slice_get task.rules counting.rule ≡ Some rule = ap (λ (z : ℕ). slice_get task.rules z) e ∙ at in
-    subst (λ (z : Option Rule). IsSomeAnd z (IsOwn task counting.layer)) at2 h
+    subst (λ (z : Option Rule). IsSomeAnd z (IsOwnRule task counting.layer)) at2 h
 
 pub counting_one : (task : TaskParts) (list : List Counting) (i layer : ℕ) (rule : Rule)
-    → slice_get task.rules i ≡ Some rule → IsOwn task layer rule → All (IsCounting task) list
+    → slice_get task.rules i ≡ Some rule → IsOwnRule task layer rule → All (IsCounting task) list
     → All (IsCounting task) (list ++ counting_at layer i ∷ [])
 counting_one task list i layer rule at own h = all_more (IsCounting task) list (counting_at layer i) h
-    (subst (λ (z : Option Rule). IsSomeAnd z (IsOwn task layer)) (sym at) own)
+    (subst (λ (z : Option Rule). IsSomeAnd z (IsOwnRule task layer)) (sym at) own)
 
 pub each_one : (task : TaskParts) (list : List Counting) (i layer : ℕ) (rule : Rule)
-    → slice_get task.rules i ≡ Some rule → IsOwn task layer rule
+    → slice_get task.rules i ≡ Some rule → IsOwnRule task layer rule
     → ((x : Counting) → x.rule < i → IsCounting task x → Contains list x)
     → (x : Counting) → x.rule < i + 1 → IsCounting task x → Contains (list ++ counting_at layer i ∷ []) x
 each_one task list i layer rule at own h x lt is = elim (cases_eq x.rule i) [
@@ -67,7 +67,7 @@ each_same task list i rule at default h x lt is = elim (cases_eq x.rule i) [
 ]
 
 pub counting_within : (task : TaskParts) (x : Counting) → IsCounting task x → x.rule < length task.rules
-counting_within task x is = Rattle.symk_task.proofs.Places.within_some (IsOwn task x.layer) task.rules x.rule is
+counting_within task x is = Rattle.symk_task.proofs.Places.within_some (IsOwnRule task x.layer) task.rules x.rule is
 
 -- the rules of a layer, one after the other
 module _ (rules : List Counting) (end : ℕ) (c : Counting) (within : end < length rules) where
@@ -81,9 +81,9 @@ module _ (rules : List Counting) (end : ℕ) (c : Counting) (within : end < leng
   ]
 
   pub stacked_more : (stack : List ℕ) (from : ℕ)
-      → ((k : ℕ) (d : Counting) → from ≤ k → k < end → Stands stack (get_or rules k d).rule)
+      → ((k : ℕ) (d : Counting) → from ≤ k → k < end → StandsInList stack (get_or rules k d).rule)
       → (k : ℕ) (d : Counting) → from ≤ k → k < end + 1
-      → Stands (stack ++ (get_or rules end c).rule ∷ []) (get_or rules k d).rule
+      → StandsInList (stack ++ (get_or rules end c).rule ∷ []) (get_or rules k d).rule
   stacked_more stack from h k d low lt = elim (cases_eq k end) [
     | inl same ↦ (
         let it : get_or rules k d ≡ get_or rules end c = ap (λ (z : ℕ). get_or rules z d) same
@@ -95,9 +95,9 @@ module _ (rules : List Counting) (end : ℕ) (c : Counting) (within : end < leng
   ]
 
   pub only_more : (old stack : List ℕ)
-      → ((x : ℕ) → Stands stack x → Stands old x ⊎ Any (λ (counting : Counting). counting.rule ≡ x) rules)
-      → (x : ℕ) → Stands (stack ++ (get_or rules end c).rule ∷ []) x
-      → Stands old x ⊎ Any (λ (counting : Counting). counting.rule ≡ x) rules
+      → ((x : ℕ) → StandsInList stack x → StandsInList old x ⊎ Any (λ (counting : Counting). counting.rule ≡ x) rules)
+      → (x : ℕ) → StandsInList (stack ++ (get_or rules end c).rule ∷ []) x
+      → StandsInList old x ⊎ Any (λ (counting : Counting). counting.rule ≡ x) rules
   only_more old stack h x s = elim (stands_parts stack ((get_or rules end c).rule ∷ []) x s) [
     | inl p ↦ h x p
     | inr p ↦ elim p [

@@ -20,7 +20,7 @@ use Rattle.symk_task.proofs.Closing.{Closed, complete, sound}
 use Rattle.symk_task.proofs.Layers.{base_derived, one_layer, Two, two_values, fact_two, which, down, below_up, below_down, raised_layer}
 use Rattle.task_run.specs.Values.{HasValue, Valued}
 use Rattle.symk_task.proofs.Places.{within_some}
-use Rattle.task_run.specs.Layer.{IsOwn, Raises, Grows, IsStuck, start_value}
+use Rattle.task_run.specs.Layer.{IsOwnRule, Raises, Grows, IsStuck, start_value}
 use Rattle.task_run.specs.Layer.Grows.{done, by}
 
 -- Layers below the number have their values; the others have the default values.
@@ -226,7 +226,7 @@ module _ (task : TaskParts) (s : List ℕ) (layer : ℕ) (fits : Fits task) wher
 
 -- layers that no rule is for
 pub skip : (task : TaskParts) (s values : List ℕ) (k n : ℕ) → Fits task
-    → ((rule : Rule) (at : ℕ) → Contains task.rules rule → IsOwn task at rule → n ≤ at → at < k + n → ⊥)
+    → ((rule : Rule) (at : ℕ) → Contains task.rules rule → IsOwnRule task at rule → n ≤ at → at < k + n → ⊥)
     → Below task s n values → Below task s (k + n) values
 skip task s values zero n fits none b = subst (λ (z : ℕ). Below task s z values) (let e : n ≡ 0 + n = omega arith in e) b
 skip task s values (suc k) n fits none b =

@@ -13,21 +13,21 @@ use Rattle.symk_task.specs.Fits.{Fits, FitsRule, InRange}
 use Rattle.task_run.specs.Values.{HasValue}
 use Rattle.symk_task.proofs.Places.{within_some}
 use Rattle.task_run.proofs.Growing.{rule_within}
-use Rattle.task_run.specs.RuleStatus.{Lacks}
-use Rattle.task_run.specs.Layer.{IsOpen, Raises, IsStuck}
-use Rattle.task_run.specs.Work.{Stands, waiting_at, Placed, AllPlaced, AllBut, Kept}
+use Rattle.task_run.specs.RuleStatus.{LacksCondition}
+use Rattle.task_run.specs.Layer.{IsOpenRule, Raises, IsStuck}
+use Rattle.task_run.specs.Work.{StandsInList, waiting_at, Placed, AllPlaced, AllBut, KeptRules}
 use Rattle.task_run.specs.Work.Placed.{stacked, idle, waits}
 
-pub stands_left : (xs ys : List ℕ) (x : ℕ) → Stands xs x → Stands (xs ++ ys) x
+pub stands_left : (xs ys : List ℕ) (x : ℕ) → StandsInList xs x → StandsInList (xs ++ ys) x
 stands_left [] ys x h = absurd h
 stands_left (y ∷ xs) ys x (inl e) = inl e
 stands_left (y ∷ xs) ys x (inr h) = inr (stands_left xs ys x h)
 
-pub stands_right : (xs ys : List ℕ) (x : ℕ) → Stands ys x → Stands (xs ++ ys) x
+pub stands_right : (xs ys : List ℕ) (x : ℕ) → StandsInList ys x → StandsInList (xs ++ ys) x
 stands_right [] ys x h = h
 stands_right (y ∷ xs) ys x h = inr (stands_right xs ys x h)
 
-pub stands_parts : (xs ys : List ℕ) (x : ℕ) → Stands (xs ++ ys) x → Stands xs x ⊎ Stands ys x
+pub stands_parts : (xs ys : List ℕ) (x : ℕ) → StandsInList (xs ++ ys) x → StandsInList xs x ⊎ StandsInList ys x
 stands_parts [] ys x h = inr h
 stands_parts (y ∷ xs) ys x (inl e) = inl (inl e)
 stands_parts (y ∷ xs) ys x (inr h) = elim (stands_parts xs ys x h) [ inl k ↦ inl (inr k) | inr k ↦ inr k ]
@@ -39,7 +39,7 @@ module _ (task : TaskParts) (layer : ℕ) where
   popped values stack rest waiting x is all y rule at = go (all y rule at)
     where
       go : Placed task layer values stack waiting y rule → (x ≡ y) ⊎ Placed task layer values rest waiting y rule
-      go (stacked h) = elim (stands_parts rest (x ∷ []) y (subst (λ (z : List ℕ). Stands z y) is h)) [
+      go (stacked h) = elim (stands_parts rest (x ∷ []) y (subst (λ (z : List ℕ). StandsInList z y) is h)) [
         | inl k ↦ inr (stacked k)
         | inr k ↦ elim k [ inl e ↦ inl e | inr n ↦ absurd n ]
       ]
@@ -47,23 +47,25 @@ module _ (task : TaskParts) (layer : ℕ) where
       go (waits fact c n h) = inr (waits fact c n h)
 
   pub back_idle : (values stack : List ℕ) (waiting : List (List ℕ)) (x : ℕ) (rule : Rule)
-      → slice_get task.rules x ≡ Some rule → ¬ IsOpen task layer values rule
+      → slice_get task.rules x ≡ Some rule → ¬ IsOpenRule task layer values rule
       → AllBut x task layer values stack waiting → AllPlaced task layer values stack waiting
   back_idle values stack waiting x rule at not_so all y other at2 = elim (all y other at2) [
     | inl e ↦ (
         let same : rule ≡ other = (let k : slice_get task.rules x ≡ Some other = ap (λ (z : ℕ). slice_get task.rules z) e ∙ at2 in cc) in
-        idle (subst (λ (z : Rule). ¬ IsOpen task layer values z) same not_so))
+        idle (subst (λ (z : Rule). ¬ IsOpenRule task layer values z) same not_so))
     | inr p ↦ p
   ]
 
-  more_wait : (waiting : List (List ℕ)) (var x u y : ℕ) → var < length waiting → Stands (waiting_at waiting u) y
-      → Stands (waiting_at (set waiting var (waiting_at waiting var ++ x ∷ [])) u) y
+  more_wait : (waiting : List (List ℕ)) (var x u y : ℕ) → var < length waiting → StandsInList (waiting_at waiting u) y
+      → StandsInList (waiting_at (set waiting var (waiting_at waiting var ++ x ∷ [])) u) y
   more_wait waiting var x u y lt h = elim (cases_eq u var) [
     | inl e ↦ (
         let k : waiting_at (set waiting var (waiting_at waiting var ++ x ∷ [])) u ≡ waiting_at waiting var ++ x ∷ [] =
         (rw e (get_or-set_same waiting var (waiting_at waiting var ++ x ∷ []) [] lt)) in
-        subst (λ (z : List ℕ). Stands z y) (sym k) (stands_left (waiting_at waiting var) (x ∷ []) y (subst (λ (z : ℕ). Stands (waiting_at waiting z) y) e h)))
-    | inr ne ↦ subst (λ (z : List ℕ). Stands z y) (sym (get_or-set_other waiting var u (waiting_at waiting var ++ x ∷ []) [] ne)) h
+        subst (λ (z : List ℕ). StandsInList z y) (sym k)
+        (stands_left (waiting_at waiting var) (x ∷ []) y
+        (subst (λ (z : ℕ). StandsInList (waiting_at waiting z) y) e h)))
+    | inr ne ↦ subst (λ (z : List ℕ). StandsInList z y) (sym (get_or-set_other waiting var u (waiting_at waiting var ++ x ∷ []) [] ne)) h
   ]
 
   pub back_waits : (values stack : List ℕ) (waiting : List (List ℕ)) (x : ℕ) (rule : Rule) (fact : Fact)
@@ -74,7 +76,7 @@ module _ (task : TaskParts) (layer : ℕ) where
     | inl e ↦ (
         let same : rule ≡ other = (let k : slice_get task.rules x ≡ Some other = ap (λ (z : ℕ). slice_get task.rules z) e ∙ at2 in cc) in
         waits fact (subst (λ (z : Rule). Contains z.conds fact) same in_conds) not_so
-        (subst (λ (z : List ℕ). Stands z y)
+        (subst (λ (z : List ℕ). StandsInList z y)
         (sym (get_or-set_same waiting fact.var (waiting_at waiting fact.var ++ x ∷ []) [] lt))
         (stands_right (waiting_at waiting fact.var) (x ∷ []) y (inl e))))
     | inr p ↦ go p
@@ -104,12 +106,12 @@ module _ (task : TaskParts) (layer : ℕ) where
   raised_on values stack waiting x rule at raises lt lt2 all y other at2 = elim (all y other at2) [
     | inl e ↦ (
         let same : rule ≡ other = (let k : slice_get task.rules x ≡ Some other = ap (λ (z : ℕ). slice_get task.rules z) e ∙ at2 in cc) in
-        idle (subst (λ (z : Rule). ¬ IsOpen task layer (set values rule.var rule.new) z) same
+        idle (subst (λ (z : Rule). ¬ IsOpenRule task layer (set values rule.var rule.new) z) same
         (λ o. raises.opened.own.counts (sym (get_or-set_same values rule.var rule.new 0 lt) ∙ o.unraised))))
     | inr p ↦ go p
   ]
     where
-      still : ¬ IsOpen task layer values other → IsOpen task layer (set values rule.var rule.new) other → ⊥
+      still : ¬ IsOpenRule task layer values other → IsOpenRule task layer (set values rule.var rule.new) other → ⊥
       still not_so o = elim (cases_eq other.var rule.var) [
         | inl e ↦ raises.opened.own.counts (
             sym (get_or-set_same values rule.var rule.new 0 lt)
@@ -123,21 +125,21 @@ module _ (task : TaskParts) (layer : ℕ) where
       go (stacked h) = stacked (stands_left stack (waiting_at waiting rule.var) y h)
       go (idle h) = idle (still h)
       go (waits fact c n h) = elim (cases_eq fact.var rule.var) [
-        | inl e ↦ stacked (stands_right stack (waiting_at waiting rule.var) y (subst (λ (z : ℕ). Stands (waiting_at waiting z) y) e h))
+        | inl e ↦ stacked (stands_right stack (waiting_at waiting rule.var) y (subst (λ (z : ℕ). StandsInList (waiting_at waiting z) y) e h))
         | inr ne ↦ waits fact c (λ v. n (sym (get_or-set_other values rule.var fact.var rule.new 0 ne) ∙ v))
-            (subst (λ (z : List ℕ). Stands z y) (sym (get_or-set_other waiting rule.var fact.var [] [] ne)) h)
+            (subst (λ (z : List ℕ). StandsInList z y) (sym (get_or-set_other waiting rule.var fact.var [] [] ne)) h)
       ]
 
 -- the numbers stay numbers of rules
 pub kept_pop : (task : TaskParts) (stack rest : List ℕ) (waiting : List (List ℕ)) (x : ℕ) → stack ≡ rest ++ x ∷ []
-    → Kept task stack waiting → Kept task rest waiting × (x < length task.rules)
+    → KeptRules task stack waiting → KeptRules task rest waiting × (x < length task.rules)
 kept_pop task stack rest waiting x is k = (
-  record { each = k.each; stacked = λ y h. k.stacked y (subst (λ (z : List ℕ). Stands z y) (sym is) (stands_left rest (x ∷ []) y h)); waits = k.waits },
-  k.stacked x (subst (λ (z : List ℕ). Stands z x) (sym is) (stands_right rest (x ∷ []) x (inl refl))),
+  record { each = k.each; stacked = λ y h. k.stacked y (subst (λ (z : List ℕ). StandsInList z y) (sym is) (stands_left rest (x ∷ []) y h)); waits = k.waits },
+  k.stacked x (subst (λ (z : List ℕ). StandsInList z x) (sym is) (stands_right rest (x ∷ []) x (inl refl))),
 )
 
 pub kept_wait : (task : TaskParts) (stack : List ℕ) (waiting : List (List ℕ)) (var x : ℕ) → var < length waiting
-    → x < length task.rules → Kept task stack waiting → Kept task stack
+    → x < length task.rules → KeptRules task stack waiting → KeptRules task stack
     (set waiting var (waiting_at waiting var ++ x ∷ []))
 kept_wait task stack waiting var x lt in_rules k = record {
   each = length-set waiting var (waiting_at waiting var ++ x ∷ []) ∙ k.each;
@@ -146,29 +148,29 @@ kept_wait task stack waiting var x lt in_rules k = record {
     | inl e ↦ (
         let at : waiting_at (set waiting var (waiting_at waiting var ++ x ∷ [])) u ≡ waiting_at waiting var ++ x
         ∷ [] = (rw e (get_or-set_same waiting var (waiting_at waiting var ++ x ∷ []) [] lt)) in
-        elim (stands_parts (waiting_at waiting var) (x ∷ []) y (subst (λ (z : List ℕ). Stands z y) at h)) [
+        elim (stands_parts (waiting_at waiting var) (x ∷ []) y (subst (λ (z : List ℕ). StandsInList z y) at h)) [
           | inl p ↦ k.waits var y p
           | inr p ↦ elim p [ inl e2 ↦ subst (λ (z : ℕ). z < length task.rules) e2 in_rules | inr n ↦ absurd n ]
         ])
-    | inr ne ↦ k.waits u y (subst (λ (z : List ℕ). Stands z y) (get_or-set_other waiting var u (waiting_at waiting var ++ x ∷ []) [] ne) h)
+    | inr ne ↦ k.waits u y (subst (λ (z : List ℕ). StandsInList z y) (get_or-set_other waiting var u (waiting_at waiting var ++ x ∷ []) [] ne) h)
   ];
 }
 
 pub kept_wake : (task : TaskParts) (stack : List ℕ) (waiting : List (List ℕ)) (var : ℕ) → var < length waiting
-    → Kept task stack waiting → Kept task (stack ++ waiting_at waiting var) (set waiting var [])
+    → KeptRules task stack waiting → KeptRules task (stack ++ waiting_at waiting var) (set waiting var [])
 kept_wake task stack waiting var lt k = record {
   each = length-set waiting var [] ∙ k.each;
   stacked = λ y h. elim (stands_parts stack (waiting_at waiting var) y h) [ inl p ↦ k.stacked y p | inr p ↦ k.waits var y p ];
   waits = λ u y h. elim (cases_eq u var) [
     | inl e ↦ (
         let at : waiting_at (set waiting var []) u ≡ [] = (rw e (get_or-set_same waiting var [] [] lt)) in
-        absurd (subst (λ (z : List ℕ). Stands z y) at h))
-    | inr ne ↦ k.waits u y (subst (λ (z : List ℕ). Stands z y) (get_or-set_other waiting var u [] [] ne) h)
+        absurd (subst (λ (z : List ℕ). StandsInList z y) at h))
+    | inr ne ↦ k.waits u y (subst (λ (z : List ℕ). StandsInList z y) (get_or-set_other waiting var u [] [] ne) h)
   ];
 }
 
 pub lacks_within : (task : TaskParts) (layer : ℕ) (values : List ℕ) (rule : Rule) (from place var : ℕ)
-    → FitsRule task rule → Lacks task layer values rule from place var → var < length task.variables
+    → FitsRule task rule → LacksCondition task layer values rule from place var → var < length task.variables
 lacks_within task layer values rule from place var fit l =
     let fact = get_or rule.conds place (record { var = 0; val = 0 }) in
     let r : InRange task.variables fact = fit.conds.1 place (record { var = 0; val = 0 }) l.first.within in
@@ -176,7 +178,7 @@ lacks_within task layer values rule from place var fit l =
 
 pub lacks_waits : {task : TaskParts} {layer : ℕ} {values : List ℕ} (stack : List ℕ) (waiting : List (List ℕ)) (x : ℕ)
     {rule : Rule} {from place var : ℕ} → slice_get task.rules x ≡ Some rule
-    → Lacks task layer values rule from place var → var < length waiting
+    → LacksCondition task layer values rule from place var → var < length waiting
     → AllBut x task layer values stack waiting → AllPlaced task layer values stack (set waiting var (waiting_at waiting var ++ x ∷ []))
 lacks_waits {task} {layer} {values} stack waiting x {rule} {from} {place} {var} at l lt all =
     let d : Fact = record { var = 0; val = 0 } in

@@ -11,9 +11,9 @@ use Rattle.symk_task.specs.declared.parts.TaskParts.{TaskParts}
 use Rattle.symk_task.specs.Variables.{HasLayer}
 use Rattle.symk_task.specs.Fits.{Fits, FitsRule, MayStand}
 use Rattle.task_run.specs.Values.{HasValue}
-use Rattle.task_run.specs.Layer.{IsOwn, IsOpen, Raises}
+use Rattle.task_run.specs.Layer.{IsOwnRule, IsOpenRule, Raises}
 use Rattle.task_run.specs.Work.{HasBefore, IsFresh, Passed}
-use Rattle.task_run.specs.RuleStatus.{HaveBetween, Lacks}
+use Rattle.task_run.specs.RuleStatus.{HaveBetween, LacksCondition}
 use Rattle.symk_task.proofs.Layers.{base_derived, one_layer, two_values}
 use Rattle.task_run.proofs.Layers.{counts, may}
 
@@ -55,7 +55,7 @@ passed_raise task layer values places rule fits raises p = record {
   later = p.later;
 }
   where
-    stands : (x : ℕ) (other : Rule) → slice_get task.rules x ≡ Some other → IsOwn task layer other → All (MayStand task layer) other.conds
+    stands : (x : ℕ) (other : Rule) → slice_get task.rules x ≡ Some other → IsOwnRule task layer other → All (MayStand task layer) other.conds
     stands x other at own = (let fit = fits_at x other at in may task [] layer fits other fit own.on
         (counts task [] layer fits values other fit own.on own.counts))
       where
@@ -65,7 +65,7 @@ passed_raise task layer values places rule fits raises p = record {
 
 pub passed_wait : {task : TaskParts} {layer : ℕ} {values places : List ℕ} (x : ℕ) {rule : Rule} {place var : ℕ}
     → slice_get task.rules x ≡ Some rule → x < length task.rules
-    → Lacks task layer values rule (get_or places x 0) place var → Passed task layer values places
+    → LacksCondition task layer values rule (get_or places x 0) place var → Passed task layer values places
     → Passed task layer values (set places x place)
 passed_wait {task} {layer} {values} {places} x {rule} {place} {var} at lt l p = record {
   each = length-set places x place ∙ p.each;
@@ -75,7 +75,7 @@ passed_wait {task} {layer} {values} {places} x {rule} {place} {var} at lt l p = 
         let here : get_or (set places x place) y 0 ≡ place = rw e (get_or-set_same places x place 0 within) in
         subst (λ (z : ℕ). HasBefore values other z) (sym here)
         (subst (λ (z : Rule). HasBefore values z place) same
-        (longer (subst (λ (z : Rule). IsOwn task layer z) (sym same) own))))
+        (longer (subst (λ (z : Rule). IsOwnRule task layer z) (sym same) own))))
     | inr ne ↦ subst (λ (z : ℕ). HasBefore values other z) (sym (get_or-set_other places x y place 0 ne)) (p.own y other at2 own)
   ];
   later = λ y other high at2 own far. elim (cases_eq y x) [
@@ -90,7 +90,7 @@ passed_wait {task} {layer} {values} {places} x {rule} {place} {var} at lt l p = 
     within : x < length places
     within = (let e = p.each in omega (arith, e, lt))
 
-    longer : IsOwn task layer rule → HasBefore values rule place
+    longer : IsOwnRule task layer rule → HasBefore values rule place
     longer own k d small in_conds = elim (cases_lt k (get_or places x 0)) [
       | inl less ↦ p.own x rule at own k d less in_conds
       | inr more ↦ l.first.before k d more small
@@ -105,7 +105,7 @@ passed_fresh task layer values places f = record {
 
 -- a rule whose last conditions have their values raises its variable
 pub ready_raises : (task : TaskParts) (layer : ℕ) (values places : List ℕ) (x : ℕ) (rule : Rule)
-    → slice_get task.rules x ≡ Some rule → IsOpen task layer values rule
+    → slice_get task.rules x ≡ Some rule → IsOpenRule task layer values rule
     → HaveBetween values rule.conds (get_or places x 0) (length rule.conds) → Passed task layer values places
     → Raises task layer values rule
 ready_raises task layer values places x rule at open_now rest p = record {

@@ -11,9 +11,9 @@ use Rattle.symk_task.specs.Variables.{HasLayer}
 use Rattle.symk_task.specs.Fits.{Fits, FitsRule}
 use Rattle.task_run.specs.declared.counting.Counting.{Counting}
 use Rattle.task_run.specs.Values.{Valued}
-use Rattle.task_run.specs.Layer.{IsOwn, Grows, IsStuck, start_value}
+use Rattle.task_run.specs.Layer.{IsOwnRule, Grows, IsStuck, start_value}
 use Rattle.task_run.specs.Counted.{IsCounting, AreRulesOf, IsLayer}
-use Rattle.task_run.specs.Work.{Stands, AllPlaced, Placed, Kept, IsFresh}
+use Rattle.task_run.specs.Work.{StandsInList, AllPlaced, Placed, KeptRules, IsFresh}
 use Rattle.task_run.specs.Work.Placed.{stacked, idle}
 use Rattle.symk_task.proofs.Layers.{one_layer}
 use Rattle.task_run.proofs.Layers.{Below, skip, layer_done, started, valued}
@@ -26,7 +26,7 @@ pub record IsClosedTo (task : TaskParts) (s : List ℕ) (rules : List Counting) 
   pub within : at ≤ length rules
   pub below : Below task s layer values
   pub fresh : IsFresh task layer places
-  pub kept : Kept task stack waiting
+  pub kept : KeptRules task stack waiting
   pub past : (k : ℕ) (d : Counting) → k < at → (get_or rules k d).layer < layer
   pub left : (k : ℕ) (d : Counting) → at ≤ k → k < length rules → layer ≤ (get_or rules k d).layer
 
@@ -55,8 +55,8 @@ none_closed {task} {s} {rules} {values} fits each start_values no_stack no_waiti
   };
   kept = record {
     each = ap (λ (z : List (List ℕ)). length z) no_waiting ∙ length_all (length task.variables) [];
-    stacked = λ x h. absurd (subst (λ (z : List ℕ). Stands z x) no_stack h);
-    waits = λ var x h. absurd (subst (λ (z : List ℕ). Stands z x)
+    stacked = λ x h. absurd (subst (λ (z : List ℕ). StandsInList z x) no_stack h);
+    waits = λ var x h. absurd (subst (λ (z : List ℕ). StandsInList z x)
         (ap (λ (z : List (List ℕ)). get_or z var []) no_waiting ∙ same_all (length task.variables) var []) h);
   };
   past = λ k d lt. absurd (omega arith);
@@ -71,10 +71,10 @@ record Found (rules : List Counting) (layer x : ℕ) : Type 0 where
   at_rule : (d : Counting) → (get_or rules k d).rule ≡ x
 
 found : (task : TaskParts) (rules : List Counting) (x : ℕ) (rule : Rule) (layer : ℕ) → AreRulesOf task rules
-    → slice_get task.rules x ≡ Some rule → IsOwn task layer rule → Found rules layer x
+    → slice_get task.rules x ≡ Some rule → IsOwnRule task layer rule → Found rules layer x
 found task rules x rule layer are at own =
     let it : Counting = record { layer = layer; rule = x } in
-    let c = are.each it (subst (λ (z : Option Rule). IsSomeAnd z (IsOwn task layer)) (sym at) own) in
+    let c = are.each it (subst (λ (z : Option Rule). IsSomeAnd z (IsOwnRule task layer)) (sym at) own) in
     record {
       k = c.0;
       within = c.1;
@@ -89,7 +89,7 @@ number_of task rule c = slice_get_read task.rules (length task.rules) c.0 rule r
 pub record IsReady (task : TaskParts) (s : List ℕ) (layer : ℕ) (values stack : List ℕ) (waiting : List (List ℕ)) (places : List ℕ) : Type 0 where
   pub below : Below task s layer values
   pub fresh : IsFresh task layer places
-  pub kept : Kept task stack waiting
+  pub kept : KeptRules task stack waiting
   pub placed : AllPlaced task layer values stack waiting
 
 -- The rules of the layer stand from this place to the end.
@@ -101,8 +101,9 @@ pub record IsNext (rules : List Counting) (at end layer : ℕ) (c : Counting) : 
 pub begin_layer : {task : TaskParts} {s : List ℕ} {rules : List Counting} {at end layer : ℕ} {c : Counting}
     {values stack : List ℕ} (new : List ℕ) {waiting : List (List ℕ)} {places : List ℕ} → Fits task
     → AreRulesOf task rules → IsClosedTo task s rules at values stack waiting places → IsNext rules at end layer c
-    → ((k : ℕ) (d : Counting) → at ≤ k → k < end → Stands new (get_or rules k d).rule)
-    → ((x : ℕ) → Stands new x → Stands stack x ⊎ Any (λ (counting : Counting). counting.rule ≡ x) rules) → IsReady task s layer values new waiting places
+    → ((k : ℕ) (d : Counting) → at ≤ k → k < end → StandsInList new (get_or rules k d).rule)
+    → ((x : ℕ) → StandsInList new x → StandsInList stack x ⊎ Any (λ (counting : Counting). counting.rule ≡ x) rules)
+    → IsReady task s layer values new waiting places
 begin_layer {task} {s} {rules} {at} {end} {layer} {c} {values} new {waiting} fits are i next stand only = record {
   below = subst (λ (z : ℕ). Below task s z values) (let e : (layer - i.layer) + i.layer ≡ layer = omega
       (arith, low) in e) (skip task s values (layer - i.layer) i.layer fits none i.below);
@@ -118,7 +119,7 @@ begin_layer {task} {s} {rules} {at} {end} {layer} {c} {values} new {waiting} fit
     above k d le far = (let h = are.by_layer at k c le far in
         let e = ap (λ (z : Counting). z.layer) (get_or_default rules k c d far) in omega (arith, h, e, next.here))
 
-    none : (rule : Rule) (high : ℕ) → Contains task.rules rule → IsOwn task high rule → i.layer ≤ high → high < (layer - i.layer) + i.layer → ⊥
+    none : (rule : Rule) (high : ℕ) → Contains task.rules rule → IsOwnRule task high rule → i.layer ≤ high → high < (layer - i.layer) + i.layer → ⊥
     none rule high in_all own far near =
         let f = found task rules in_all.0 rule high are (number_of task rule in_all) own in
         let e = f.at_layer c in
@@ -127,7 +128,7 @@ begin_layer {task} {s} {rules} {at} {end} {layer} {c} {values} new {waiting} fit
           | inr after ↦ (let h = above f.k c after f.within in omega (arith, h, e, near, low))
         ]
 
-    in_rules : (x : ℕ) → Stands new x → x < length task.rules
+    in_rules : (x : ℕ) → StandsInList new x → x < length task.rules
     in_rules x h = elim (only x h) [
       | inl old ↦ i.kept.stacked x old
       | inr (k, counting, far, e, it) ↦ subst (λ (z : ℕ). z < length task.rules) it
@@ -137,14 +138,14 @@ begin_layer {task} {s} {rules} {at} {end} {layer} {c} {values} new {waiting} fit
     fit_at : (x : ℕ) (rule : Rule) → slice_get task.rules x ≡ Some rule → FitsRule task rule
     fit_at x rule at = subst (FitsRule task) (get_or_from_slice_get task.rules x rule rule at) (fits.each_rule x rule (slice_get_within task.rules x rule at))
 
-    stands : (x : ℕ) (rule : Rule) → slice_get task.rules x ≡ Some rule → IsOwn task layer rule → Stands new x
+    stands : (x : ℕ) (rule : Rule) → slice_get task.rules x ≡ Some rule → IsOwnRule task layer rule → StandsInList new x
     stands x rule at2 own =
         let f = found task rules x rule layer are at2 own in
         let e = f.at_layer c in
         elim (cases_lt f.k at) [
           | inl before ↦ (let h = i.past f.k c before in absurd (omega (arith, h, e, low)))
           | inr after ↦ elim (cases_lt f.k end) [
-            | inl inside ↦ subst (Stands new) (f.at_rule c) (stand f.k c after inside)
+            | inl inside ↦ subst (StandsInList new) (f.at_rule c) (stand f.k c after inside)
             | inr beyond ↦ (
                 let within : end < length rules = (let w = f.within in omega (arith, w, beyond)) in
                 let a = above end c next.is_layer.rising within in
@@ -166,7 +167,7 @@ pub end_layer : {task : TaskParts} {s : List ℕ} {rules : List Counting} {at en
     {values next stack next_stack : List ℕ} {waiting next_waiting : List (List ℕ)} {places next_places : List ℕ}
     → Fits task → AreRulesOf task rules
     → IsClosedTo task s rules at values stack waiting places → Below task s layer values → IsNext rules at end layer c
-    → Grows task layer values next → IsStuck task layer next → Kept task next_stack next_waiting
+    → Grows task layer values next → IsStuck task layer next → KeptRules task next_stack next_waiting
     → IsFresh task (layer + 1) next_places → IsClosedTo task s rules end next next_stack next_waiting
     next_places
 end_layer {task} {s} {rules} {at} {end} {layer} {c} {values} {next} fits are i below n grows stuck kept fresh =
@@ -201,7 +202,7 @@ pub all_closed : {task : TaskParts} {s : List ℕ} {rules : List Counting} {at :
 all_closed {task} {s} {rules} {at} {values} fits are i all =
     valued task s (65536 + i.layer) values fits most (skip task s values 65536 i.layer fits none i.below)
   where
-    none : (rule : Rule) (high : ℕ) → Contains task.rules rule → IsOwn task high rule → i.layer ≤ high → high < 65536 + i.layer → ⊥
+    none : (rule : Rule) (high : ℕ) → Contains task.rules rule → IsOwnRule task high rule → i.layer ≤ high → high < 65536 + i.layer → ⊥
     none rule high in_all own far near =
         let f = found task rules in_all.0 rule high are (number_of task rule in_all) own in
         let c : Counting = record { layer = 0; rule = 0 } in

@@ -3,11 +3,11 @@ use Rattle.std.specs.Prelude.{◌≡◌, ℕ, ◌<◌, ◌≤◌, List, length, 
 use Rattle.std.specs.List.Sorted.{IsNonDecreasingBy}
 use Rattle.symk_task.specs.declared.parts.TaskParts.{TaskParts}
 use Rattle.task_run.specs.declared.counting.Counting.{Counting}
-use Rattle.task_run.specs.Layer.{IsOwn}
+use Rattle.task_run.specs.Layer.{IsOwnRule}
 
 -- the number is that of a rule that counts, for a variable of the layer
 abbrev pub IsCounting : TaskParts → Counting → Type 0
-IsCounting task counting = IsSomeAnd (slice_get task.rules counting.rule) (IsOwn task counting.layer)
+IsCounting task counting = IsSomeAnd (slice_get task.rules counting.rule) (IsOwnRule task counting.layer)
 
 -- The list has each rule that counts, and no other; layers never fall.
 pub record AreRulesOf (task : TaskParts) (rules : List Counting) : Type 0 where

@@ -8,18 +8,18 @@ use Rattle.symk_task.specs.Variables.{is_base, HasLayer}
 use Rattle.task_run.specs.Values.{HasValue}
 
 -- the rule is one that counts, for a variable of the layer
-pub record IsOwn (task : TaskParts) (layer : ℕ) (rule : Rule) : Type 0 where
+pub record IsOwnRule (task : TaskParts) (layer : ℕ) (rule : Rule) : Type 0 where
   pub counts : rule.new ≢ slice_index task.initial rule.var
   pub on : HasLayer task rule.var layer
 
 -- the rule is one of the layer that counts, and its variable still has its default value
-pub record IsOpen (task : TaskParts) (layer : ℕ) (values : List ℕ) (rule : Rule) : Type 0 where
-  pub own : IsOwn task layer rule
+pub record IsOpenRule (task : TaskParts) (layer : ℕ) (values : List ℕ) (rule : Rule) : Type 0 where
+  pub own : IsOwnRule task layer rule
   pub unraised : slice_index values rule.var ≡ slice_index task.initial rule.var
 
 -- such a rule, and its conditions have their values
 pub record Raises (task : TaskParts) (layer : ℕ) (values : List ℕ) (rule : Rule) : Type 0 where
-  pub opened : IsOpen task layer values rule
+  pub opened : IsOpenRule task layer values rule
   pub conds : All (HasValue values) rule.conds
 
 -- rules of the layer lead from the values to others, one after the other

@@ -4,7 +4,7 @@ use Rattle.symk_task.specs.declared.parts.Fact.{Fact}
 use Rattle.symk_task.specs.declared.parts.Rule.{Rule}
 use Rattle.symk_task.specs.declared.parts.TaskParts.{TaskParts}
 use Rattle.task_run.specs.Values.{HasValue}
-use Rattle.task_run.specs.Layer.{IsOpen}
+use Rattle.task_run.specs.Layer.{IsOpenRule}
 use Rattle.task_run.specs.declared.rule_status.RuleStatus.{RuleStatus}
 use Rattle.task_run.specs.declared.rule_status.RuleStatus.TheVariants.{Done, Ready, WaitsFor}
 
@@ -20,12 +20,12 @@ pub record FirstUnmet (values : List ℕ) (facts : List Fact) (from place : ℕ)
   pub before : HaveBetween values facts from place
 
 -- the first unmet condition, and its variable
-pub record Lacks (task : TaskParts) (layer : ℕ) (values : List ℕ) (rule : Rule) (from place var : ℕ) : Type 0 where
-  pub opened : IsOpen task layer values rule
+pub record LacksCondition (task : TaskParts) (layer : ℕ) (values : List ℕ) (rule : Rule) (from place var : ℕ) : Type 0 where
+  pub opened : IsOpenRule task layer values rule
   pub first : FirstUnmet values rule.conds from place
   pub on : (d : Fact) → (slice_index_or rule.conds place d).var ≡ var
 
-abbrev pub Finds : TaskParts → ℕ → List ℕ → Rule → ℕ → RuleStatus → Type 0
-Finds task layer values rule from Done = ¬ IsOpen task layer values rule
-Finds task layer values rule from Ready = IsOpen task layer values rule × HaveBetween values rule.conds from (length rule.conds)
-Finds task layer values rule from (WaitsFor place var) = Lacks task layer values rule from place var
+abbrev pub FindsRuleStatus : TaskParts → ℕ → List ℕ → Rule → ℕ → RuleStatus → Type 0
+FindsRuleStatus task layer values rule from Done = ¬ IsOpenRule task layer values rule
+FindsRuleStatus task layer values rule from Ready = IsOpenRule task layer values rule × HaveBetween values rule.conds from (length rule.conds)
+FindsRuleStatus task layer values rule from (WaitsFor place var) = LacksCondition task layer values rule from place var

@@ -4,20 +4,21 @@ use Rattle.symk_task.specs.declared.parts.Fact.{Fact}
 use Rattle.symk_task.specs.declared.parts.Rule.{Rule}
 use Rattle.symk_task.specs.declared.parts.TaskParts.{TaskParts}
 use Rattle.task_run.specs.Values.{HasValue}
-use Rattle.task_run.specs.Layer.{IsOwn, IsOpen}
+use Rattle.task_run.specs.Layer.{IsOwnRule, IsOpenRule}
 
-abbrev pub Stands : List ℕ → ℕ → Type 0
-Stands [] x = ⊥
-Stands (y ∷ ys) x = (y ≡ x) ⊎ Stands ys x
+abbrev pub StandsInList : List ℕ → ℕ → Type 0
+StandsInList [] x = ⊥
+StandsInList (y ∷ ys) x = (y ≡ x) ⊎ StandsInList ys x
 
 abbrev pub waiting_at : List (List ℕ) → ℕ → List ℕ
 waiting_at waiting var = slice_index_or waiting var []
 
 -- where the rule of this number is kept
 pub data Placed (task : TaskParts) (layer : ℕ) (values stack : List ℕ) (waiting : List (List ℕ)) (x : ℕ) (rule : Rule) : Type 0 where
-  stacked : Stands stack x → Placed task layer values stack waiting x rule
-  idle : ¬ IsOpen task layer values rule → Placed task layer values stack waiting x rule
-  waits : (fact : Fact) → Contains rule.conds fact → ¬ HasValue values fact → Stands (waiting_at waiting fact.var) x → Placed task layer values stack waiting x rule
+  stacked : StandsInList stack x → Placed task layer values stack waiting x rule
+  idle : ¬ IsOpenRule task layer values rule → Placed task layer values stack waiting x rule
+  waits : (fact : Fact) → Contains rule.conds fact → ¬ HasValue values fact
+      → StandsInList (waiting_at waiting fact.var) x → Placed task layer values stack waiting x rule
 
 abbrev pub AllPlaced : TaskParts → ℕ → List ℕ → List ℕ → List (List ℕ) → Type 0
 AllPlaced task layer values stack waiting = (x : ℕ) (rule : Rule) → slice_get task.rules x ≡ Some rule → Placed task layer values stack waiting x rule
@@ -28,9 +29,9 @@ AllBut y task layer values stack waiting = (x : ℕ) (rule : Rule) → slice_get
 
 -- the numbers are rules'
 abbrev pub AreRules : TaskParts → List ℕ → Type 0
-AreRules task xs = (x : ℕ) → Stands xs x → x < length task.rules
+AreRules task xs = (x : ℕ) → StandsInList xs x → x < length task.rules
 
-pub record Kept (task : TaskParts) (stack : List ℕ) (waiting : List (List ℕ)) : Type 0 where
+pub record KeptRules (task : TaskParts) (stack : List ℕ) (waiting : List (List ℕ)) : Type 0 where
   pub each : length waiting ≡ length task.variables
   pub stacked : AreRules task stack
   pub waits : (var : ℕ) → AreRules task (waiting_at waiting var)
@@ -42,10 +43,10 @@ HasBefore values rule place = (k : ℕ) (d : Fact) → k < place → k < length 
 -- no rule of the layer or a higher one has been looked at
 pub record IsFresh (task : TaskParts) (layer : ℕ) (places : List ℕ) : Type 0 where
   pub each : length places ≡ length task.rules
-  pub later : (x : ℕ) (rule : Rule) (at : ℕ) → slice_get task.rules x ≡ Some rule → IsOwn task at rule → ¬ (at < layer) → slice_index places x ≡ 0
+  pub later : (x : ℕ) (rule : Rule) (at : ℕ) → slice_get task.rules x ≡ Some rule → IsOwnRule task at rule → ¬ (at < layer) → slice_index places x ≡ 0
 
 -- Each rule of the layer has the conditions before the place where the last look stopped, and no rule of a higher one has been looked at.
 pub record Passed (task : TaskParts) (layer : ℕ) (values places : List ℕ) : Type 0 where
   pub each : length places ≡ length task.rules
-  pub own : (x : ℕ) (rule : Rule) → slice_get task.rules x ≡ Some rule → IsOwn task layer rule → HasBefore values rule (slice_index places x)
-  pub later : (x : ℕ) (rule : Rule) (at : ℕ) → slice_get task.rules x ≡ Some rule → IsOwn task at rule → layer < at → slice_index places x ≡ 0
+  pub own : (x : ℕ) (rule : Rule) → slice_get task.rules x ≡ Some rule → IsOwnRule task layer rule → HasBefore values rule (slice_index places x)
+  pub later : (x : ℕ) (rule : Rule) (at : ℕ) → slice_get task.rules x ≡ Some rule → IsOwnRule task at rule → layer < at → slice_index places x ≡ 0

@@ -3,7 +3,7 @@
 ghost use Rattle.std.specs.Prelude.{◌≡◌, length, All, IfOk, MatchOption, slice_index, Contains};
 ghost use Rattle.symk_task.specs.Fits.{Fits, FitsRule};
 ghost use Rattle.task_run.specs.declared.counting.Counting.{Counting};
-ghost use Rattle.task_run.specs.Layer.{IsOwn};
+ghost use Rattle.task_run.specs.Layer.{IsOwnRule};
 ghost use Rattle.task_run.specs.Counted.{IsCounting};
 
 use std::alloc::Global;
@@ -21,7 +21,7 @@ fn counting_layer(parts: &TaskParts, rule: &Rule) -> Option<u32>
     requires initial { length parts.now.initial ≡ length parts.now.variables }
     requires rule { FitsRule parts.now rule.now }
     ensures { MatchOption result (rule.now.new ≡ slice_index parts.now.initial rule.now.var)
-        (λ layer. IsOwn parts.now layer rule.now) }
+        (λ layer. IsOwnRule parts.now layer rule.now) }
 {
     let var = rule.var as usize;
     if rule.new == parts.initial.as_slice()[var] {

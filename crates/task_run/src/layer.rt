@@ -3,7 +3,7 @@
 ghost use Rattle.std.specs.Prelude.{◌≡◌, ◌<◌, ℕ, ◌+◌, length, IfOk, OnOk, MatchOption, IfSome, slice_get};
 ghost use Rattle.symk_task.specs.Fits.{Fits};
 ghost use Rattle.task_run.specs.Layer.{Raises, Grows, IsStuck};
-ghost use Rattle.task_run.specs.Work.{AllPlaced, AllBut, Kept, Passed, IsFresh};
+ghost use Rattle.task_run.specs.Work.{AllPlaced, AllBut, KeptRules, Passed, IsFresh};
 
 use crate::rule_status::{RuleStatus, status_of};
 use crate::work::Work;
@@ -19,10 +19,10 @@ fn next_raising(
 ) -> Result<Option<u32>, Memory>
     requires fits { Fits parts.now }
     requires values { length values.now ≡ length parts.now.variables }
-    requires kept { Kept parts.now work.old.stack.items work.old.waiting.items }
+    requires kept { KeptRules parts.now work.old.stack.items work.old.waiting.items }
     requires placed { AllPlaced parts.now layer values.now work.old.stack.items work.old.waiting.items }
     requires passed { Passed parts.now layer values.now work.old.places.items }
-    ensures kept { OnOk result (Kept parts.now work.new.stack.items work.new.waiting.items) }
+    ensures kept { OnOk result (KeptRules parts.now work.new.stack.items work.new.waiting.items) }
     ensures passed { OnOk result (Passed parts.now layer values.now work.new.places.items) }
     ensures none { IfOk result (λ x. MatchOption x (IsStuck parts.now layer values.now)
         (λ x. AllBut x parts.now layer values.now work.new.stack.items work.new.waiting.items)) }
@@ -51,13 +51,13 @@ pub(crate) fn close_layer(
 ) -> Result<(), Memory>
     requires fits { Fits parts.now }
     requires values { length values.old.items ≡ length parts.now.variables }
-    requires kept { Kept parts.now work.old.stack.items work.old.waiting.items }
+    requires kept { KeptRules parts.now work.old.stack.items work.old.waiting.items }
     requires placed { AllPlaced parts.now layer values.old.items work.old.stack.items work.old.waiting.items }
     requires fresh { IsFresh parts.now layer work.old.places.items }
     ensures grows { OnOk result (Grows parts.now layer values.old.items values.new.items) }
     ensures each { OnOk result (length values.new.items ≡ length values.old.items) }
     ensures stuck { OnOk result (IsStuck parts.now layer values.new.items) }
-    ensures kept { OnOk result (Kept parts.now work.new.stack.items work.new.waiting.items) }
+    ensures kept { OnOk result (KeptRules parts.now work.new.stack.items work.new.waiting.items) }
     ensures fresh { OnOk result (IsFresh parts.now (layer + 1) work.new.places.items) }
 {
     'raised: loop {

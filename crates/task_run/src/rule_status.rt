@@ -3,8 +3,8 @@
 ghost use Rattle.std.specs.Prelude.{◌≡◌, ◌<◌, ◌↔◌, ℕ, IsTrue, length, MatchOption};
 ghost use Rattle.symk_task.specs.Fits.{FitsRule};
 ghost use Rattle.task_run.specs.Values.{AreBelow};
-ghost use Rattle.task_run.specs.Layer.{IsOpen};
-ghost use Rattle.task_run.specs.RuleStatus.{HaveBetween, FirstUnmet, Finds};
+ghost use Rattle.task_run.specs.Layer.{IsOpenRule};
+ghost use Rattle.task_run.specs.RuleStatus.{HaveBetween, FirstUnmet, FindsRuleStatus};
 
 use symk_task::{Fact, Rule, TaskParts};
 
@@ -35,7 +35,7 @@ fn is_open(parts: &TaskParts, layer: u32, rule: &Rule, values: &[u32]) -> bool
     requires rule { FitsRule parts.now rule.now }
     requires initial { length parts.now.initial ≡ length parts.now.variables }
     requires values { length values.now ≡ length parts.now.variables }
-    ensures { IsTrue result ↔ IsOpen parts.now layer values.now rule.now }
+    ensures { IsTrue result ↔ IsOpenRule parts.now layer values.now rule.now }
 {
     let var = rule.var as usize;
     let default = parts.initial.as_slice()[var];
@@ -55,7 +55,7 @@ pub(crate) fn status_of(
     requires rule { FitsRule parts.now rule.now }
     requires initial { length parts.now.initial ≡ length parts.now.variables }
     requires values { length values.now ≡ length parts.now.variables }
-    ensures { Finds parts.now layer values.now rule.now from result }
+    ensures { FindsRuleStatus parts.now layer values.now rule.now from result }
 {
     if !is_open(parts, layer, rule, values) {
         return RuleStatus::Done;

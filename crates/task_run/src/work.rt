@@ -3,7 +3,7 @@
 ghost use Rattle.std.specs.Prelude.{◌≡◌, ◌<◌, ◌≤◌, ℕ, [], ◌∷◌, ◌++◌, length, All, IfOk, OnOk, slice_set, slice_index_or, replicate, Any, ◌⊎◌};
 ghost use Rattle.task_run.specs.declared.counting.Counting.{Counting};
 ghost use Rattle.task_run.specs.Counted.{IsLayer};
-ghost use Rattle.task_run.specs.Work.{Stands, waiting_at};
+ghost use Rattle.task_run.specs.Work.{StandsInList, waiting_at};
 
 use crate::counting::Counting;
 use std::alloc::Global;
@@ -69,9 +69,9 @@ impl Work {
         requires { from ≤ length rules.now }
         ensures layer { IfOk result (λ end. IsLayer rules.now layer from end) }
         ensures stacked { IfOk result (λ end. (k : ℕ) (d : Counting) → from ≤ k → k < end
-            → Stands self.new.stack.items (slice_index_or rules.now k d).rule) }
-        ensures only { IfOk result (λ end. (x : ℕ) → Stands self.new.stack.items x
-            → Stands self.old.stack.items x ⊎ Any (λ counting. counting.rule ≡ x) rules.now) }
+            → StandsInList self.new.stack.items (slice_index_or rules.now k d).rule) }
+        ensures only { IfOk result (λ end. (x : ℕ) → StandsInList self.new.stack.items x
+            → StandsInList self.old.stack.items x ⊎ Any (λ counting. counting.rule ≡ x) rules.now) }
         ensures waiting { self.new.waiting.items ≡ self.old.waiting.items }
         ensures places { self.new.places.items ≡ self.old.places.items }
     {

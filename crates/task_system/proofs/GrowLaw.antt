@@ -11,7 +11,7 @@ use Rattle.symk_task.specs.declared.parts.Mode.{Mode}
 use Rattle.symk_task.specs.declared.parts.Mode.TheVariants.{TopK, Loopless, Unordered}
 use Rattle.symk_task.specs.Plans.{Same, IsListed}
 use Rattle.task_system.specs.Lists.{IsAmong, IsRightList}
-use Rattle.task_system.specs.System.{System, cost_of, IsPlanOf, IsRight}
+use Rattle.task_system.specs.System.{System, cost_in_system, IsSystemPlanOf, IsRightOfSystem}
 
 slice_get_left : {X : Type 0} (xs : List X) (x : X) (i : ℕ) → i < length xs → slice_get (xs ++ x ∷ []) i ≡ slice_get xs i
 slice_get_left [] x i lt = absurd (omega arith)
@@ -97,7 +97,8 @@ same_flip Loopless p q h = sym h
 same_flip Unordered p q h = (λ a. sym (h a))
 
 -- a right list of a system grows by its cheapest plan that isn't listed
-pub grow_law : (system : System) (mode : Mode) (plans : List (List ℕ)) (p : List ℕ) → IsRight system mode plans
-    → IsPlanOf system mode p → ¬ IsListed mode plans p
-    → ((q : List ℕ) → IsPlanOf system mode q → cost_of system q < cost_of system p → IsListed mode plans q) → IsRight system mode (plans ++ p ∷ [])
-grow_law system mode plans p = more_right (IsPlanOf system mode) (Same mode) (cost_of system) (same_flip mode) plans p
+pub grow_law : (system : System) (mode : Mode) (plans : List (List ℕ)) (p : List ℕ) → IsRightOfSystem system mode plans
+    → IsSystemPlanOf system mode p → ¬ IsListed mode plans p
+    → ((q : List ℕ) → IsSystemPlanOf system mode q → cost_in_system system q < cost_in_system system p
+    → IsListed mode plans q) → IsRightOfSystem system mode (plans ++ p ∷ [])
+grow_law system mode plans p = more_right (IsSystemPlanOf system mode) (Same mode) (cost_in_system system) (same_flip mode) plans p

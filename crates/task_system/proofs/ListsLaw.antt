@@ -8,7 +8,7 @@ use Rattle.symk_task.specs.Plans as meaning
 use Rattle.symk_task.specs.Plans.{Same}
 use Rattle.symk_task.specs.Fits.{Fits}
 use Rattle.task_system.specs.Lists.{IsAmong, IsRightList}
-use Rattle.task_system.specs.System.{cost_of, IsPlanOf, IsRight, AllListed, AllInRange, HasDearer}
+use Rattle.task_system.specs.System.{cost_in_system, IsSystemPlanOf, IsRightOfSystem, AllSystemPlansListed, AllSystemPlansInRange, HasDearerSystemPlan}
 use Rattle.task_system.specs.Computed.{system_of}
 use Rattle.task_system.proofs.RunsLaw.{cost_law}
 use Rattle.task_system.proofs.TraceLaw.{mode_law}
@@ -45,29 +45,31 @@ right_form task mode plans = (
 )
 
 -- the law of right lists
-pub right_law : (task : TaskParts) (mode : Mode) (plans : List (List ℕ)) → Fits task → IsRight (system_of task) mode plans ↔ meaning.IsRight task mode plans
+pub right_law : (task : TaskParts) (mode : Mode) (plans : List (List ℕ)) → Fits task
+    → IsRightOfSystem (system_of task) mode plans ↔ meaning.IsRight task mode plans
 right_law task mode plans fits =
     let f = right_form task mode plans in (
-      (λ h. f.1 (right_as (IsPlanOf (system_of task) mode) (meaning.IsPlanOf task mode) (Same mode) (cost_of (system_of task)) (meaning.cost_of task)
+      (λ h. f.1 (right_as (IsSystemPlanOf (system_of task) mode) (meaning.IsPlanOf task mode) (Same mode)
+          (cost_in_system (system_of task)) (meaning.cost_of task)
           (λ p. (mode_law task mode p fits).0) (λ p. (mode_law task mode p fits).1) (cost_law task) plans h)),
-      (λ h. right_as (meaning.IsPlanOf task mode) (IsPlanOf (system_of task) mode) (Same mode) (meaning.cost_of task) (cost_of (system_of task))
+      (λ h. right_as (meaning.IsPlanOf task mode) (IsSystemPlanOf (system_of task) mode) (Same mode) (meaning.cost_of task) (cost_in_system (system_of task))
           (λ p. (mode_law task mode p fits).1) (λ p. (mode_law task mode p fits).0) (λ p. sym (cost_law task p)) plans (f.0 h)),
     )
 
 -- The laws of the ends.
 
 pub listed_law : (task : TaskParts) (mode : Mode) (plans : List (List ℕ)) → Fits task
-    → AllListed (system_of task) mode plans ↔ meaning.AllListed task mode plans
+    → AllSystemPlansListed (system_of task) mode plans ↔ meaning.AllListed task mode plans
 listed_law task mode plans fits = ((λ h p is. h p ((mode_law task mode p fits).1 is)), (λ h p is. h p ((mode_law task mode p fits).0 is)))
 
 pub range_law : (task : TaskParts) (mode : Mode) (plans : List (List ℕ)) → Fits task
-    → AllInRange (system_of task) mode plans ↔ meaning.AllInRange task mode plans
+    → AllSystemPlansInRange (system_of task) mode plans ↔ meaning.AllInRange task mode plans
 range_law task mode plans fits = (
   (λ h p is lt. h p ((mode_law task mode p fits).1 is) (subst (λ (n : ℕ). n < 2 ^ 64) (sym (cost_law task p)) lt)),
   (λ h p is lt. h p ((mode_law task mode p fits).0 is) (subst (λ (n : ℕ). n < 2 ^ 64) (cost_law task p) lt)),
 )
 
-pub dearer_law : (task : TaskParts) (mode : Mode) → Fits task → HasDearer (system_of task) mode ↔ meaning.HasDearer task mode
+pub dearer_law : (task : TaskParts) (mode : Mode) → Fits task → HasDearerSystemPlan (system_of task) mode ↔ meaning.HasDearer task mode
 dearer_law task mode fits = (
   (λ h. (h.0, (mode_law task mode h.0 fits).0 h.1, subst (λ (n : ℕ). 2 ^ 64 ≤ n) (cost_law task h.0) h.2)),
   (λ h. (h.0, (mode_law task mode h.0 fits).1 h.1, subst (λ (n : ℕ). 2 ^ 64 ≤ n) (sym (cost_law task h.0)) h.2)),

@@ -10,7 +10,7 @@ use Rattle.symk_task.specs.Fits.{Fits}
 use Rattle.symk_task.proofs.Places.{within_some}
 use Rattle.symk_task.proofs.Running.{step_state}
 use Rattle.symk_task.proofs.Starting.{start_law, one_initial}
-use Rattle.task_system.specs.System.{State, Listed, Leads, Runs, cost_of, IsPlan}
+use Rattle.task_system.specs.System.{State, Listed, Leads, RunsInSystem, cost_in_system, IsSystemPlan}
 use Rattle.task_system.specs.Computed.{system_of}
 use Rattle.task_system.proofs.StepLaw.{step_law, goal_law}
 use Rattle.task_system.proofs.StatesLaw.{states_law}
@@ -38,7 +38,7 @@ leads_listed task s a t fits from h =
     (states_law task t).0 (step_state task s a t fits state ((leads_law task s a t fits state).0 h))
 
 -- the runs law
-pub runs_law : (task : TaskParts) (p : List ℕ) (s t : List ℕ) → Fits task → IsState task s → Runs (system_of task) s p t ↔ meaning.Runs task s p t
+pub runs_law : (task : TaskParts) (p : List ℕ) (s t : List ℕ) → Fits task → IsState task s → RunsInSystem (system_of task) s p t ↔ meaning.Runs task s p t
 unfolding meaning.Runs
 runs_law task [] s t fits state = ((λ e. e), (λ e. e))
 runs_law task (a ∷ p) s t fits state = (
@@ -47,7 +47,7 @@ runs_law task (a ∷ p) s t fits state = (
 )
 
 -- the plan law
-pub plan_law : (task : TaskParts) (p : List ℕ) → Fits task → IsPlan (system_of task) p ↔ meaning.IsPlan task p
+pub plan_law : (task : TaskParts) (p : List ℕ) → Fits task → IsSystemPlan (system_of task) p ↔ meaning.IsPlan task p
 plan_law task p fits =
     let first : State = (system_of task).initial in
     let i = start_law task fits in (
@@ -58,6 +58,6 @@ plan_law task p fits =
     )
 
 -- the cost law
-pub cost_law : (task : TaskParts) (p : List ℕ) → cost_of (system_of task) p ≡ meaning.cost_of task p
+pub cost_law : (task : TaskParts) (p : List ℕ) → cost_in_system (system_of task) p ≡ meaning.cost_of task p
 cost_law task [] = refl
 cost_law task (a ∷ p) = ap (λ (z : ℕ). cost_at task a + z) (cost_law task p) ∙ sym (sum_by-cons (λ (x : ℕ). x) (cost_at task a) (map (cost_at task) p))

@@ -10,7 +10,7 @@ use Rattle.symk_task.specs.Plans.{Trace, AllDifferent}
 use Rattle.symk_task.specs.Fits.{Fits}
 use Rattle.symk_task.proofs.Running.{step_state, trace_runs}
 use Rattle.symk_task.proofs.Starting.{start_law, one_initial}
-use Rattle.task_system.specs.System.{State, Runs, next_state, trace, IsPlanOf}
+use Rattle.task_system.specs.System.{State, RunsInSystem, next_state, trace, IsSystemPlanOf}
 use Rattle.task_system.specs.Computed.{system_of}
 use Rattle.task_system.proofs.StepLaw.{step_law}
 use Rattle.task_system.proofs.RunsLaw.{runs_law, plan_law}
@@ -40,14 +40,14 @@ is_trace task (a ∷ p) s t fits state (next, first, rest) =
 
 -- the trace law
 pub trace_law : (task : TaskParts) (p s : List ℕ) (passed : List (List ℕ)) → Fits task → IsState task s
-    → Trace task s p passed ↔ (((t : State) × Runs (system_of task) s p t) × (passed ≡ trace (system_of task) s p))
+    → Trace task s p passed ↔ (((t : State) × RunsInSystem (system_of task) s p t) × (passed ≡ trace (system_of task) s p))
 trace_law task p s passed fits state = (
   (λ h. let r = trace_runs task p s passed h in ((r.0, (runs_law task p s r.0 fits state).1 r.1), trace_is task p s passed fits state h)),
   (λ h. subst (Trace task s p) (sym h.1) (is_trace task p s h.0.0 fits state ((runs_law task p s h.0.0 fits state).0 h.0.1))),
 )
 
 -- the plan law of each mode
-pub mode_law : (task : TaskParts) (mode : Mode) (p : List ℕ) → Fits task → IsPlanOf (system_of task) mode p ↔ meaning.IsPlanOf task mode p
+pub mode_law : (task : TaskParts) (mode : Mode) (p : List ℕ) → Fits task → IsSystemPlanOf (system_of task) mode p ↔ meaning.IsPlanOf task mode p
 mode_law task TopK p fits = plan_law task p fits
 mode_law task Unordered p fits = plan_law task p fits
 mode_law task Loopless p fits =

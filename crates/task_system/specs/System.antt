@@ -30,9 +30,9 @@ pub record Leads (system : System) (a : ℕ) (s t : State) : Type 0 where
   pub step : system.step a s ≡ Some t
 
 -- the operators lead from one state to the other
-abbrev pub Runs : System → State → List ℕ → State → Type 0
-Runs system s [] t = s ≡ t
-Runs system s (a ∷ p) t = (next : State) × Leads system a s next × Runs system next p t
+abbrev pub RunsInSystem : System → State → List ℕ → State → Type 0
+RunsInSystem system s [] t = s ≡ t
+RunsInSystem system s (a ∷ p) t = (next : State) × Leads system a s next × RunsInSystem system next p t
 
 -- where the operator leads; the same state where it doesn't apply
 abbrev pub next_state : System → ℕ → State → State
@@ -44,19 +44,19 @@ trace system s [] = s ∷ []
 trace system s (a ∷ p) = s ∷ trace system (next_state system a s) p
 
 -- what the operators cost together
-abbrev pub cost_of : System → List ℕ → ℕ
-cost_of system [] = 0
-cost_of system (a ∷ p) = system.cost a + cost_of system p
+abbrev pub cost_in_system : System → List ℕ → ℕ
+cost_in_system system [] = 0
+cost_in_system system (a ∷ p) = system.cost a + cost_in_system system p
 
 -- the operators lead from the initial state to one where the goal holds
-abbrev pub IsPlan : System → List ℕ → Type 0
-IsPlan system p = (t : State) × Runs system system.initial p t × IsTrue (system.goal t)
+abbrev pub IsSystemPlan : System → List ℕ → Type 0
+IsSystemPlan system p = (t : State) × RunsInSystem system system.initial p t × IsTrue (system.goal t)
 
 -- the plans of a mode
-abbrev pub IsPlanOf : System → Mode → List ℕ → Type 0
-IsPlanOf system TopK p = IsPlan system p
-IsPlanOf system Unordered p = IsPlan system p
-IsPlanOf system Loopless p = IsPlan system p × AllDifferent (trace system system.initial p)
+abbrev pub IsSystemPlanOf : System → Mode → List ℕ → Type 0
+IsSystemPlanOf system TopK p = IsSystemPlan system p
+IsSystemPlanOf system Unordered p = IsSystemPlan system p
+IsSystemPlanOf system Loopless p = IsSystemPlan system p × AllDifferent (trace system system.initial p)
 
 -- whether two lists are equal
 abbrev pub are_equal : List ℕ → List ℕ → Bool
@@ -72,17 +72,17 @@ same Loopless p q = are_equal p q
 same Unordered p q = list_all (λ a. count_by (λ b. a == b) p == count_by (λ b. a == b) q) (p ++ q)
 
 -- the cheapest plans of a mode, each once, by cost
-abbrev pub IsRight : System → Mode → List (List ℕ) → Type 0
-IsRight system mode plans = IsRightList (IsPlanOf system mode) (Same mode) (cost_of system) plans
+abbrev pub IsRightOfSystem : System → Mode → List (List ℕ) → Type 0
+IsRightOfSystem system mode plans = IsRightList (IsSystemPlanOf system mode) (Same mode) (cost_in_system system) plans
 
 -- each plan of the mode counts as one with a member
-abbrev pub AllListed : System → Mode → List (List ℕ) → Type 0
-AllListed system mode plans = AreAllAmong (IsPlanOf system mode) (Same mode) plans
+abbrev pub AllSystemPlansListed : System → Mode → List (List ℕ) → Type 0
+AllSystemPlansListed system mode plans = AreAllAmong (IsSystemPlanOf system mode) (Same mode) plans
 
 -- each plan of the mode whose cost 64 bits hold counts as one with a member
-abbrev pub AllInRange : System → Mode → List (List ℕ) → Type 0
-AllInRange system mode plans = AreAllBelow (IsPlanOf system mode) (Same mode) (cost_of system) (2 ^ 64) plans
+abbrev pub AllSystemPlansInRange : System → Mode → List (List ℕ) → Type 0
+AllSystemPlansInRange system mode plans = AreAllBelow (IsSystemPlanOf system mode) (Same mode) (cost_in_system system) (2 ^ 64) plans
 
 -- a plan of the mode costs more than 64 bits hold
-abbrev pub HasDearer : System → Mode → Type 0
-HasDearer system mode = HasPlanFrom (IsPlanOf system mode) (cost_of system) (2 ^ 64)
+abbrev pub HasDearerSystemPlan : System → Mode → Type 0
+HasDearerSystemPlan system mode = HasPlanFrom (IsSystemPlanOf system mode) (cost_in_system system) (2 ^ 64)

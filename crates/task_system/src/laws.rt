@@ -10,7 +10,7 @@ ghost use Rattle.symk_task.specs.Plans.{IsInitial, Trace, AllDifferent, Same, Is
 ghost use Rattle.symk_task.specs.Fits.{Fits};
 ghost use Rattle.task_run.specs.Values.{Valued};
 ghost use Rattle.task_system.specs.Lists.{IsRightList};
-ghost use Rattle.task_system.specs.System.{State, System, Listed, Leads, Runs, trace, cost_of, IsPlanOf, same, IsRight, AllListed, AllInRange, HasDearer};
+ghost use Rattle.task_system.specs.System.{State, System, Listed, Leads, RunsInSystem, trace, cost_in_system, IsSystemPlanOf, same, IsRightOfSystem, AllSystemPlansListed, AllSystemPlansInRange, HasDearerSystemPlan};
 ghost use Rattle.task_system.specs.Computed.{values_in, system_of};
 
 /// What a task says is said once: it has one initial state, a step leads to one state, a run has one end and passes one
@@ -60,12 +60,13 @@ pub fn states_are_all()
 /// Runs, the states that they pass, plans of each mode and costs are the same in the system and in the task.
 pub fn plans_are_the_tasks()
     ensures runs { (task : TaskParts) (p : List ℕ) (s t : State) → Fits task → IsState task s →
-        Runs (system_of task) s p t ↔ meaning.Runs task s p t }
+        RunsInSystem (system_of task) s p t ↔ meaning.Runs task s p t }
     ensures traces { (task : TaskParts) (p : List ℕ) (s : State) (passed : List State) → Fits task → IsState task s →
-        Trace task s p passed ↔ (((t : State) × Runs (system_of task) s p t) × (passed ≡ trace (system_of task) s p)) }
+        Trace task s p passed ↔ (((t : State) × RunsInSystem (system_of task) s p t)
+        × (passed ≡ trace (system_of task) s p)) }
     ensures plans { (task : TaskParts) (mode : Mode) (p : List ℕ) → Fits task →
-        IsPlanOf (system_of task) mode p ↔ meaning.IsPlanOf task mode p }
-    ensures costs { (task : TaskParts) (p : List ℕ) → cost_of (system_of task) p ≡ meaning.cost_of task p }
+        IsSystemPlanOf (system_of task) mode p ↔ meaning.IsPlanOf task mode p }
+    ensures costs { (task : TaskParts) (p : List ℕ) → cost_in_system (system_of task) p ≡ meaning.cost_of task p }
 {}
 
 /// The test tells which plans count as one.
@@ -77,7 +78,7 @@ pub fn same_tells_which_count_as_one()
 /// counts as a plan and whatever it costs, and the task's own definition is that one for its plans and costs.
 pub fn right_lists_are_the_tasks()
     ensures right { (task : TaskParts) (mode : Mode) (plans : List (List ℕ)) → Fits task →
-        IsRight (system_of task) mode plans ↔ meaning.IsRight task mode plans }
+        IsRightOfSystem (system_of task) mode plans ↔ meaning.IsRight task mode plans }
     ensures one_definition { (task : TaskParts) (mode : Mode) (plans : List (List ℕ)) →
         meaning.IsRight task mode plans ↔
         IsRightList (meaning.IsPlanOf task mode) (Same mode) (meaning.cost_of task) plans }
@@ -86,20 +87,21 @@ pub fn right_lists_are_the_tasks()
 /// The empty list is right. A right list stays so when a plan is added that counts as one with no member, where each
 /// cheaper plan counts as one with a member.
 pub fn right_lists_grow()
-    ensures none { (system : System) (mode : Mode) → IsRight system mode [] }
+    ensures none { (system : System) (mode : Mode) → IsRightOfSystem system mode [] }
     ensures more { (system : System) (mode : Mode) (plans : List (List ℕ)) (p : List ℕ) →
-        IsRight system mode plans → IsPlanOf system mode p → ¬ IsListed mode plans p →
-        ((q : List ℕ) → IsPlanOf system mode q → cost_of system q < cost_of system p → IsListed mode plans q) →
-        IsRight system mode (plans ++ p ∷ []) }
+        IsRightOfSystem system mode plans → IsSystemPlanOf system mode p → ¬ IsListed mode plans p →
+        ((q : List ℕ) → IsSystemPlanOf system mode q → cost_in_system system q < cost_in_system system p
+        → IsListed mode plans q) →
+        IsRightOfSystem system mode (plans ++ p ∷ []) }
 {}
 
 /// A list has all plans of the system where it has all of the task, and likewise those whose cost 64 bits hold. A
 /// dearer plan of the one is a dearer plan of the other.
 pub fn ends_are_the_tasks()
     ensures all_listed { (task : TaskParts) (mode : Mode) (plans : List (List ℕ)) → Fits task →
-        AllListed (system_of task) mode plans ↔ meaning.AllListed task mode plans }
+        AllSystemPlansListed (system_of task) mode plans ↔ meaning.AllListed task mode plans }
     ensures all_in_range { (task : TaskParts) (mode : Mode) (plans : List (List ℕ)) → Fits task →
-        AllInRange (system_of task) mode plans ↔ meaning.AllInRange task mode plans }
+        AllSystemPlansInRange (system_of task) mode plans ↔ meaning.AllInRange task mode plans }
     ensures dearer { (task : TaskParts) (mode : Mode) → Fits task →
-        HasDearer (system_of task) mode ↔ meaning.HasDearer task mode }
+        HasDearerSystemPlan (system_of task) mode ↔ meaning.HasDearer task mode }
 {}

@@ -4,7 +4,7 @@ use Rattle.std.proofs.lemmas.List.{take-append-drop, length-take-le, length-drop
 use Rattle.bdd_table.specs.declared.node.Node.{Node}
 use Rattle.var_order.specs.Layout.{Layout}
 use Rattle.transitions.specs.declared.relations.Relation.{Relation}
-use Rattle.trans_merge.specs.Merging.{JoinsBoth, StayApart, Combines, AreHalves}
+use Rattle.trans_merge.specs.Merging.{JoinsBoth, StayApart, Combines, AreRelationHalves}
 
 some_by : (found : Option Relation) (P Q R : Relation → Type 0) → IfSome found P → IfSome found Q → ((x : Relation) → P x → Q x → R x) → IfSome found R
 some_by None P Q R p q f = tt
@@ -52,7 +52,7 @@ combines_apart {ls} {rs} {left} {right} {results} {found} o old new bound e same
 -- a list cut in the middle
 pub record Halves (xs first second : List Relation) : Type 0 where
   pub whole : first ++ second ≡ xs
-  pub are : AreHalves first second
+  pub are : AreRelationHalves first second
   pub fewer : length second < length xs
 
 pub halves_of : (xs first second : List Relation) (n half : ℕ) → n ≡ length xs → 2 ≤ n → half ≡ n / 2

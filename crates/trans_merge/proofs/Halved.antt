@@ -6,7 +6,7 @@ use Rattle.bdd_table.specs.declared.node.Node.{Node}
 use Rattle.bdd_table.specs.Diagram.{IsReduced, Keeps}
 use Rattle.var_order.specs.Layout.{Layout}
 use Rattle.transitions.specs.declared.relations.Relation.{Relation}
-use Rattle.trans_merge.specs.Merging.{IsRelation, IsJoined, IsHalved, AreHalves, StayApart, Combines}
+use Rattle.trans_merge.specs.Merging.{IsRelation, IsJoined, IsHalved, AreRelationHalves, StayApart, Combines}
 use Rattle.trans_merge.specs.Merging.IsHalved.{nothing, single, joins, apart}
 use Rattle.axiom_layers.proofs.RootValues.{keeps_itself}
 use Rattle.trans_merge.proofs.Reaching.{at_most_kept, at_most_before}
@@ -87,7 +87,7 @@ module _ (o : Layout) where
           (apart_kept xs ys ro rn k k (halved_all old left xs one first) (halved_all old right ys two second) stay)
 
       -- two halves as one list
-      pub halved_combined : (left right xs ys results : List Relation) → AreHalves left right
+      pub halved_combined : (left right xs ys results : List Relation) → AreRelationHalves left right
           → All (IsRelation o old) left → All (IsRelation o old) right → IsHalved o bound old left xs
           → IsHalved o bound old right ys → Combines o old xs ys bound new results
           → IsHalved o bound new (left ++ right) results

@@ -7,3 +7,13 @@ pub mod Visiting
 pub mod Merged
 pub mod Found
 pub mod Halved
+pub mod Imaging
+pub mod Uniting
+pub mod Moving
+pub mod Kept
+pub mod Rooting
+pub mod OfCost
+pub mod Appended
+pub mod Copied
+pub mod Halving
+pub mod Answering

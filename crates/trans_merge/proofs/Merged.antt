@@ -6,11 +6,11 @@ use Rattle.bdd_table.specs.declared.node.Node.{Node}
 use Rattle.bdd_table.specs.Diagram.{Bits, means, IsReduced, Keeps}
 use Rattle.var_order.specs.Layout.{Layout}
 use Rattle.transitions.specs.declared.relations.Relation.{Relation}
-use Rattle.transitions.specs.Ready.{IsReady}
+use Rattle.transitions.specs.Ready.{IsReadyRelation}
 use Rattle.transitions.specs.Relations.{Connects, Relates}
 use Rattle.transitions.proofs.Using.{steps_alike, steps_of_relates}
 use Rattle.trans_merge.specs.Size.{HasAtMost}
-use Rattle.trans_merge.specs.Merging.{IsRelation, Leads, SomeLeads, IsJoined, IsMerged, Merges, Combines}
+use Rattle.trans_merge.specs.Merging.{IsRelation, LeadsByRelation, SomeLeads, IsJoined, IsMerged, Merges, Combines}
 use Rattle.trans_merge.specs.Merging.Merges.{none, more}
 use Rattle.trans_merge.proofs.Reaching.{at_most_kept}
 
@@ -69,7 +69,7 @@ all_and P (y ∷ xs) x h is (suc i) d lt = all_and P xs x (λ j e less. h (suc j
 
 module _ (o : Layout) where
   -- what relates states is a set of steps
-  pub related : (nodes : List Node) (r : Relation) (R : List ℕ → List ℕ → Type 0) → r.root < length nodes → IsReady r
+  pub related : (nodes : List Node) (r : Relation) (R : List ℕ → List ℕ → Type 0) → r.root < length nodes → IsReadyRelation r
       → Relates o r.touched.items R (means nodes r.root) → IsRelation o nodes r
   related nodes r R known ready relates = record { known = known; ready = ready; steps = steps_of_relates o r.touched.items R (means nodes r.root) relates }
 
@@ -89,7 +89,8 @@ module _ (o : Layout) where
   one_kept old new rs i r k all lt is = relation_kept old new r k (subst (λ (x : Relation). IsRelation o old x) (sym is) (all i r lt))
 
   -- the steps are those that they were
-  pub leads_kept : (old new : List Node) (r : Relation) (s t : List ℕ) → Keeps old new → r.root < length old → Leads o old s t r ↔ Leads o new s t r
+  pub leads_kept : (old new : List Node) (r : Relation) (s t : List ℕ) → Keeps old new → r.root < length old
+      → LeadsByRelation o old s t r ↔ LeadsByRelation o new s t r
   leads_kept old new r s t k known = connects_alike o r.touched.items (means old r.root) (means new r.root) s t (λ b. k.meaning r.root b known)
 
   pub some_append : (nodes : List Node) (s t : List ℕ) (xs ys : List Relation) → SomeLeads o nodes s t (xs ++ ys)

@@ -1,14 +1,14 @@
 -- What an Id reaches stays the same as the table grows.
 use Rattle.std.proofs.Common.{ℕ, zero, suc, ◌<◌, List, [], ◌∷◌, length, slice_index, sym, ap, subst, arith}
 use Rattle.bdd_table.specs.declared.node.Node.{Node}
-use Rattle.bdd_table.specs.Diagram.{IsReduced, Grows, Keeps}
+use Rattle.bdd_table.specs.Diagram.{IsReduced, GrowsTable, Keeps}
 use Rattle.bdd_table.specs.Collected.{Reaches, AreReached}
 use Rattle.bdd_table.specs.Collected.Reaches.{root, lo, hi}
 use Rattle.bdd_table.proofs.Adding.{lo_known, hi_known}
 use Rattle.trans_merge.specs.Size.{HasAtMost}
 use Rattle.bdd_table.proofs.Growing.{kept_grows}
 
-module _ (old new : List Node) (ro : IsReduced old) (g : Grows old new) (roots : List ℕ)
+module _ (old new : List Node) (ro : IsReduced old) (g : GrowsTable old new) (roots : List ℕ)
     (known : (i : ℕ) → i < length roots → slice_index roots i < length old) where
   reached_there : (id : ℕ) → Reaches old roots id → (id < length old) × Reaches new roots id
   reached_there _ (root i h) = (known i h, root i h)

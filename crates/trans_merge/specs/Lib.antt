@@ -1,3 +1,10 @@
 pub mod Size
 pub mod Widened
 pub mod Merging
+pub mod Steps
+pub mod Gathered
+pub mod Relations
+pub mod Roots
+pub mod Asked
+pub mod Copies
+pub mod Halves

@@ -5,7 +5,7 @@ use Rattle.bdd_table.specs.Diagram.{Bits, means}
 use Rattle.var_order.specs.Layout.{Layout}
 use Rattle.var_order.specs.Codes.{IsStateOf}
 use Rattle.transitions.specs.declared.relations.Relation.{Relation}
-use Rattle.transitions.specs.Ready.{IsReady}
+use Rattle.transitions.specs.Ready.{IsReadyRelation}
 use Rattle.transitions.specs.Relations.{Connects, IsStepSet, Successor, Predecessor}
 use Rattle.trans_merge.specs.Size.{HasAtMost}
 use Rattle.trans_merge.specs.Widened.{united}
@@ -13,17 +13,17 @@ use Rattle.trans_merge.specs.Widened.{united}
 -- the relation is known to the table and is a set of steps
 pub record IsRelation (o : Layout) (nodes : List Node) (r : Relation) : Type 0 where
   pub known : r.root < length nodes
-  pub ready : IsReady r
+  pub ready : IsReadyRelation r
   pub steps : IsStepSet o r.touched.items (means nodes r.root)
 
 -- the relation has a step from one state to the other
-abbrev pub Leads : Layout → List Node → List ℕ → List ℕ → Relation → Type 0
-Leads o nodes s t r = Connects o r.touched.items (means nodes r.root) s t
+abbrev pub LeadsByRelation : Layout → List Node → List ℕ → List ℕ → Relation → Type 0
+LeadsByRelation o nodes s t r = Connects o r.touched.items (means nodes r.root) s t
 
 -- some relation of the list has a step from one state to the other
 abbrev pub SomeLeads : Layout → List Node → List ℕ → List ℕ → List Relation → Type 0
 SomeLeads o nodes s t [] = ⊥
-SomeLeads o nodes s t (r ∷ rs) = Leads o nodes s t r ⊎ SomeLeads o nodes s t rs
+SomeLeads o nodes s t (r ∷ rs) = LeadsByRelation o nodes s t r ⊎ SomeLeads o nodes s t rs
 
 -- some relation of the list leads to the state from a member of the set
 abbrev pub SomeSuccessor : Layout → List Node → (Bits → Bool) → List ℕ → List Relation → Type 0
@@ -39,14 +39,14 @@ SomePredecessor o nodes set s (r ∷ rs) = Predecessor o r.touched.items (means 
 pub record IsJoined (o : Layout) (old : List Node) (a b : Relation) (new : List Node) (r : Relation) : Type 0 where
   pub relation : IsRelation o new r
   pub touched : r.touched.items ≡ united o a.touched.items b.touched.items
-  pub leads : (s t : List ℕ) → IsStateOf o s → IsStateOf o t → Leads o new s t r ↔ (Leads o old s t a ⊎ Leads o old s t b)
+  pub leads : (s t : List ℕ) → IsStateOf o s → IsStateOf o t → LeadsByRelation o new s t r ↔ (LeadsByRelation o old s t a ⊎ LeadsByRelation o old s t b)
 
 -- The relation, in the new list, has the steps of the members in the old, and no others. If it is made of two or more, it has
 -- at most so many nodes.
 pub record IsMerged (o : Layout) (bound : ℕ) (old new : List Node) (members : List Relation) (r : Relation) : Type 0 where
   pub relation : IsRelation o new r
   pub some : 1 ≤ length members
-  pub leads : (s t : List ℕ) → IsStateOf o s → IsStateOf o t → Leads o new s t r ↔ SomeLeads o old s t members
+  pub leads : (s t : List ℕ) → IsStateOf o s → IsStateOf o t → LeadsByRelation o new s t r ↔ SomeLeads o old s t members
   pub alone : (m : Relation) → members ≡ m ∷ [] → r ≡ m
   pub within : 2 ≤ length members → HasAtMost new r.root bound
 
@@ -74,7 +74,7 @@ Combines o old left right bound new results =
     ⊎ ((results ≡ left ++ right) × StayApart o old left right bound new)
 
 -- the first part has half of all, rounded down, and there are two at least
-pub record AreHalves (left right : List Relation) : Type 0 where
+pub record AreRelationHalves (left right : List Relation) : Type 0 where
   pub some : 1 ≤ length left
   pub half : length left ≡ (length left + length right) / 2
 
@@ -84,5 +84,10 @@ pub record AreHalves (left right : List Relation) : Type 0 where
 pub data IsHalved (o : Layout) (bound : ℕ) (nodes : List Node) : List Relation → List Relation → Type 0 where
   nothing : IsHalved o bound nodes [] []
   single : (r : Relation) → IsHalved o bound nodes (r ∷ []) (r ∷ [])
-  joins : (left right : List Relation) (a b joined : Relation) → AreHalves left right → IsHalved o bound nodes left (a ∷ []) → IsHalved o bound nodes right (b ∷ []) → IsJoined o nodes a b nodes joined → HasAtMost nodes joined.root bound → IsHalved o bound nodes (left ++ right) (joined ∷ [])
-  apart : (left right xs ys : List Relation) → AreHalves left right → IsHalved o bound nodes left xs → IsHalved o bound nodes right ys → StayApart o nodes xs ys bound nodes → IsHalved o bound nodes (left ++ right) (xs ++ ys)
+  joins : (left right : List Relation) (a b joined : Relation) → AreRelationHalves left right
+      → IsHalved o bound nodes left (a ∷ []) → IsHalved o bound nodes right (b ∷ [])
+      → IsJoined o nodes a b nodes joined → HasAtMost nodes joined.root bound
+      → IsHalved o bound nodes (left ++ right) (joined ∷ [])
+  apart : (left right xs ys : List Relation) → AreRelationHalves left right → IsHalved o bound nodes left xs
+      → IsHalved o bound nodes right ys → StayApart o nodes xs ys bound nodes
+      → IsHalved o bound nodes (left ++ right) (xs ++ ys)

@@ -10,7 +10,7 @@ use Rattle.task_run.proofs.Effects.{changed, unchanged, one_more}
 use Rattle.bdd_table.specs.Diagram.{Bits}
 use Rattle.var_order.specs.declared.block.Block.{Block}
 use Rattle.var_order.specs.Layout.{Layout, IsOrderOf, IsInside, block_at, block_of, level_at}
-use Rattle.var_order.specs.Codes.{number, value_of}
+use Rattle.var_order.specs.Codes.{number, spelt_value}
 use Rattle.var_order.proofs.Spelling.{number_below}
 use Rattle.var_order.proofs.Values.{base_block}
 use Rattle.transitions.specs.NextValues.{agree, EffectTurn, IsNextValue, Arrives}
@@ -44,9 +44,9 @@ stays_more b p (suc w) below h =
 
 -- no effects: the value stays
 pub next_start : (task : TaskParts) (o : Layout) (var : ℕ) (s : List ℕ) (b : Bits) (t : Bool)
-    → value_of o 0 b var ≡ get_or s (place task var) 0 → t ≡ (value_of o 1 b var == value_of o 0 b var)
+    → spelt_value o 0 b var ≡ get_or s (place task var) 0 → t ≡ (spelt_value o 1 b var == spelt_value o 0 b var)
     → IsNextValue task o [] var s b t
-next_start task o var s b t code e = (get_or s (place task var) 0, inr (tt, refl), e ∙ ap (λ (z : ℕ). value_of o 1 b var == z) code)
+next_start task o var s b t code e = (get_or s (place task var) 0, inr (tt, refl), e ∙ ap (λ (z : ℕ). spelt_value o 1 b var == z) code)
 
 -- one more effect
 pub next_more : {es : List Effect} {i : ℕ} {e : Effect} (task : TaskParts) (o : Layout) (var : ℕ) (s : List ℕ)
@@ -68,7 +68,7 @@ next_more {es} {i} {e} task o var s b t u at (new, after, k) (inr (idle, m)) = (
 -- where it fires, the next bits must spell the effect's value; elsewhere what they had to spell before
 pub record IsChoice (o : Layout) (e : Effect) (var : ℕ) (b : Bits) (fires old new : Bool) : Type 0 where
   pub post : Bool
-  pub is : post ≡ (value_of o 1 b var == e.post)
+  pub is : post ≡ (spelt_value o 1 b var == e.post)
   pub chosen : new ≡ cond fires post old
 
 -- what a choice by the effect's conditions gives
@@ -81,12 +81,12 @@ effect_chosen task s false on fires choice = inr ((λ _ f. true≢false (sym (fi
 -- the diagram of a next value is true where the next bits spell it
 pub arrives : (task : TaskParts) (o : Layout) (es : List Effect) (var : ℕ) (s : List ℕ) (b : Bits) (t : Bool)
     → IsNextValue task o es var s b t → t ≡ true → Arrives task o es var s b
-arrives task o es var s b t (value, after, e) h = (value, after, eqb-true (value_of o 1 b var) value (sym e ∙ h))
+arrives task o es var s b t (value, after, e) h = (value, after, eqb-true (spelt_value o 1 b var) value (sym e ∙ h))
 
 pub arrived : (task : TaskParts) (o : Layout) (es : List Effect) (var : ℕ) (s : List ℕ) (b : Bits) (t : Bool)
     → IsNextValue task o es var s b t → Arrives task o es var s b → t ≡ true
 arrived task o es var s b t (value, after, e) (other, also, is) =
-    e ∙ eq-eqb (value_of o 1 b var) value (is ∙ value_one (Fires task s) es var (get_or s (place task var) 0) other value also after)
+    e ∙ eq-eqb (spelt_value o 1 b var) value (is ∙ value_one (Fires task s) es var (get_or s (place task var) 0) other value also after)
 
 -- the bits of a base variable stand at early places
 pub base_room : (task : TaskParts) (o : Layout) (var : ℕ) (block : Block) → IsOrderOf task o → IsBase task var

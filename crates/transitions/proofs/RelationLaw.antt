@@ -13,7 +13,7 @@ use Rattle.symk_task.proofs.Running.{fits_operator, step_state}
 use Rattle.bdd_table.specs.Diagram.{Bits}
 use Rattle.var_order.specs.declared.block.Block.{Block}
 use Rattle.var_order.specs.Layout.{Layout, IsOrderOf, block_at, level_at}
-use Rattle.var_order.specs.Codes.{number, value_at, value_of, IsCode, IsStateOf}
+use Rattle.var_order.specs.Codes.{number, value_at, spelt_value, IsCode, IsStateOf}
 use Rattle.var_order.proofs.Coding.{coded}
 use Rattle.var_order.proofs.Laying.{state_of, of_state}
 use Rattle.var_order.proofs.Spelling.{number_same}
@@ -53,7 +53,7 @@ module _ (task : TaskParts) (o : Layout) (order : IsOrderOf task o) (fits : Fits
   base_of k d lt = effect_base task.variables (get_or operator.effects k d) ((fits_operator task a operator fits here).each k d lt)
 
   -- the bits of a base variable are those of its value in a state
-  at_value : (n : ℕ) (b : Bits) (var : ℕ) → IsBase task var → value_of o n b var ≡ value_at o n b (place task var)
+  at_value : (n : ℕ) (b : Bits) (var : ℕ) → IsBase task var → spelt_value o n b var ≡ value_at o n b (place task var)
   at_value n b var base = ap (λ (block : Block). number b n block.first block.width) (base_block task o var order base)
 
   place_below : (var : ℕ) → IsBase task var → place task var < length o.blocks

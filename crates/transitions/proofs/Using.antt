@@ -5,7 +5,7 @@ use Rattle.var_order.specs.Layout.{Layout, IsLayout, bits, level_at}
 use Rattle.var_order.specs.Codes.{IsCode, IsStateOf}
 use Rattle.var_order.proofs.Coding.{one_state}
 use Rattle.transitions.specs.Levels.{stepped}
-use Rattle.transitions.specs.Relations.{Names, HasMember, IsSet, Connects, IsStepSet, Relates}
+use Rattle.transitions.specs.Relations.{Names, HoldsForState, IsSet, Connects, IsStepSet, Relates}
 use Rattle.transitions.proofs.SameBits.{same_bits}
 use Rattle.transitions.proofs.Support.{set_turns}
 use Rattle.transitions.proofs.ImageLaw.{true_or_false}
@@ -17,7 +17,7 @@ set_of_names o S F names b = (
   (λ (s, ss, code, (c, same, h)). (let x = (names c).0 h in (names b).1 (s, ss, code, subst S (one_state o 0 x.0 s c x.2 same) x.3))),
 )
 
-pub member_named : (o : Layout) (S : List ℕ → Type 0) (F : Bits → Bool) (s : List ℕ) → Names o S F → HasMember o F s → S s
+pub member_named : (o : Layout) (S : List ℕ → Type 0) (F : Bits → Bool) (s : List ℕ) → Names o S F → HoldsForState o F s → S s
 member_named o S F s names (b, code, h) = (let x = (names b).0 h in subst S (one_state o 0 x.0 s b x.2 code) x.3)
 
 -- what relates states is a set of steps, and connects those that it relates
@@ -79,10 +79,10 @@ set_by o op F G H l none sf sg is b = (to, back)
       ]
     ]
 
-    to : H b ≡ true → (s : List ℕ) × IsStateOf o s × IsCode o 0 s b × HasMember o H s
+    to : H b ≡ true → (s : List ℕ) × IsStateOf o s × IsCode o 0 s b × HoldsForState o H s
     to h = (let x = of_state b h in (x.0, x.1, x.2, (b, x.2, h)))
 
-    back : ((s : List ℕ) × IsStateOf o s × IsCode o 0 s b × HasMember o H s) → H b ≡ true
+    back : ((s : List ℕ) × IsStateOf o s × IsCode o 0 s b × HoldsForState o H s) → H b ≡ true
     back (s, ss, code, (c, same, h)) =
         let agree : (p : ℕ) → p < bits o → b (level_at 0 p) ≡ c (level_at 0 p) = (λ p lt. same_bits o s b c p l code same lt) in
         let other : (p : ℕ) → p < bits o → c (level_at 0 p) ≡ b (level_at 0 p) = (λ p lt. sym (agree p lt)) in

@@ -7,7 +7,7 @@ use Rattle.symk_task.specs.Variables.{IsState, place}
 use Rattle.symk_task.specs.Steps.{Holds, Allows, Fires, ValueAfter}
 use Rattle.bdd_table.specs.Diagram.{Bits}
 use Rattle.var_order.specs.Layout.{Layout}
-use Rattle.var_order.specs.Codes.{IsCode, value_of}
+use Rattle.var_order.specs.Codes.{IsCode, spelt_value}
 
 -- whether two bits are the same
 abbrev pub agree : Bool → Bool → Bool
@@ -16,17 +16,17 @@ agree x y = (x && y) || not (x || y)
 -- An effect on the variable that fires asks for its own value, and any other leaves what was asked for.
 abbrev pub EffectTurn : TaskParts → Layout → Effect → ℕ → List ℕ → Bits → Bool → Bool → Type 0
 EffectTurn task o effect var s b old new =
-    ((effect.var ≡ var) × Fires task s effect × (new ≡ (value_of o 1 b var == effect.post)))
+    ((effect.var ≡ var) × Fires task s effect × (new ≡ (spelt_value o 1 b var == effect.post)))
     ⊎ ((effect.var ≡ var → ¬ Fires task s effect) × (new ≡ old))
 
 -- t says whether the next bits of the variable spell its value after the effects
 abbrev pub IsNextValue : TaskParts → Layout → List Effect → ℕ → List ℕ → Bits → Bool → Type 0
 IsNextValue task o effects var s b t =
-    (value : ℕ) × ValueAfter (Fires task s) effects var (slice_index s (place task var)) value × (t ≡ (value_of o 1 b var == value))
+    (value : ℕ) × ValueAfter (Fires task s) effects var (slice_index s (place task var)) value × (t ≡ (spelt_value o 1 b var == value))
 
 -- the next bits of the variable spell its value after the effects
 abbrev pub Arrives : TaskParts → Layout → List Effect → ℕ → List ℕ → Bits → Type 0
-Arrives task o effects var s b = (value : ℕ) × ValueAfter (Fires task s) effects var (slice_index s (place task var)) value × (value_of o 1 b var ≡ value)
+Arrives task o effects var s b = (value : ℕ) × ValueAfter (Fires task s) effects var (slice_index s (place task var)) value × (spelt_value o 1 b var ≡ value)
 
 -- the operator applies in the state
 abbrev pub AppliesIn : TaskParts → List ℕ → Operator → Type 0

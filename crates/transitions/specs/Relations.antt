@@ -10,12 +10,12 @@ abbrev pub Names : Layout → (List ℕ → Type 0) → (Bits → Bool) → Type
 Names o S F = (b : Bits) → (F b ≡ true) ↔ ((s : List ℕ) × IsStateOf o s × IsCode o 0 s b × S s)
 
 -- F holds for some bits of the state
-abbrev pub HasMember : Layout → (Bits → Bool) → List ℕ → Type 0
-HasMember o F s = (b : Bits) × IsCode o 0 s b × (F b ≡ true)
+abbrev pub HoldsForState : Layout → (Bits → Bool) → List ℕ → Type 0
+HoldsForState o F s = (b : Bits) × IsCode o 0 s b × (F b ≡ true)
 
 -- F is a set of states: it holds for all bits of those of which it holds for some bits, and for no others
 abbrev pub IsSet : Layout → (Bits → Bool) → Type 0
-IsSet o F = Names o (HasMember o F) F
+IsSet o F = Names o (HoldsForState o F) F
 
 -- the bits are those of a state and, at the next levels of the touched places, of a state that R relates it to
 abbrev pub IsStepOf : Layout → List ℕ → (List ℕ → List ℕ → Type 0) → Bits → Type 0
@@ -42,8 +42,8 @@ pub record AreOver (o : Layout) (places : List ℕ) (relation set : Bits → Boo
 
 -- the states to which the relation leads from a member of the set
 abbrev pub Successor : Layout → List ℕ → (Bits → Bool) → (Bits → Bool) → List ℕ → Type 0
-Successor o places relation set t = (s : List ℕ) × IsStateOf o s × HasMember o set s × Connects o places relation s t
+Successor o places relation set t = (s : List ℕ) × IsStateOf o s × HoldsForState o set s × Connects o places relation s t
 
 -- the states from which the relation leads to a member of the set
 abbrev pub Predecessor : Layout → List ℕ → (Bits → Bool) → (Bits → Bool) → List ℕ → Type 0
-Predecessor o places relation set s = (t : List ℕ) × IsStateOf o t × HasMember o set t × Connects o places relation s t
+Predecessor o places relation set s = (t : List ℕ) × IsStateOf o t × HoldsForState o set t × Connects o places relation s t

@@ -6,7 +6,7 @@ ghost use Rattle.symk_task.specs.Fits.{FitsOperator};
 ghost use Rattle.symk_task.specs.Steps.{Step};
 ghost use Rattle.var_order.specs.Layout.{IsOrderOf};
 ghost use Rattle.axiom_layers.specs.Roots.{AreRoots};
-ghost use Rattle.transitions.specs.Ready.{IsReady};
+ghost use Rattle.transitions.specs.Ready.{IsReadyRelation};
 ghost use Rattle.transitions.specs.Relations.{Relates};
 ghost use Rattle.transitions.specs.Touched.{touched_places, effects_of};
 ghost use Rattle.transitions.specs.NextValues.{IsStepBy};
@@ -62,7 +62,7 @@ pub fn relation(
     requires roots { AreRoots task.now order.now ops.old derived.now }
     requires op { op < length task.now.operators }
     ensures known { IfOk result (λ r. r.root < length ops.new) }
-    ensures ready { IfOk result IsReady }
+    ensures ready { IfOk result IsReadyRelation }
     ensures touched { IfOk result (λ r. r.touched.items ≡ touched_places order.now (effects_of task.now op)) }
     ensures relates { IfOk result (λ r. Relates order.now r.touched.items (λ s t. Step task.now s op t)
         (means ops.new r.root)) }

@@ -13,7 +13,7 @@ use Rattle.symk_task.specs.Fits.{bits_of}
 use Rattle.var_order.specs.declared.block.Block.{Block}
 use Rattle.var_order.specs.Layout.{Layout, IsLayout, IsLaid, IsOrderOf, no_block, slot_of, block_at, bits}
 use Rattle.var_order.specs.Codes.{IsStateOf}
-use Rattle.var_order.specs.Growth.{Extends, with_base, with_derived}
+use Rattle.var_order.specs.Growth.{ExtendsLayout, with_base, with_derived}
 use Rattle.var_order.proofs.Growing.{slot_within}
 
 -- the layout is one of the first variables
@@ -146,7 +146,7 @@ lays_derived variables i o v l lays lt is derived =
     }
 
 lays_more : (variables : List Variable) (i : ℕ) (o more : Layout) (v : Variable) → IsLayout o → Lays variables i o
-    → i < length variables → v ≡ get_or variables i v → Extends o v more → Lays variables (i + 1) more
+    → i < length variables → v ≡ get_or variables i v → ExtendsLayout o v more → Lays variables (i + 1) more
 lays_more variables i o more v l lays lt is extends = elim (base_or_not v.layer) [
   | inl base ↦ subst (Lays variables (i + 1)) (sym (extends.base base)) (lays_base variables i o v l lays lt is base)
   | inr derived ↦ subst (Lays variables (i + 1)) (sym (extends.derived derived)) (lays_derived variables i o v l lays lt is derived)
@@ -239,7 +239,7 @@ of_state task o s order state = record {
 -- the same of the list that the loop goes over
 
 pub lays_next : {variables there : List Variable} {i : ℕ} {o more : Layout} {v : Variable} → there ≡ variables
-    → IsLayout o → Lays variables i o → i < length there → v ≡ get_or there i v → Extends o v more
+    → IsLayout o → Lays variables i o → i < length there → v ≡ get_or there i v → ExtendsLayout o v more
     → Lays variables (i + 1) more
 lays_next {variables} {there} {i} {o} {more} {v} same l lays lt is extends =
     lays_more variables i o more v l lays (subst (λ (x : List Variable). i < length x) same lt) (is ∙ ap (λ (x : List Variable). get_or x i v) same) extends

@@ -12,7 +12,7 @@ use Rattle.symk_task.specs.Variables.{IsBase, range, width, place}
 use Rattle.symk_task.proofs.Widths.{width_least}
 use Rattle.var_order.specs.declared.block.Block.{Block}
 use Rattle.var_order.specs.Layout.{Layout, IsLayout, IsOrderOf, IsInside, no_block, slot_of, block_at, block_of, owner_at, bits, level_at}
-use Rattle.var_order.specs.Codes.{number, value_in, value_of, IsCode}
+use Rattle.var_order.specs.Codes.{number, coded_value, spelt_value, IsCode}
 use Rattle.var_order.proofs.Laying.{laid_at}
 use Rattle.var_order.proofs.Coding.{code_digit}
 
@@ -48,7 +48,7 @@ base_width task o var v order there layer =
 
 -- a state's bits spell the value of each base variable
 pub code_value : (task : TaskParts) (o : Layout) (next : ℕ) (s : List ℕ) (b : ℕ → Bool) (var : ℕ) → IsOrderOf task o
-    → IsCode o next s b → IsBase task var → value_of o next b var ≡ get_or s (place task var) 0
+    → IsCode o next s b → IsBase task var → spelt_value o next b var ≡ get_or s (place task var) 0
 code_value task o next s b var order code base =
     let slot = base_slot task o var order base in
     ap (λ (block : Block). number b next block.first block.width) (base_block task o var order base)
@@ -56,10 +56,10 @@ code_value task o next s b var order code base =
 
 -- a state's bits spell the value of each variable that has one
 pub code_spells : (o : Layout) (next : ℕ) (s : List ℕ) (b : ℕ → Bool) (var : ℕ) → IsLayout o → IsCode o next s b
-    → IsSome (slot_of o var) → value_of o next b var ≡ value_in o s var
+    → IsSome (slot_of o var) → spelt_value o next b var ≡ coded_value o s var
 code_spells o next s b var l code some = go (slot_of o var) refl
   where
-    go : (x : Option ℕ) → slot_of o var ≡ x → value_of o next b var ≡ value_in o s var
+    go : (x : Option ℕ) → slot_of o var ≡ x → spelt_value o next b var ≡ coded_value o s var
     go None e = absurd (let z : is_some (slot_of o var) ≡ true = some in
         let w : is_some (slot_of o var) ≡ false = ap (λ (x : Option ℕ). is_some x) e in true≢false (sym z ∙ w))
     go (Some slot) e =

@@ -13,12 +13,12 @@ abbrev pub value_at : Layout → ℕ → (ℕ → Bool) → ℕ → ℕ
 value_at o next b slot = number b next (block_at o slot).first (block_at o slot).width
 
 -- the number that the bits of a variable spell
-abbrev pub value_of : Layout → ℕ → (ℕ → Bool) → ℕ → ℕ
-value_of o next b var = number b next (block_of o var).first (block_of o var).width
+abbrev pub spelt_value : Layout → ℕ → (ℕ → Bool) → ℕ → ℕ
+spelt_value o next b var = number b next (block_of o var).first (block_of o var).width
 
 -- the value of a base variable in a state
-abbrev pub value_in : Layout → List ℕ → ℕ → ℕ
-value_in o s var = option_map_or (λ slot. slice_index s slot) (slot_of o var) 0
+abbrev pub coded_value : Layout → List ℕ → ℕ → ℕ
+coded_value o s var = option_map_or (λ slot. slice_index s slot) (slot_of o var) 0
 
 -- The bits are those of the state: each value of it is what its bits spell.
 pub record IsCode (o : Layout) (next : ℕ) (s : List ℕ) (b : ℕ → Bool) : Type 0 where

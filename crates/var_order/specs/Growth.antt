@@ -17,6 +17,6 @@ abbrev pub with_derived : Layout → Layout
 with_derived o = record { slots = o.slots ++ None ∷ []; blocks = o.blocks; owners = o.owners }
 
 -- the later layout has the variable too
-pub record Extends (o : Layout) (v : Variable) (more : Layout) : Type 0 where
+pub record ExtendsLayout (o : Layout) (v : Variable) (more : Layout) : Type 0 where
   pub base : v.layer ≡ None → more ≡ with_base o (range v)
   pub derived : IsSome v.layer → more ≡ with_derived o

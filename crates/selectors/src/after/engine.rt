@@ -2,11 +2,11 @@
 
 ghost use Rattle.std.specs.Prelude.{◌≡◌, ◌↔◌, ◌≤◌, ℕ, List, All, IfOk, length, vec_capacity};
 ghost use Rattle.symk_task.specs.Plans.{IsListed};
-ghost use Rattle.task_system.specs.System.{IsPlanOf, cost_of};
+ghost use Rattle.task_system.specs.System.{IsSystemPlanOf, cost_in_system};
 ghost use Rattle.lazy_plans.specs.Law.{top};
 ghost use Rattle.lazy_plans.specs.Rest.{Rest};
-ghost use Rattle.selector_laws.specs.Owing.{AreKeysOf, Unlisted, is_unlisted, Following};
-ghost use Rattle.selector_laws.proofs.Draws.{fair_unlisted, told_unlisted};
+ghost use Rattle.lazy_plans.specs.SelectorsOwe.{AreKeysOf, Unlisted, is_unlisted, Following};
+ghost use Rattle.lazy_plans.proofs.Draws.{fair_unlisted, told_unlisted};
 
 use crate::after::draw;
 use crate::keys::{Keys, key_of};
@@ -48,7 +48,7 @@ impl<I: LazyPlans + Drop> After<I> {
     pub fn new(alloc: Global, inner: I, mode: Mode, plans: &List<Plan>) -> Result<After<I>, Memory>
         requires lawful { I.lawful inner }
         requires mode { mode ≡ I.mode inner }
-        requires cheap { All (λ p. cost_of (I.system inner) p ≤ top (I.most inner)) plans.now }
+        requires cheap { All (λ p. cost_in_system (I.system inner) p ≤ top (I.most inner)) plans.now }
         ensures lawful { IfOk result (λ a. ⟦<After<I> as LazyPlans>⟧.lawful a) }
         ensures system { IfOk result (λ a. ⟦<After<I> as LazyPlans>⟧.system a ≡ I.system inner) }
         ensures mode { IfOk result (λ a. ⟦<After<I> as LazyPlans>⟧.mode a ≡ mode) }
@@ -56,7 +56,7 @@ impl<I: LazyPlans + Drop> After<I> {
         ensures last { IfOk result (λ a. ⟦<After<I> as LazyPlans>⟧.last a ≡ I.last inner) }
         ensures pends { IfOk result (λ a. (p : List ℕ) →
             ⟦<After<I> as LazyPlans>⟧.pends a p ↔ (¬ IsListed mode plans.now p × I.pends inner p)) }
-        ensures rest { IfOk result (λ a. ((p : List ℕ) → IsPlanOf (I.system inner) mode p → I.pends inner p) →
+        ensures rest { IfOk result (λ a. ((p : List ℕ) → IsSystemPlanOf (I.system inner) mode p → I.pends inner p) →
             Rest (I.system inner) mode plans.now (⟦<After<I> as LazyPlans>⟧.pends a)) }
     {
         let (keys, room) = keys_of(alloc, mode, plans)?;

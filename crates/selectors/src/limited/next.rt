@@ -3,7 +3,7 @@
 ghost use Rattle.std.specs.Prelude.{◌≡◌, ℕ, ◌<◌};
 ghost use Rattle.std.specs.Iterator.{at_most};
 ghost use Rattle.lazy_plans.specs.Asked.{Asked};
-ghost use Rattle.selectors.specs.Limits.{LimitedGives, left_of};
+ghost use Rattle.selectors.specs.Limits.{LimitedGives, items_left};
 
 use crate::limited::Limited;
 use lazy_plans::{LazyPlans, Steps, Stop};
@@ -35,7 +35,7 @@ impl<I: LazyPlans + Drop> Iterator for Limited<I> {
 
     ghost next_gives = { λ x item z. LimitedGives I.system I.mode I.most I.pends I.lawful I.last x item z };
 
-    ghost remaining = { λ x. at_most (left_of x) };
+    ghost remaining = { λ x. at_most (items_left x) };
 
     fn next(&mut self) -> Option<Result<Plan, Stop>> {
         if self.ended || self.listed == self.k {

@@ -3,8 +3,8 @@
 ghost use Rattle.std.specs.Prelude.{◌≡◌, ◌↔◌, ℕ, List, Option, Some, None, IfOk};
 ghost use Rattle.symk_task.specs.declared.parts.Mode.TheVariants.{TopK, Unordered as unordered};
 ghost use Rattle.lazy_plans.specs.Law.{last_of};
-ghost use Rattle.selector_laws.specs.Owing.{Owes, owes, Standing};
-ghost use Rattle.selector_laws.proofs.Draws.{fair_owes, told_owes};
+ghost use Rattle.lazy_plans.specs.SelectorsOwe.{Owes, owes, Standing};
+ghost use Rattle.lazy_plans.proofs.Draws.{fair_owes, told_owes};
 
 use crate::keys::Keys;
 use crate::unordered::draw;
@@ -47,7 +47,7 @@ impl<I: LazyPlans> Unordered<I> {
 }
 
 /// What every later call of an engine repeats that gave this answer.
-pub fn lasting(given: &Result<Option<Plan>, Stop>) -> Option<Option<Stop>>
+pub(crate) fn lasting(given: &Result<Option<Plan>, Stop>) -> Option<Option<Stop>>
     ensures { result ≡ last_of given.now }
 {
     match given {

@@ -3,7 +3,7 @@ use Rattle.std.specs.List.{All}
 use Rattle.symk_task.specs.declared.parts.Fact.{Fact}
 use Rattle.task_run.specs.Values.{HasValue}
 use Rattle.bdd_table.proofs.Adding.{ok_by}
-use Rattle.axiom_layers.specs.Raising.{Says}
+use Rattle.axiom_layers.specs.Raising.{IsTrueExactlyWhere}
 use Rattle.axiom_layers.proofs.RootValues.{kept_sets, both_of_states}
 use Rattle.axiom_layers.proofs.RuleTurns.{turned, rule_within}
 use Rattle.axiom_layers.proofs.layer.widened.Goals as goal
@@ -24,7 +24,7 @@ pub returns-clause-turn : goal.returns-clause-turn
 returns-clause-turn c = ok_by c.disj.result _ _ c.disj.ensures.meaning (λ root m s b state code.
     turned c.args.parts.now c.args.order.now c.args.rule.now c.args.ops.now c.values_set.new.ops c.disj.new.self c.args.roots.now c.in_ok-conds.conds root
     c.requires.fits c.requires.rule c.requires.counts c.requires.roots c.in_ok-conds.ensures.kept c.disj.ensures.kept c.in_ok-conds.ensures.known
-    (subst (λ (facts : List Fact). Says c.args.parts.now c.args.order.now c.values_set.new.ops c.args.roots.now
+    (subst (λ (facts : List Fact). IsTrueExactlyWhere c.args.parts.now c.args.order.now c.values_set.new.ops c.args.roots.now
     (λ values. All (HasValue values) facts) c.in_ok-conds.conds) c.as_slice.ensures
     c.in_ok-conds.ensures.meaning)
     m s b state code)

@@ -1,6 +1,6 @@
 use Rattle.std.proofs.Common.{◌≡◌, ◌∙◌, ◌<◌, List, length, subst}
 use Rattle.bdd_table.specs.declared.node.Node.{Node}
-use Rattle.bdd_sets.specs.Sets.{plain}
+use Rattle.bdd_sets.specs.Sets.{only_state_bits}
 use Rattle.bdd_sets.proofs.Members.{went_hi, went_lo, walked, walked_states}
 use Rattle.bdd_sets.proofs.member.has.Goals as goal
 
@@ -10,7 +10,7 @@ loop-id-preserved-then-bit_at c =
     record {
       known = subst (λ (xs : List Node). c.hi-id.result < length xs) same c.hi-id.ensures.known;
       same = λ b code. c.loop-id.invariant.same b code
-          ∙ went_hi (plain c.args.order.now b) c.loop-id.id c.level.result
+          ∙ went_hi (only_state_bits c.args.order.now b) c.loop-id.id c.level.result
           c.hi-id.result same c.table-table.ensures.reduced c.loop-id.invariant.known c.level.ensures
           (c.bit_at.ensures b code ∙ c.if-bit_at.true) c.hi-id.ensures.value;
     }
@@ -21,7 +21,7 @@ loop-id-preserved c =
     record {
       known = subst (λ (xs : List Node). c.lo-id.result < length xs) same c.lo-id.ensures.known;
       same = λ b code. c.loop-id.invariant.same b code
-          ∙ went_lo (plain c.args.order.now b) c.loop-id.id c.level.result
+          ∙ went_lo (only_state_bits c.args.order.now b) c.loop-id.id c.level.result
           c.lo-id.result same c.table-table.ensures.reduced c.loop-id.invariant.known c.level.ensures
           (c.bit_at.ensures b code ∙ c.if-bit_at.false) c.lo-id.ensures.value;
     }

@@ -1,6 +1,6 @@
-use Rattle.bdd_table.specs.WordHash.{mixed}
+use Rattle.bdd_table.specs.WordHash.{mixed_word}
 use Rattle.bdd_table.proofs.hashing.mixed.Goals as goal
 
 pub returns : goal.returns
-unfolding mixed
+unfolding mixed_word
 returns c = c.folded_multiply.ensures

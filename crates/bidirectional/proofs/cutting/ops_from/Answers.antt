@@ -1,4 +1,4 @@
-use Rattle.layer_steps.proofs.Seeding.{if_ok_map}
+use Rattle.cost_layers.proofs.Seeding.{if_ok_map}
 use Rattle.bidirectional.proofs.Carrying.{both_held}
 use Rattle.bidirectional.proofs.Gathered.{begin_cuts}
 use Rattle.bidirectional.proofs.Landed.{landed_cuts}

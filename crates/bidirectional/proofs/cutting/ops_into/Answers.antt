@@ -1,8 +1,8 @@
 use Rattle.std.proofs.Common.{sym, ◌∙◌}
 use Rattle.run_graph.specs.Layering.{InLayer}
-use Rattle.cost_layers.specs.Layers.{Stands, rings_at, whole_at}
+use Rattle.cost_layers.specs.Layers.{Stands, rings_at, union_at}
 use Rattle.cost_layers.proofs.Holding.{whole_valid}
-use Rattle.layer_steps.proofs.Seeding.{if_ok_map}
+use Rattle.cost_layers.proofs.Seeding.{if_ok_map}
 use Rattle.bidirectional.specs.Cutting.{IsFirstOp}
 use Rattle.bidirectional.proofs.Firsts.{cuts_layer, no_cut}
 use Rattle.bidirectional.proofs.Gathered.{begin_cuts, begin_none}
@@ -10,7 +10,7 @@ use Rattle.bidirectional.proofs.cutting.ops_into.Goals as goal
 
 pub ops_from-requires-clause-to : goal.ops_from-requires-clause-to
 ops_from-requires-clause-to g c =
-    whole_valid (g.S.Space.view c.args.space.now) (rings_at c.args.meeting.back.now) (whole_at c.args.meeting.back.now) c.requires.layers.back
+    whole_valid (g.S.Space.view c.args.space.now) (rings_at c.args.meeting.back.now) (union_at c.args.meeting.back.now) c.requires.layers.back
     c.args.place.z c.in-Some.whole (sym c.layer.ensures ∙ c.in-Some.is)
 
 pub returns-in-Some-clause-ok : goal.returns-in-Some-clause-ok

@@ -1,7 +1,7 @@
 use Rattle.std.proofs.Common.{sym, ◌∙◌}
 use Rattle.space_api.specs.View.{Has}
 use Rattle.cost_layers.specs.Layers.{Stands}
-use Rattle.layer_steps.proofs.Seeding.{if_ok_map, joins_none}
+use Rattle.cost_layers.proofs.Seeding.{if_ok_map, joins_none}
 use Rattle.bidirectional.specs.Cutting.{LandsBy}
 use Rattle.bidirectional.proofs.Landed.{lands_layer, lands_nowhere}
 use Rattle.bidirectional.proofs.landing.add_landing.Goals as goal

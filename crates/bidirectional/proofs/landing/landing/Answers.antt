@@ -2,7 +2,7 @@ use Rattle.std.proofs.Common.{arith, subst, ◌≡◌, length, refl}
 use Rattle.task_system.specs.System.{System}
 use Rattle.space_api.specs.Costs.{costs_of}
 use Rattle.space_api.proofs.Trading.{all_back, kept_made}
-use Rattle.layer_steps.proofs.Seeding.{on_err}
+use Rattle.cost_layers.proofs.Seeding.{on_err}
 use Rattle.bidirectional.proofs.Carrying.{both_held}
 use Rattle.bidirectional.proofs.Landed.{landing_start, landing_step, landing_end}
 use Rattle.bidirectional.proofs.landing.landing.Goals as goal

@@ -1,6 +1,6 @@
 use Rattle.std.proofs.Common.{arith}
 use Rattle.bdd_table.specs.Diagram.{means}
-use Rattle.transitions.specs.Relations.{HasMember}
+use Rattle.transitions.specs.Relations.{HoldsForState}
 use Rattle.cert_check.proofs.Answering.{match_true, match_false, past_operators}
 use Rattle.cert_check.proofs.Carrying.{watched_more, leaves_first, leaves_set, leaves_roots}
 use Rattle.cert_check.proofs.judging.first_leaving.Goals as goal
@@ -21,7 +21,7 @@ operators-preserved c = record {
 }
 
 pub returns-clause-says : goal.returns-clause-says
-returns-clause-says c = past_operators c.args.task.now (HasMember c.args.order.now
+returns-clause-says c = past_operators c.args.task.now (HoldsForState c.args.order.now
     (means c.args.ops.now c.args.members.now)) c.operators.op
     (let e = c.operators-op-end.ensures in let h = c.operators-test.false in omega (arith, e, h))
     c.operators.invariant.watched.closed

@@ -1,7 +1,7 @@
 use Rattle.bdd_table.specs.Diagram.{means}
 use Rattle.bdd_table.proofs.Adding.{ok_by}
 use Rattle.var_order.proofs.Laying.{state_of}
-use Rattle.transitions.specs.Relations.{HasMember}
+use Rattle.transitions.specs.Relations.{HoldsForState}
 use Rattle.axiom_layers.proofs.Raised.{roots_kept}
 use Rattle.cert_check.proofs.Judged.{begins_alike, judged_back}
 use Rattle.cert_check.proofs.Answering.{begins_has, begins_not}
@@ -21,8 +21,8 @@ judge_members-requires-clause-roots c = roots_kept c.args.task.now c.args.order.
 
 pub judge_members-requires-clause-begins : goal.judge_members-requires-clause-begins
 judge_members-requires-clause-begins c =
-    begins_alike c.args.task.now c.parts.ensures.fits (HasMember c.args.order.now (means c.args.ops.now c.args.set))
-    (HasMember c.args.order.now (means c.members_of.new.ops c.in_ok-members.members))
+    begins_alike c.args.task.now c.parts.ensures.fits (HoldsForState c.args.order.now (means c.args.ops.now c.args.set))
+    (HoldsForState c.args.order.now (means c.members_of.new.ops c.in_ok-members.members))
     c.in_ok-members.ensures.same
     (begins_has c.args.task.now c.args.order.now c.parts.ensures.fits c.requires.order c.args.ops.now c.args.set
     c.in_ok-start.start c.has.result c.in_ok-start.ensures c.requires.states
@@ -31,6 +31,6 @@ judge_members-requires-clause-begins c =
 pub returns : goal.returns
 returns c =
     ok_by c.judge_members.result _ _ c.judge_members.ensures
-    (judged_back c.args.task.now c.parts.ensures.fits (HasMember c.args.order.now (means c.args.ops.now c.args.set))
-    (HasMember c.args.order.now (means c.members_of.new.ops c.in_ok-members.members))
+    (judged_back c.args.task.now c.parts.ensures.fits (HoldsForState c.args.order.now (means c.args.ops.now c.args.set))
+    (HoldsForState c.args.order.now (means c.members_of.new.ops c.in_ok-members.members))
     c.in_ok-members.ensures.same)

@@ -1,7 +1,7 @@
 use Rattle.std.proofs.Common.{◌≡◌, ◌∙◌, ℕ, List, subst}
 use Rattle.std.specs.Prelude.{Option, MatchOption}
 use Rattle.symk_task.specs.declared.parts.TaskParts.{TaskParts}
-use Rattle.task_system.specs.System.{System, IsPlan}
+use Rattle.task_system.specs.System.{System, IsSystemPlan}
 use Rattle.task_system.proofs.RunsLaw.{plan_law}
 use Rattle.bdd_space.specs.Seen.{seen}
 use Rattle.certificates.specs.Meaning.{Named}
@@ -12,13 +12,13 @@ use Rattle.cert_out.proofs.writing.write_cert.Goals as goal
 
 pub returns-in-None : goal.returns-in-None
 returns-in-None c =
-    let found = subst (λ (o : Option ℕ). MatchOption o ((p : List ℕ) × IsPlan (seen c.in_ok-space.space).system p)
+    let found = subst (λ (o : Option ℕ). MatchOption o ((p : List ℕ) × IsSystemPlan (seen c.in_ok-space.space).system p)
     (IsClosedSet (seen c.closure.new.space))) c.in-None.is c.in_ok-found.ensures.ok in
-    (found.0, (plan_law c.args.task.now found.0 c.parts.ensures.fits).0 (subst (λ (y : System). IsPlan y found.0) c.in_ok-space.ensures.system found.1))
+    (found.0, (plan_law c.args.task.now found.0 c.parts.ensures.fits).0 (subst (λ (y : System). IsSystemPlan y found.0) c.in_ok-space.ensures.system found.1))
 
 pub text_of-requires : goal.text_of-requires
 text_of-requires c =
-    subst (λ (o : Option ℕ). MatchOption o ((p : List ℕ) × IsPlan (seen c.in_ok-space.space).system p)
+    subst (λ (o : Option ℕ). MatchOption o ((p : List ℕ) × IsSystemPlan (seen c.in_ok-space.space).system p)
     (IsClosedSet (seen c.closure.new.space))) c.in-Some.is c.in_ok-found.ensures.ok
 
 pub returns : goal.returns

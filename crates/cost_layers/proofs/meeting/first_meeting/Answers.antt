@@ -1,6 +1,6 @@
 use Rattle.std.proofs.Common.{◌≡◌, Bool, true, false, arith, below_more}
 use Rattle.space_api.proofs.Keeping.{stays_trans}
-use Rattle.cost_layers.specs.Rings.{MeetsAt}
+use Rattle.cost_layers.specs.Rings.{MeetsRing}
 use Rattle.cost_layers.proofs.Rows.{meeting, valid_read, none_meets}
 use Rattle.cost_layers.proofs.meeting.first_meeting.Goals as goal
 
@@ -28,7 +28,7 @@ loop-i-preserved g c =
     let i = c.loop-i.invariant in
     record {
       stays = stays_trans i.stays c.meets.ensures.stays;
-      none = below_more (λ j. MeetsAt (view c.args.space.now) c.args.rings.now c.args.set j → ⊥) _ i.none
+      none = below_more (λ j. MeetsRing (view c.args.space.now) c.args.rings.now c.args.set j → ⊥) _ i.none
           (λ h. clash c.in_ok-meets.field-0 c.if-branch.false
           (c.in_ok-meets.ensures.ok.1
           ((meeting (view c.args.space.now) (view c.loop-i.space) c.args.rings.now c.loop-i.i c.index-rings-i.result

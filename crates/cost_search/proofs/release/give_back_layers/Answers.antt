@@ -1,6 +1,6 @@
 use Rattle.std.proofs.Common.{subst, ◌<◌, ℕ}
 use Rattle.space_api.specs.Owned.{Trades}
-use Rattle.cost_layers.specs.Layers.{whole_at}
+use Rattle.cost_layers.specs.Layers.{union_at}
 use Rattle.cost_search.specs.Giving.{IsKeptAt}
 use Rattle.cost_search.proofs.Coming.{bound_of, IsNext, is_next}
 use Rattle.cost_search.proofs.Given.{next_valid, layers_next}
@@ -22,6 +22,6 @@ costs-preserved g c =
     let t = subst (λ (o : _). Trades v u (λ a. (d : ℕ) × (d < bound_of o) × IsKeptAt l d a) (λ a. ⊥)) c.in-Some.is c.costs.invariant.given in
     let lt = subst IsNext c.in-Some.is c.costs.invariant.next in
     record {
-      next = is_next (whole_at l) c.in-Some.cost c.cost_after-next.result c.cost_after-next.ensures;
+      next = is_next (union_at l) c.in-Some.cost c.cost_after-next.result c.cost_after-next.ensures;
       given = layers_next v l c.requires.held c.in-Some.cost c.cost_after-next.result c.cost_after-next.ensures t c.give_back_layer.ensures lt;
     }

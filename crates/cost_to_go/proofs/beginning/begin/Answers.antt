@@ -1,4 +1,4 @@
-use Rattle.least_costs.proofs.Standing.{least_kept}
+use Rattle.goal_ranks.proofs.Standing.{least_kept}
 use Rattle.cost_to_go.proofs.Opening.{begun, begun_trades, begun_none}
 use Rattle.cost_to_go.proofs.beginning.begin.Goals as goal
 

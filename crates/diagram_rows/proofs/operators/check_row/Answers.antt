@@ -1,4 +1,4 @@
-use Rattle.operator_relations.proofs.Kept.{relations_kept}
+use Rattle.trans_merge.proofs.Kept.{relations_kept}
 use Rattle.diagram_rows.proofs.operators.check_row.Goals as goal
 
 pub ask-requires-clause-relations : goal.ask-requires-clause-relations

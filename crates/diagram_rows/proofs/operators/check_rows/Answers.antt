@@ -1,4 +1,4 @@
-use Rattle.operator_relations.proofs.Kept.{relations_kept}
+use Rattle.trans_merge.proofs.Kept.{relations_kept}
 use Rattle.diagram_rows.proofs.operators.check_rows.Goals as goal
 
 pub loop-row-preserved : goal.loop-row-preserved

@@ -1,4 +1,4 @@
-use Rattle.operator_relations.specs.Relations.{AreRelationsOf}
+use Rattle.trans_merge.specs.Relations.{AreRelationsOf}
 use Rattle.diagram_rows.proofs.operators.check_rows.Given as goal
 
 abbrev pub invariant-loop-row : goal.invariant-loop-row

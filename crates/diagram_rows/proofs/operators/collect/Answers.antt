@@ -1,7 +1,7 @@
 use Rattle.std.proofs.Common.{◌≡◌, ◌++◌, ◌+◌, ◌<◌, ℕ, List, length, get_or, sym, ◌∙◌, ap, subst, arith}
 use Rattle.std.proofs.lemmas.List.{with_items_is}
 use Rattle.bdd_table.specs.Collected.{IsMoved}
-use Rattle.operator_relations.specs.Roots.{roots_of}
+use Rattle.trans_merge.specs.Roots.{roots_of}
 use Rattle.diagram_rows.proofs.operators.collect.Goals as goal
 
 pub returns : goal.returns

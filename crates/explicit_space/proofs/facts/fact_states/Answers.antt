@@ -5,7 +5,7 @@ use Rattle.symk_task.specs.declared.parts.TaskParts.{TaskParts}
 use Rattle.symk_task.specs.Variables.{is_base, place}
 use Rattle.symk_task.specs.Steps.{Holds}
 use Rattle.task_system.specs.System.{State}
-use Rattle.explicit_space.specs.Members.{has_state, IsIf, FromMember}
+use Rattle.explicit_space.specs.Members.{has_explicit_state, IsIf, FromMember}
 use Rattle.explicit_space.proofs.Gathering.{next_member, so_far_more, so_far_all, grows_if, has_those, has_as, kept_from}
 use Rattle.explicit_space.proofs.HavingFact.{within_variables, place_below, fact_says}
 use Rattle.explicit_space.proofs.facts.fact_states.Goals as goal
@@ -34,5 +34,7 @@ loop-member-preserved c =
 pub returns : goal.returns
 returns c =
     let P : State → Type 0 = λ t. Holds c.args.task.now t c.args.fact in
-    has_as c.loop-member.set (FromMember c.args.members.now (λ (t : State). IsIf (Holds c.args.task.now t c.args.fact) t)) (λ s. IsTrue (has_state c.args.members.now s) × P s) (kept_from c.args.members.now P)
+    has_as c.loop-member.set (FromMember c.args.members.now
+    (λ (t : State). IsIf (Holds c.args.task.now t c.args.fact) t))
+    (λ s. IsTrue (has_explicit_state c.args.members.now s) × P s) (kept_from c.args.members.now P)
     (has_those c.new-set.result c.loop-member.set (FromMember c.args.members.now (λ (t : State). IsIf (Holds c.args.task.now t c.args.fact) t)) c.new-set.ensures.empty (so_far_all c.args.members.now c.new-set.result c.loop-member.set (λ (t : State). IsIf (Holds c.args.task.now t c.args.fact) t) c.loop-member.member-iterator c.loop-member.invariant.so_far c.in-None.ensures.steps.0))

@@ -1,6 +1,6 @@
 use Rattle.std.proofs.Common.{IsTrue}
 use Rattle.task_system.specs.System.{State}
-use Rattle.explicit_space.specs.Members.{has_state, IsIf}
+use Rattle.explicit_space.specs.Members.{has_explicit_state, IsIf}
 use Rattle.explicit_space.proofs.Gathering.{SoFar}
 use Rattle.explicit_space.proofs.members.intersection.Given as goal
 
@@ -8,5 +8,5 @@ abbrev pub invariant-loop-member : goal.invariant-loop-member
 invariant-loop-member l = record {
   can_next : (goal.iterator-loop-member).can_next l.member-iterator;
   is_finite : (goal.iterator-loop-member).is_finite l.member-iterator;
-  so_far : SoFar l.a l.initial.set l.set (λ (t : State). IsIf (IsTrue (has_state l.b t)) t) l.member-iterator;
+  so_far : SoFar l.a l.initial.set l.set (λ (t : State). IsIf (IsTrue (has_explicit_state l.b t)) t) l.member-iterator;
 }

@@ -1,5 +1,5 @@
 use Rattle.std.proofs.Common.{sym, ◌∙◌}
-use Rattle.cost_layers.specs.Layers.{rings_at, whole_at}
+use Rattle.cost_layers.specs.Layers.{rings_at, union_at}
 use Rattle.cost_layers.proofs.Holding.{layer_at}
 use Rattle.goal_ranks.proofs.Locating.{none_in, whole_has, false_true}
 use Rattle.goal_ranks.proofs.nearness.layer_has.Goals as goal
@@ -7,7 +7,7 @@ use Rattle.goal_ranks.proofs.nearness.layer_has.Goals as goal
 pub has_state-requires-clause-set : goal.has_state-requires-clause-set
 has_state-requires-clause-set g c =
     let l = c.args.layers.now in
-    (layer_at (g.S.Space.view c.args.space.now) (rings_at l c.args.cost) (whole_at l c.args.cost) c.in-Some.whole
+    (layer_at (g.S.Space.view c.args.space.now) (rings_at l c.args.cost) (union_at l c.args.cost) c.in-Some.whole
     (sym c.layer.ensures ∙ c.in-Some.is) (c.requires.held.each c.args.cost)).valid
 
 pub returns-in-Some : goal.returns-in-Some

@@ -1,5 +1,5 @@
 use Rattle.std.proofs.Common.{◌≡◌, ℕ, List, length, Some, None, slice_get, refl, subst, arith}
-use Rattle.goal_ranks.specs.Slots.{Fills}
+use Rattle.goal_ranks.specs.Slots.{FillsSlot}
 use Rattle.goal_ranks.proofs.Slotting.{slot_push}
 use Rattle.goal_ranks.proofs.Nearing.{put_work}
 use Rattle.goal_ranks.proofs.slots.fill.Goals as goal
@@ -13,4 +13,4 @@ pub returns-2-clause-ok : goal.returns-2-clause-ok
 returns-2-clause-ok g c =
     let old = c.args.slots.now.items in
     let last : length old ≡ c.len-last.result = grind (arith, c.len-last.ensures) in
-    subst (λ (n : ℕ). Fills old c.push.new.self.items c.args.waiting n) last (slot_push old c.push.new.self.items c.args.waiting c.in_ok-push.ensures.items)
+    subst (λ (n : ℕ). FillsSlot old c.push.new.self.items c.args.waiting n) last (slot_push old c.push.new.self.items c.args.waiting c.in_ok-push.ensures.items)

@@ -8,8 +8,8 @@ use Rattle.cost_layers.specs.declared.layers.Layers.{Layers}
 use Rattle.cost_search.specs.Search.{layers_of}
 use Rattle.cost_search.specs.Meeting.{IsLayerMeeting}
 use Rattle.cost_search.proofs.Meeting.{meeting_kept}
-use Rattle.least_costs.specs.Least.{search_of}
-use Rattle.goal_ranks.specs.Ahead.{Tells}
+use Rattle.goal_ranks.specs.Least.{least_search}
+use Rattle.goal_ranks.specs.Ahead.{RingsTell}
 use Rattle.goal_ranks.specs.declared.telling.Told.{Told}
 use Rattle.goal_ranks.proofs.Keys.{ahead_kept, key_kept}
 use Rattle.goal_ranks.proofs.Uniting.{all_kept}
@@ -53,9 +53,9 @@ in_layer-near-requires-clause-meets g c =
     let f = c.args.ahead.now in
     let fresh = c.in_ok-fresh.fresh in
     let a = ahead_kept (view c.args.space.now) u f c.meet.ensures.kept c.requires.ahead in
-    let t = subst (λ (o : Told). Tells u f fresh c.args.waiting.cost c.args.waiting.key o) c.in-Ok-Ring.field-0-is c.in-Ok-Ring.ensures.ok in
+    let t = subst (λ (o : Told). RingsTell u f fresh c.args.waiting.cost c.args.waiting.key o) c.in-Ok-Ring.field-0-is c.in-Ok-Ring.ensures.ok in
     subst (λ (l : Layers _). IsLayerMeeting x l fresh c.in-Ok-Ring.cost) (sym c.layers.ensures.value)
-    ((meeting_kept u x (layers_of (search_of f)) fresh c.in-Ok-Ring.cost c.tell.ensures.stays.kept a.least.search.held c.in_ok-fresh.ensures.ok.valid).1 t.1)
+    ((meeting_kept u x (layers_of (least_search f)) fresh c.in-Ok-Ring.cost c.tell.ensures.stays.kept a.least.search.held c.in_ok-fresh.ensures.ok.valid).1 t.1)
 
 pub returns-in_err-near-in-Ok-Ring-clause-err : goal.returns-in_err-near-in-Ok-Ring-clause-err
 returns-in_err-near-in-Ok-Ring-clause-err g c =
@@ -79,7 +79,7 @@ returns-in_ok-near-in-Ok-Ring-clause-ok g c =
     let near = c.in_ok-near-in-Ok-Ring.field-0 in
     let cost = c.in-Ok-Ring.cost in
     let a = ahead_kept v u f c.meet.ensures.kept c.requires.ahead in
-    let t = subst (λ (o : Told). Tells u f fresh c.args.waiting.cost c.args.waiting.key o) c.in-Ok-Ring.field-0-is c.in-Ok-Ring.ensures.ok in
+    let t = subst (λ (o : Told). RingsTell u f fresh c.args.waiting.cost c.args.waiting.key o) c.in-Ok-Ring.field-0-is c.in-Ok-Ring.ensures.ok in
     let lists = lists_reached x c.task-task.result.now c.parts.ensures.fits (g.met.S.Space.of_task c.tell.new.space) c.task-task.ensures in
     let h = subst (λ (l : Layers _). Gives x y (λ s. Has x fresh s × InLayer (Stands x l) cost s) near)
     c.layers.ensures.value c.in_ok-near-in-Ok-Ring.ensures.ok in (
@@ -94,7 +94,7 @@ returns-in-Ok-Later-clause-ok g c =
     let view = g.S.Space.view in
     let u = view c.meet.new.self in
     let f = c.args.ahead.now in
-    let t = subst (λ (o : Told). Tells u f c.in_ok-fresh.fresh c.args.waiting.cost c.args.waiting.key o) c.in-Ok-Later.field-0-is c.in-Ok-Later.ensures.ok in
+    let t = subst (λ (o : Told). RingsTell u f c.in_ok-fresh.fresh c.args.waiting.cost c.args.waiting.key o) c.in-Ok-Later.field-0-is c.in-Ok-Later.ensures.ok in
     later (view c.args.space.now) u f c.args.waiting c.args.left c.in_ok-fresh.fresh c.meet.ensures.kept
     c.in_ok-fresh.ensures.ok (view c.tell.new.space) (view c.forget-in-Ok-Later.new.self) c.in-Ok-Later.key
     c.tell.ensures.stays c.forget-in-Ok-Later.ensures t

@@ -1,5 +1,5 @@
 use Rattle.std.proofs.Common.{ℕ, ◌<◌, ◌≤◌, ◌-◌, ◌^◌, arith}
-use Rattle.task_system.specs.System.{cost_of}
+use Rattle.task_system.specs.System.{cost_in_system}
 use Rattle.lazy_plans.proofs.ListLaw.{right_up_to, right_all, missing, exhausted}
 use Rattle.lazy_plans.proofs.laws.earlier_plans_are_right.Goals as goal
 
@@ -8,7 +8,7 @@ lt_le a b h = omega arith
 
 pub returns-clause-given : goal.returns-clause-given
 returns-clause-given g c = (λ system mode most plans x y p good rest gave ends. right_up_to system mode plans
-    (g.I.LazyPlans.pends x) rest good (cost_of system p) gave.least ends)
+    (g.I.LazyPlans.pends x) rest good (cost_in_system system p) gave.least ends)
 
 pub returns-clause-missing : goal.returns-clause-missing
 returns-clause-missing g c = (λ system mode most plans x y p rest gave cheaper. let i = g.I.LazyPlans in missing

@@ -1,7 +1,7 @@
 use Rattle.std.proofs.Common.{ℕ, ◌≤◌}
 use Rattle.space_api.proofs.Rising.{IsPast}
-use Rattle.prefix_tree.specs.StateGraph.{states_of, ops_of}
-use Rattle.prefix_tree.specs.Tree.{Grows, path_at}
+use Rattle.prefix_tree.specs.StateGraph.{states_of, move_operators}
+use Rattle.prefix_tree.specs.Tree.{GrowsTree, path_at}
 use Rattle.symk_task.specs.declared.parts.Mode.TheVariants.{Loopless}
 use Rattle.loopless.specs.Children.{AreChildren}
 use Rattle.loopless.specs.Told.{Informs}
@@ -13,7 +13,7 @@ invariant-moves g l =
     let a = l.fn.tree.items in
     record {
       informed : Informs g.S.Space.view l.heuristic l.rests;
-      grows : Grows y Loopless (states_of l.heuristic.graph.now) a l.tree.items;
-      children : (m : ℕ) × IsPast (ops_of l.moves) l.step-index m × (m ≤ y.operators) ×
+      grows : GrowsTree y Loopless (states_of l.heuristic.graph.now) a l.tree.items;
+      children : (m : ℕ) × IsPast (move_operators l.moves) l.step-index m × (m ≤ y.operators) ×
           AreChildren y l.tree.items (path_at a l.entry.node) m l.children.items;
     }

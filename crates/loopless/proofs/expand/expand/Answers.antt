@@ -1,5 +1,5 @@
 use Rattle.std.proofs.Common.{◌≡◌, ℕ, List, slice_index_or, refl, subst}
-use Rattle.prefix_tree.specs.StateGraph.{states_of, state_at, AreMoves}
+use Rattle.prefix_tree.specs.StateGraph.{states_of, numbered_state, AreGraphMoves}
 use Rattle.prefix_tree.specs.declared.tree.Node.{Node}
 use Rattle.prefix_tree.proofs.Paths.{grows_refl, tree_prolonged}
 use Rattle.prefix_tree.proofs.Passing.{number_is}
@@ -55,5 +55,5 @@ add_all-requires-clause-moves g c =
     let is = subst (λ (ns : List Node). n ≡ slice_index_or ns c.args.entry.node n) c.deref.ensures.value (c.node_at-here.ensures n) in
     let ss = states_of c.find_moves.new.graph in
     let all = c.find_moves.ensures.graph.moves n.state c.in-Some.moves.now c.in-Some.ensures.found in
-    subst (λ (k : ℕ). AreMoves y ss (state_at ss k) c.in-Some.moves.now)
+    subst (λ (k : ℕ). AreGraphMoves y ss (numbered_state ss k) c.in-Some.moves.now)
     (number_is c.args.front.now.tree.items c.args.entry.node n c.requires.entry.inside is) all.1

@@ -1,8 +1,8 @@
 use Rattle.std.proofs.Common.{Some, sym, ◌∙◌, subst}
 use Rattle.task_system.specs.System.{State}
-use Rattle.single_states.specs.States.{IsReached}
+use Rattle.space_api.specs.States.{IsReached}
 use Rattle.prefix_tree.specs.StateGraph.{states_of}
-use Rattle.loopless.specs.Left.{CostsAtLeast}
+use Rattle.loopless.specs.Left.{RestCostsAtLeast}
 use Rattle.loopless.specs.Told.{IsTold}
 use Rattle.loopless.proofs.Resting.{kept_put}
 use Rattle.loopless.proofs.left.rest_of.Goals as goal
@@ -19,7 +19,7 @@ rest_in_layers-told-requires-clause-reached g c =
 
 pub rest_in_layers-told-requires-clause-low : goal.rest_in_layers-told-requires-clause-low
 rest_in_layers-told-requires-clause-low g c =
-    subst (λ (s : State). CostsAtLeast (g.S.Space.view c.args.heuristic.now.space.now).system s c.args.low) (sym c.state.ensures) c.requires.low
+    subst (λ (s : State). RestCostsAtLeast (g.S.Space.view c.args.heuristic.now.space.now).system s c.args.low) (sym c.state.ensures) c.requires.low
 
 pub returns-in-Some-told-clause-informed : goal.returns-in-Some-told-clause-informed
 returns-in-Some-told-clause-informed g c =

@@ -3,9 +3,9 @@ use Rattle.std.specs.Bool.{Decides}
 use Rattle.space_api.proofs.Trading.{valid_clash}
 use Rattle.symk_task.specs.declared.parts.Mode.TheVariants.{Loopless}
 use Rattle.task_system.specs.System.{State}
-use Rattle.single_states.specs.States.{IsReached}
+use Rattle.space_api.specs.States.{IsReached}
 use Rattle.prefix_tree.specs.StateGraph.{states_of}
-use Rattle.loopless.specs.Left.{CostsAtLeast}
+use Rattle.loopless.specs.Left.{RestCostsAtLeast}
 use Rattle.loopless.proofs.Reaching.{next_least, passed_lost, nowhere_lost, longer}
 use Rattle.loopless.proofs.reach.reach.Goals as goal
 
@@ -30,7 +30,7 @@ goal_after-requires-clause-reached g c =
 pub goal_after-requires-clause-left : goal.goal_after-requires-clause-left
 goal_after-requires-clause-left g c =
     let left = rw c.in-Some.is at c.left_from.ensures.left in
-    subst (λ (s : State). CostsAtLeast (g.S.Space.view c.args.heuristic.now.space.now).system s c.in-Some.left.cost) (sym c.state.ensures) left.0
+    subst (λ (s : State). RestCostsAtLeast (g.S.Space.view c.args.heuristic.now.space.now).system s c.in-Some.left.cost) (sym c.state.ensures) left.0
 
 pub returns-in-None-clause-reach : goal.returns-in-None-clause-reach
 returns-in-None-clause-reach g c =

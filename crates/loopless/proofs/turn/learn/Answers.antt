@@ -1,9 +1,9 @@
 use Rattle.std.proofs.Common.{ap, subst}
 use Rattle.task_system.specs.System.{System}
-use Rattle.prefix_tree.specs.Entries.{entries_of, prefixes}
+use Rattle.prefix_tree.specs.Entries.{queued_entries, prefixes}
 use Rattle.loopless.specs.declared.front.Front.{Front}
-use Rattle.loopless.specs.Front.{IsFirst}
-use Rattle.loopless.specs.Standing.{GoesOn}
+use Rattle.loopless.specs.Front.{IsLooplessFirst}
+use Rattle.loopless.specs.Standing.{GoesOnLoopless}
 use Rattle.loopless.proofs.Opening.{on_err}
 use Rattle.loopless.proofs.Readying.{ready_informed, ready_moved, ready_queue, replaced_perm, learned_ready, learned_goes, better_as}
 use Rattle.loopless.proofs.turn.learn.Goals as goal
@@ -22,16 +22,16 @@ returns g c =
     let e = c.args.entry in
     let o = c.in_ok-better.better in
     let m = c.refresh.ensures.moved in
-    let first : IsFirst h e = record { some = c.requires.first.some; at = c.requires.first.at } in
+    let first : IsLooplessFirst h e = record { some = c.requires.first.some; at = c.requires.first.at } in
     let ready = ready_moved v w c.args.backward.now b f c.refresh.new.rests c.refresh.ensures.kept c.refresh.ensures.backward m c.requires.ready in
     let better = better_as v.system w.system f.tree.items e o m.trades.system (rw c.deref.ensures.value at c.in_ok-better.ensures.better) in
     let perm = rw c.in_ok-others.ensures at
-    (replaced_perm f (entries_of c.make_room.new.self) c.in_ok-others.others.items (entries_of q) e c.make_room.ensures.same c.requires.first
+    (replaced_perm f (queued_entries c.make_room.new.self) c.in_ok-others.others.items (queued_entries q) e c.make_room.ensures.same c.requires.first
     c.replace.ensures.replaces) in
     record {
       system = m.trades.system;
       ready = learned_ready w b h q e first ready o better perm;
-      ok = subst (λ (y : System). GoesOn y f (record h { queue = q })) m.trades.system (learned_goes w b h q e first ready o better perm);
+      ok = subst (λ (y : System). GoesOnLoopless y f (record h { queue = q })) m.trades.system (learned_goes w b h q e first ready o better perm);
       err = tt;
       one = c.replace.ensures.steps;
       none = tt;

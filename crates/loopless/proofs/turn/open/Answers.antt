@@ -1,4 +1,4 @@
-use Rattle.prefix_tree.specs.Entries.{entries_of}
+use Rattle.prefix_tree.specs.Entries.{queued_entries}
 use Rattle.loopless.proofs.Opening.{on_err, ready_grown, prefixes_grown, open_ready, open_opens}
 use Rattle.loopless.proofs.Readying.{replaced_perm}
 use Rattle.loopless.proofs.turn.open.Goals as goal
@@ -14,7 +14,7 @@ returns g c =
     let e = c.args.entry in
     let first = c.requires.first in
     let grown = c.expand.ensures.grown in
-    let perm = replaced_perm f (entries_of h.queue) kids (entries_of q) e grown.queue first c.replace.ensures.replaces in
+    let perm = replaced_perm f (queued_entries h.queue) kids (queued_entries q) e grown.queue first c.replace.ensures.replaces in
     let children = c.in_ok-children.ensures.children in
     let plan = rw c.deref.ensures.value at c.in_ok-plan.ensures in
     record {

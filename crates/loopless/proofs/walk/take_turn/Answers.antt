@@ -3,7 +3,7 @@ use Rattle.std.proofs.lemmas.List.Elements.{recursion_from_All}
 use Rattle.space_api.proofs.Trading.{valid_clash}
 use Rattle.prefix_tree.specs.declared.entry.Entry.{Entry}
 use Rattle.loopless.specs.Children.{IsEntry}
-use Rattle.loopless.specs.Front.{waiting, IsFirst}
+use Rattle.loopless.specs.Front.{waiting, IsLooplessFirst}
 use Rattle.prefix_tree.proofs.Entries.{first_is}
 use Rattle.loopless.proofs.Walking.{past_turn, out_turn, cheap}
 use Rattle.loopless.proofs.walk.take_turn.Goals as goal
@@ -21,7 +21,7 @@ returns-then-is_out-clause-ok g c =
     let v = g.S.Space.view c.args.space.now in
     let f = c.args.front.now in
     let e = c.in-Some.entry in
-    let first : IsFirst f e = record { some = c.in-Some.ensures.some; at = c.in-Some.ensures.at } in
+    let first : IsLooplessFirst f e = record { some = c.in-Some.ensures.some; at = c.in-Some.ensures.at } in
     let least = recursion_from_All (λ (k : Entry). e.bound.0 ≤ k.bound.0) (waiting f) c.in-Some.ensures.least in
     let out = c.is_out.ensures.0 c.if-is_out.true in
     (out_turn v c.args.backward.now f c.args.most e out c.requires.ready c.requires.right first least, refl)

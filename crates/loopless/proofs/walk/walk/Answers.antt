@@ -1,12 +1,12 @@
 use Rattle.std.proofs.Common.{◌∙◌, subst}
 use Rattle.task_system.specs.System.{System}
 use Rattle.lazy_plans.proofs.Given.{stays_trans}
-use Rattle.prefix_laws.specs.Queue.{Pending}
+use Rattle.lazy_plans.specs.Queue.{Pending}
 use Rattle.symk_task.specs.declared.parts.Mode.TheVariants.{Loopless}
 use Rattle.loopless.specs.Front.{prefixes_of}
 use Rattle.loopless.specs.Turned.{TurnOf}
 use Rattle.loopless.specs.declared.walk.Turn.TheVariants.{Goes, Gives, Ends, OutOfRange}
-use Rattle.prefix_laws.proofs.Owed.{law_gives, law_ends, law_out, law_stops}
+use Rattle.lazy_plans.proofs.Owed.{law_gives, law_ends, law_out, law_stops}
 use Rattle.loopless.proofs.walk.walk.Goals as goal
 
 pub returns-in-Err-clause-law : goal.returns-in-Err-clause-law

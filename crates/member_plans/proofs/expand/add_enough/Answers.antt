@@ -2,9 +2,9 @@ use Rattle.std.proofs.Common.{ℕ, true, false, List, ◌++◌, sym, ◌∙◌, 
 use Rattle.prefix_tree.specs.StateGraph.{states_of}
 use Rattle.prefix_tree.specs.Tree.{path_at, end_at}
 use Rattle.prefix_tree.specs.declared.entry.Entry.{Entry}
-use Rattle.prefix_ends.proofs.Growing.{entry_like}
+use Rattle.prefix_plans.proofs.EndsGrowing.{entry_like}
 use Rattle.member_plans.specs.Moves.{is_taken}
-use Rattle.member_plans.specs.Children.{AreChosen, AreEnough}
+use Rattle.member_plans.specs.Children.{AreChosenChildren, AreEnough}
 use Rattle.member_plans.proofs.Choosing.{chosen_like, enough_all}
 use Rattle.member_plans.proofs.expand.add_enough.Goals as goal
 
@@ -27,7 +27,7 @@ returns-clause-children g c =
     let kids = c.in_ok-children.children.items in
     let more = c.in_ok-others.others.items in
     let one = chosen_like v f b t m.longer m.paths e (is_taken marks true) v.system.operators kids c.in_ok-children.ensures.children in
-    let two = subst (λ (p : List ℕ). AreChosen v f t p (is_taken marks false) v.system.operators more)
+    let two = subst (λ (p : List ℕ). AreChosenChildren v f t p (is_taken marks false) v.system.operators more)
     (c.add_some.ensures.grows.paths c.args.entry.node c.requires.entry.inside)
     c.in_ok-others.ensures.children in
     subst (AreEnough v f t e (end_at (states_of c.args.heuristic.now.graph.now) a c.args.entry.node))

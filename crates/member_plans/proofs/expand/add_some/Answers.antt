@@ -2,16 +2,16 @@ use Rattle.std.proofs.Common.{◌≡◌, false, ◌+◌, ℕ, List, get_or, sym,
 use Rattle.space_api.proofs.Rising.{past_none, past_next, never_falls}
 use Rattle.task_system.specs.System.{State}
 use Rattle.symk_task.specs.declared.parts.Mode.TheVariants.{TopK}
-use Rattle.prefix_tree.specs.StateGraph.{states_of, state_at, ops_of, IsMove}
+use Rattle.prefix_tree.specs.StateGraph.{states_of, numbered_state, move_operators, IsGraphMove}
 use Rattle.prefix_tree.specs.Tree.{path_at}
 use Rattle.prefix_tree.specs.declared.state_graph.Move.{Move}
 use Rattle.prefix_tree.proofs.Paths.{grows_refl, grows_trans}
 use Rattle.prefix_tree.proofs.Going.{op_at, ops_few, ops_many}
-use Rattle.prefix_ends.specs.Children.{Added}
-use Rattle.prefix_ends.proofs.Growing.{entry_like}
-use Rattle.prefix_ends.proofs.Reaching.{lost}
+use Rattle.prefix_plans.specs.EndChildren.{AddsPrefixChild}
+use Rattle.prefix_plans.proofs.EndsGrowing.{entry_like}
+use Rattle.prefix_plans.proofs.Reaching.{lost}
 use Rattle.member_plans.specs.Moves.{is_taken}
-use Rattle.member_plans.specs.Children.{AreChosen}
+use Rattle.member_plans.specs.Children.{AreChosenChildren}
 use Rattle.member_plans.proofs.Choosing.{chosen_none, chosen_like, chosen_added, chosen_left, skip_to}
 use Rattle.member_plans.proofs.expand.add_some.Goals as goal
 
@@ -24,7 +24,12 @@ moves-init g c =
     let set = is_taken c.args.taken.marks.now c.args.taken.marked in
     record {
       grows = grows_refl v.system TopK (states_of c.args.heuristic.now.graph.now) a c.requires.tree;
-      children = (0, past_none (ops_of c.args.moves.now), subst (AreChosen v f a e set 0) (sym c.new-children.ensures.items) (chosen_none v f a e set));
+      children = (
+        0,
+        past_none (move_operators c.args.moves.now),
+        subst (AreChosenChildren v f a e set 0)
+            (sym c.new-children.ensures.items) (chosen_none v f a e set),
+      );
     }
 
 pub add_child-requires-clause-tree : goal.add_child-requires-clause-tree
@@ -41,8 +46,8 @@ add_child-requires-clause-step g c =
     let y = (g.S.Space.view c.args.heuristic.now.space.now).system in
     let ss = states_of c.args.heuristic.now.graph.now in
     let d : Move = record { op = 0; to = 0 } in
-    subst (λ (s : State). IsMove y ss s (get_or c.args.moves.now c.moves.step-index d))
-    (sym (ap (state_at ss) (c.moves.invariant.grows.ends c.args.entry.node c.requires.entry.inside)))
+    subst (λ (s : State). IsGraphMove y ss s (get_or c.args.moves.now c.moves.step-index d))
+    (sym (ap (numbered_state ss) (c.moves.invariant.grows.ends c.args.entry.node c.requires.entry.inside)))
     (c.requires.moves.each c.moves.step-index d c.moves-test.true)
 
 pub moves-preserved : goal.moves-preserved
@@ -58,8 +63,8 @@ moves-preserved g c =
     let moves = c.args.moves.now in
     let set = is_taken c.args.taken.marks.now c.args.taken.marked in
     let at = c.moves.step-index in
-    let ops = ops_of moves in
-    let op = get_or (ops_of moves) at 0 in
+    let ops = move_operators moves in
+    let op = get_or (move_operators moves) at 0 in
     let i = c.moves.invariant in
     let m = c.add_child.ensures.grows in
     let old = c.moves.children.items in
@@ -67,8 +72,8 @@ moves-preserved g c =
     let is = op_at c.args.moves.now d c.moves.step-index c.moves-test.true in
     let inside = ops_few c.args.moves.now c.moves.step-index c.moves-test.true in
     let path = i.grows.paths c.args.entry.node c.requires.entry.inside in
-    let added = subst (λ (k : ℕ). Added v f t e k old new) is
-    (subst (λ (p : List ℕ). Added v f t p (get_or c.args.moves.now c.moves.step-index d).op old new) path
+    let added = subst (λ (k : ℕ). AddsPrefixChild v f t e k old new) is
+    (subst (λ (p : List ℕ). AddsPrefixChild v f t p (get_or c.args.moves.now c.moves.step-index d).op old new) path
     c.in_ok-add_child.ensures.added) in
     let none = lost v f ss a c.args.entry.node c.requires.tree c.requires.entry.inside moves c.requires.moves in
     let sofar = skip_to v f b e set ops none old at i.children.0 op i.children.1 (never_falls ops c.requires.moves.rising at) i.children.2 in
@@ -92,7 +97,7 @@ returns-clause-children g c =
     let a = c.args.tree.now.items in
     let none = lost v f ss a c.args.entry.node c.requires.tree c.requires.entry.inside c.args.moves.now c.requires.moves in
     let set = is_taken c.args.taken.marks.now c.args.taken.marked in
-    skip_to v f c.moves.tree.items (path_at a c.args.entry.node) set (ops_of c.args.moves.now) none
+    skip_to v f c.moves.tree.items (path_at a c.args.entry.node) set (move_operators c.args.moves.now) none
     c.moves.children.items c.moves.step-index i.children.0 v.system.operators i.children.1
     (λ j ge lt. absurd (omega (arith, ge, lt, few))) i.children.2
 
@@ -108,8 +113,8 @@ moves-preserved-then-not-takes g c =
     let moves = c.args.moves.now in
     let set = is_taken c.args.taken.marks.now c.args.taken.marked in
     let at = c.moves.step-index in
-    let ops = ops_of moves in
-    let op = get_or (ops_of moves) at 0 in
+    let ops = move_operators moves in
+    let op = get_or (move_operators moves) at 0 in
     let i = c.moves.invariant in
     let old = c.moves.children.items in
     let is = op_at c.args.moves.now d c.moves.step-index c.moves-test.true in

@@ -1,18 +1,18 @@
 use Rattle.std.proofs.Common.{ℕ}
 use Rattle.space_api.proofs.Rising.{IsPast}
 use Rattle.symk_task.specs.declared.parts.Mode.TheVariants.{TopK}
-use Rattle.prefix_tree.specs.StateGraph.{states_of, ops_of}
-use Rattle.prefix_tree.specs.Tree.{Grows, path_at}
+use Rattle.prefix_tree.specs.StateGraph.{states_of, move_operators}
+use Rattle.prefix_tree.specs.Tree.{GrowsTree, path_at}
 use Rattle.member_plans.specs.Moves.{is_taken}
-use Rattle.member_plans.specs.Children.{AreChosen}
+use Rattle.member_plans.specs.Children.{AreChosenChildren}
 use Rattle.member_plans.proofs.expand.add_some.Given as goal
 
 abbrev pub invariant-moves : goal.invariant-moves
 invariant-moves g l =
     let v = g.S.Space.view l.heuristic.space.now in
     record {
-      grows : Grows v.system TopK (states_of l.heuristic.graph.now) l.fn.tree.items l.tree.items;
-      children : (m : ℕ) × IsPast (ops_of l.moves) l.step-index m
-          × AreChosen v l.heuristic.search.now l.tree.items (path_at l.fn.tree.items l.entry.node)
+      grows : GrowsTree v.system TopK (states_of l.heuristic.graph.now) l.fn.tree.items l.tree.items;
+      children : (m : ℕ) × IsPast (move_operators l.moves) l.step-index m
+          × AreChosenChildren v l.heuristic.search.now l.tree.items (path_at l.fn.tree.items l.entry.node)
           (is_taken l.taken.marks.now l.taken.marked) m l.children.items;
     }

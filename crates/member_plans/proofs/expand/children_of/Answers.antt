@@ -1,14 +1,14 @@
 use Rattle.std.proofs.Common.{◌≡◌, ℕ, List, slice_index_or, subst, ap, ◌∙◌}
 use Rattle.symk_task.specs.declared.parts.Mode.TheVariants.{TopK}
-use Rattle.prefix_tree.specs.StateGraph.{states_of, state_at, AreMoves}
+use Rattle.prefix_tree.specs.StateGraph.{states_of, numbered_state, AreGraphMoves}
 use Rattle.prefix_tree.specs.declared.tree.Node.{Node}
 use Rattle.prefix_tree.proofs.Paths.{tree_prolonged}
 use Rattle.prefix_tree.proofs.Passing.{number_is}
 use Rattle.prefix_tree.proofs.Going.{end_within, end_run}
 use Rattle.prefix_tree.specs.Tree.{path_at}
 use Rattle.task_system.specs.System.{State}
-use Rattle.stubborn_laws.specs.Stubborn.{Stubborn}
-use Rattle.stubborn_sets.specs.Closing.{is_in}
+use Rattle.stubborn_sets.specs.Stubborn.{Stubborn}
+use Rattle.stubborn_sets.specs.Closing.{has_mark}
 use Rattle.member_plans.proofs.expand.children_of.Goals as goal
 
 pub find_moves-requires-clause-number : goal.find_moves-requires-clause-number
@@ -44,7 +44,7 @@ add_enough-requires-clause-moves g c =
     c.node_at-here.result) c.deref.ensures.value (c.node_at-here.ensures c.node_at-here.result) in
     let ss = states_of c.find_moves.new.graph in
     let all = c.find_moves.ensures.graph.moves c.node_at-here.result.state c.in-Some.moves.now c.in-Some.ensures.found in
-    subst (λ (k : ℕ). AreMoves y ss (state_at ss k) c.in-Some.moves.now)
+    subst (λ (k : ℕ). AreGraphMoves y ss (numbered_state ss k) c.in-Some.moves.now)
     (number_is nodes c.args.entry.node c.node_at-here.result c.requires.entry.inside is) all.1
 
 pub add_enough-requires-clause-marks : goal.add_enough-requires-clause-marks
@@ -56,6 +56,6 @@ add_enough-requires-clause-marks g c =
     let ss = states_of c.find_moves.new.graph in
     let number = number_is nodes c.args.entry.node c.node_at-here.result c.requires.entry.inside is in
     let serves = c.find_marks.ensures.serves y c.requires.serves in
-    subst (λ (s : State). Stubborn y (is_in c.marks_of-marks.result.now) s)
-    (c.state-state.ensures ∙ ap (state_at ss) number) (c.marks_of-marks.ensures y c.state-state.result.now
+    subst (λ (s : State). Stubborn y (has_mark c.marks_of-marks.result.now) s)
+    (c.state-state.ensures ∙ ap (numbered_state ss) number) (c.marks_of-marks.ensures y c.state-state.result.now
     serves c.in_ok-find_marks.ensures.found)

@@ -1,7 +1,7 @@
 use Rattle.std.proofs.Common.{◌≡◌, ℕ, ◌+◌, ◌≤◌, List, [], ◌∷◌, ◌++◌, length, take, sym, ◌∙◌, ap, arith}
 use Rattle.std.proofs.Math.Seq.{take-length}
 use Rattle.std.proofs.lemmas.List.{take_more}
-use Rattle.prefix_tree.specs.Tree.{number_at}
+use Rattle.prefix_tree.specs.Tree.{state_number_at}
 use Rattle.prefix_tree.proofs.Passing.{number_is}
 use Rattle.member_plans.proofs.keys.key_at.Goals as goal
 
@@ -18,7 +18,7 @@ operators-init c =
     rw (c.in_ok-push.ensures.items, c.new-key.ensures.items) (ap (λ (k : ℕ). k ∷ []) number)
 
 pub operators-preserved : goal.operators-preserved
-operators-preserved c = next (number_at c.args.tree.now c.args.node) c.deref-op-items.result.now c.operators.key.items
+operators-preserved c = next (state_number_at c.args.tree.now c.args.node) c.deref-op-items.result.now c.operators.key.items
     c.push-in-operators.new.self.items c.operators.op-index _ c.operators.invariant c.in_ok-push-2.ensures.items
     (take_more c.deref-op-items.result.now c.operators.op-index 0 c.operators-test.true)
 
@@ -27,7 +27,7 @@ returns c =
     let whole = all_of c.deref-op-items.result.now c.operators.op-index c.operators-test.false c.operators.auto.op-index-end in
     record {
       sorted = c.in_ok-operators.operators.items;
-      is = c.operators.invariant ∙ ap (λ (p : List ℕ). number_at c.args.tree.now c.args.node ∷ p) (whole ∙ c.deref-op-items.ensures.value);
+      is = c.operators.invariant ∙ ap (λ (p : List ℕ). state_number_at c.args.tree.now c.args.node ∷ p) (whole ∙ c.deref-op-items.ensures.value);
       permutation = c.in_ok-operators.ensures.permutation;
       rising = c.in_ok-operators.ensures.rising;
     }

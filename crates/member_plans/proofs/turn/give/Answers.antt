@@ -1,5 +1,5 @@
 use Rattle.std.proofs.Common.{◌∙◌, ap, sym, subst, List}
-use Rattle.class_plans.specs.Members.{GaveMember}
+use Rattle.selectors.specs.Members.{GaveMember}
 use Rattle.prefix_tree.specs.Tree.{path_at}
 use Rattle.prefix_tree.specs.declared.tree.Node.{Node}
 use Rattle.member_laws.specs.Nodes.{PendsNode}

@@ -1,4 +1,4 @@
-use Rattle.prefix_tree.specs.Entries.{entries_of}
+use Rattle.prefix_tree.specs.Entries.{queued_entries}
 use Rattle.member_plans.proofs.Beside.{first_entry}
 use Rattle.member_plans.proofs.Opening.{pass_follows}
 use Rattle.member_plans.proofs.turn.pass.Goals as goal
@@ -9,6 +9,6 @@ returns-clause-follows g c =
     let f = c.args.search.now in
     let x = c.args.front.now in
     let o = c.open.ensures in
-    let k = first_entry v f x.graph x.tree.items (entries_of x.queue) (entries_of x.other) c.args.entry
+    let k = first_entry v f x.graph x.tree.items (queued_entries x.queue) (queued_entries x.other) c.args.entry
     c.requires.some c.requires.first c.requires.steady.ready in
     pass_follows v f c.args.most x c.open.new.front c.args.entry k c.requires.off o.steady c.open.result o.ok o.err o.more o.same

@@ -1,8 +1,8 @@
 use Rattle.std.proofs.Common.{refl}
 use Rattle.prefix_tree.specs.StateGraph.{states_of}
-use Rattle.prefix_tree.specs.Entries.{entries_of}
+use Rattle.prefix_tree.specs.Entries.{queued_entries}
 use Rattle.member_plans.specs.Opened.{keys_of}
-use Rattle.member_plans.specs.Front.{places}
+use Rattle.member_plans.specs.Front.{opened_places}
 use Rattle.member_plans.proofs.Beside.{first_entry}
 use Rattle.member_plans.proofs.Table.{table_inside}
 use Rattle.member_plans.proofs.Opening.{retold_steady, retold_follows}
@@ -17,7 +17,7 @@ pub meets-requires-clause-node : goal.meets-requires-clause-node
 meets-requires-clause-node g c =
     let v = g.S.Space.view c.args.space.now in
     let x = c.args.front.now in
-    let k = first_entry v c.args.search.now x.graph x.tree.items (entries_of x.queue) (entries_of x.other)
+    let k = first_entry v c.args.search.now x.graph x.tree.items (queued_entries x.queue) (queued_entries x.other)
     c.args.entry c.requires.some c.requires.first c.requires.steady.ready in
     rw c.deref.ensures.value k.inside
 
@@ -25,7 +25,7 @@ pub meets-requires-clause-inside : goal.meets-requires-clause-inside
 meets-requires-clause-inside g c =
     let v = g.S.Space.view c.args.space.now in
     let x = c.args.front.now in
-    rw c.deref.ensures.value (table_inside v.system c.args.most x.tree.items (places x) (keys_of x.opened) c.requires.steady.table)
+    rw c.deref.ensures.value (table_inside v.system c.args.most x.tree.items (opened_places x) (keys_of x.opened) c.requires.steady.table)
 
 pub drop_joined-requires-clause-steady : goal.drop_joined-requires-clause-steady
 drop_joined-requires-clause-steady g c = retold_steady (g.S.Space.view c.args.space.now) c.args.search.now c.args.most
@@ -37,7 +37,7 @@ drop_joined-requires-clause-joined g c =
     let f = c.args.search.now in
     let x = c.args.front.now in
     let z = c.requires.steady in
-    let k = first_entry v f x.graph x.tree.items (entries_of x.queue) (entries_of x.other) c.args.entry c.requires.some c.requires.first z.ready in
+    let k = first_entry v f x.graph x.tree.items (queued_entries x.queue) (queued_entries x.other) c.args.entry c.requires.some c.requires.first z.ready in
     let met = (rw c.deref.ensures.value at c.in_ok-meets.ensures.met) v.system c.args.most (states_of x.graph) z.ready.tree z.ready.graph.once z.table k.plan in
     joined_now v f c.args.most x c.meets.new.self c.meets.ensures.places c.meets.ensures.keys z c.args.entry _ met c.if-branch.true
 
@@ -73,7 +73,7 @@ returns-then-entry-clause-ok g c =
     let f = c.args.search.now in
     let x = c.args.front.now in
     let z = c.requires.steady in
-    let k = first_entry v f x.graph x.tree.items (entries_of x.queue) (entries_of x.other) c.args.entry c.requires.some c.requires.first z.ready in
+    let k = first_entry v f x.graph x.tree.items (queued_entries x.queue) (queued_entries x.other) c.args.entry c.requires.some c.requires.first z.ready in
     let met = (rw c.deref.ensures.value at c.in_ok-meets.ensures.met) v.system c.args.most (states_of x.graph) z.ready.tree z.ready.graph.once z.table k.plan in
     due_now v f c.args.most x c.meets.new.self c.meets.ensures.places c.meets.ensures.keys z c.args.entry _ met
     c.if-branch.false c.requires.some c.requires.first c.requires.least c.requires.cheap c.if-entry.true
@@ -94,7 +94,7 @@ returns-clause-follows g c =
 
 pub returns-clause-ok : goal.returns-clause-ok
 returns-clause-ok g c = (
-  more_now (places c.args.front.now) _ (places c.pass.new.front) c.meets.ensures.places
+  more_now (opened_places c.args.front.now) _ (opened_places c.pass.new.front) c.meets.ensures.places
       c.in_ok-pass.ensures.more,
   c.in_ok-pass.ensures.fits,
 )

@@ -1,10 +1,10 @@
 use Rattle.std.proofs.Common.{◌<◌}
 use Rattle.lazy_plans.specs.Law.{top}
-use Rattle.prefix_tree.specs.Entries.{entries_of}
+use Rattle.prefix_tree.specs.Entries.{queued_entries}
 use Rattle.prefix_tree.specs.declared.entry.Entry.{Entry}
 use Rattle.member_plans.specs.Opened.{keys_of}
-use Rattle.member_plans.specs.Front.{opened, waiting, places}
-use Rattle.prefix_ends.proofs.Dearest.{dear_each}
+use Rattle.member_plans.specs.Front.{opened, waiting_members, opened_places}
+use Rattle.prefix_plans.proofs.Dearest.{dear_each}
 use Rattle.member_plans.proofs.Beside.{both_same, permuted_each}
 use Rattle.member_plans.proofs.Table.{table_cheap}
 use Rattle.member_plans.proofs.Walking.{joined_each, joined_covers, kept_follows, left_follows, past_ends}
@@ -17,7 +17,7 @@ returns-in_err-join-in-None-clause-follows g c =
     let q = c.join.new.self in
     let o = c.join.new.other in
     kept_follows (g.S.Space.view c.args.space.now) c.args.search.now c.args.most x q o c.requires.steady
-    (both_same (entries_of x.queue) (entries_of x.other) (entries_of q) (entries_of o)
+    (both_same (queued_entries x.queue) (queued_entries x.other) (queued_entries q) (queued_entries o)
     c.in_err-join-in-None.ensures.err c.in_err-join-in-None.ensures.same)
 
 pub is_left-requires-clause-dear : goal.is_left-requires-clause-dear
@@ -27,8 +27,9 @@ is_left-requires-clause-dear g c =
     let x = c.args.front.now in
     let q = c.join.new.self in
     let joined = c.in_ok-join-in-None.ensures.ok in
-    let dear = permuted_each (λ (k : Entry). top c.args.most < k.bound.0) (waiting x) (entries_of q) joined c.requires.dear in
-    rw c.deref.ensures.value (dear_each v f x.tree.items (entries_of q) (joined_each v f c.args.most x q joined c.requires.steady) (rw c.in-None.is at dear))
+    let dear = permuted_each (λ (k : Entry). top c.args.most < k.bound.0) (waiting_members x) (queued_entries q) joined c.requires.dear in
+    rw c.deref.ensures.value (dear_each v f x.tree.items (queued_entries q)
+    (joined_each v f c.args.most x q joined c.requires.steady) (rw c.in-None.is at dear))
 
 pub returns-in_err-is_left-in-None-clause-follows : goal.returns-in_err-is_left-in-None-clause-follows
 returns-in_err-is_left-in-None-clause-follows g c =
@@ -71,7 +72,7 @@ returns-then-branch-clause-ok g c =
     let x = c.args.front.now in
     let z = c.requires.steady in
     let covers = joined_covers v c.args.search.now c.args.most x c.join.new.self c.in_ok-join-in-None.ensures.ok z in
-    let cheap = rw c.in-None.is at (table_cheap y c.args.most x.tree.items (places x) (keys_of x.opened) z.table) in
+    let cheap = rw c.in-None.is at (table_cheap y c.args.most x.tree.items (opened_places x) (keys_of x.opened) z.table) in
     told_out y c.args.most (opened x) _ c.in-None.is c.if-branch.true
     ((rw c.deref.ensures.value at (c.in_ok-is_left-in-None.ensures.told (opened x)))
     z.serves.lists covers cheap)
@@ -83,7 +84,7 @@ returns-else-branch-clause-ok g c =
     let x = c.args.front.now in
     let z = c.requires.steady in
     let covers = joined_covers v c.args.search.now c.args.most x c.join.new.self c.in_ok-join-in-None.ensures.ok z in
-    let cheap = rw c.in-None.is at (table_cheap y c.args.most x.tree.items (places x) (keys_of x.opened) z.table) in
+    let cheap = rw c.in-None.is at (table_cheap y c.args.most x.tree.items (opened_places x) (keys_of x.opened) z.table) in
     told_none y c.args.most (opened x) _ c.in-None.is c.if-branch.false
     ((rw c.deref.ensures.value at (c.in_ok-is_left-in-None.ensures.told (opened x)))
     z.serves.lists covers cheap)

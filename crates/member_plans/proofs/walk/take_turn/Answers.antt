@@ -1,5 +1,5 @@
 use Rattle.std.proofs.Common.{refl}
-use Rattle.prefix_ends.specs.Left.{known_of}
+use Rattle.prefix_plans.specs.Left.{known_to_go}
 use Rattle.member_plans.proofs.Walking.{rearranged_follows, follows_then, empty_ends, halts_after, if_turned}
 use Rattle.member_plans.proofs.walk.take_turn.Goals as goal
 
@@ -57,7 +57,7 @@ returns-then-entry-top_of-clause-ok g c =
     let f = c.args.search.now in
     let x = c.args.front.now in
     let m = rearranged_follows v f c.args.most x c.turn_to_first.new.self c.turn_to_first.ensures.rearranged c.requires.steady in
-    halts_after v.system (known_of f) c.args.most x c.turn_to_first.new.self c.end.new.front m.more c.in_ok-halt-in-Some.halt c.in_ok-halt-in-Some.ensures.ok
+    halts_after v.system (known_to_go f) c.args.most x c.turn_to_first.new.self c.end.new.front m.more c.in_ok-halt-in-Some.halt c.in_ok-halt-in-Some.ensures.ok
 
 pub returns-else-entry-top_of-clause-follows : goal.returns-else-entry-top_of-clause-follows
 returns-else-entry-top_of-clause-follows g c =
@@ -74,4 +74,4 @@ returns-else-entry-top_of-clause-ok g c =
     let x = c.args.front.now in
     let m = rearranged_follows v f c.args.most x c.turn_to_first.new.self c.turn_to_first.ensures.rearranged c.requires.steady in
     let same = c.turn_to_first.ensures.rearranged.entries in
-    if_turned v.system (known_of f) c.args.most x c.turn_to_first.new.self c.act.new.front same m.more c.act.result c.act.ensures.ok
+    if_turned v.system (known_to_go f) c.args.most x c.turn_to_first.new.self c.act.new.front same m.more c.act.result c.act.ensures.ok

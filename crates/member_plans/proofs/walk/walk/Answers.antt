@@ -1,9 +1,9 @@
 use Rattle.std.proofs.Common.{◌<◌, ◌∙◌, refl, sym, subst, arith}
 use Rattle.task_system.specs.System.{System}
 use Rattle.cost_to_go.specs.Standing.{steps_left}
-use Rattle.prefix_ends.specs.Left.{known_of}
+use Rattle.prefix_plans.specs.Left.{known_to_go}
 use Rattle.member_laws.specs.Nodes.{PendsNode}
-use Rattle.member_plans.specs.Front.{opened, waiting, HaltsAt}
+use Rattle.member_plans.specs.Front.{opened, waiting_members, MembersHaltAt}
 use Rattle.member_plans.specs.declared.walk.Halt.TheVariants.{Due, Opens, Waits, Ends, OutOfRange}
 use Rattle.member_plans.proofs.Walking.{follows_self, follows_then, follows_on, memory_stops, opened_fewer, step_fewer}
 use Rattle.member_plans.proofs.walk.walk.Goals as goal
@@ -35,19 +35,19 @@ returns-in-Err-clause-ok g c = memory_stops (g.S.Space.view c.args.space.now).sy
 pub returns-in-Due-clause-ok : goal.returns-in-Due-clause-ok
 returns-in-Due-clause-ok g c =
     let i = c.steps.invariant in
-    subst (λ (y : System). HaltsAt y (known_of c.steps.search) c.args.most c.steps.front c.take_turns.new.front
+    subst (λ (y : System). MembersHaltAt y (known_to_go c.steps.search) c.args.most c.steps.front c.take_turns.new.front
     (Due c.in-Due.entry)) i.system (rw c.in-Due.is at c.in-Ok.ensures.ok)
 
 pub returns-in-Ends-clause-ok : goal.returns-in-Ends-clause-ok
 returns-in-Ends-clause-ok g c =
     let i = c.steps.invariant in
-    subst (λ (y : System). HaltsAt y (known_of c.steps.search) c.args.most c.steps.front c.take_turns.new.front Ends)
+    subst (λ (y : System). MembersHaltAt y (known_to_go c.steps.search) c.args.most c.steps.front c.take_turns.new.front Ends)
     i.system (rw c.in-Ends.is at c.in-Ok.ensures.ok)
 
 pub returns-in-OutOfRange-clause-ok : goal.returns-in-OutOfRange-clause-ok
 returns-in-OutOfRange-clause-ok g c =
     let i = c.steps.invariant in
-    subst (λ (y : System). HaltsAt y (known_of c.steps.search) c.args.most c.steps.front c.take_turns.new.front
+    subst (λ (y : System). MembersHaltAt y (known_to_go c.steps.search) c.args.most c.steps.front c.take_turns.new.front
     OutOfRange) i.system (rw c.in-OutOfRange.is at c.in-Ok.ensures.ok)
 
 pub go_on-requires-clause-alone : goal.go_on-requires-clause-alone
@@ -56,7 +56,7 @@ go_on-requires-clause-alone g c = c.take_turns.ensures.follows.steady.ready.alon
 pub go_on-requires-clause-more : goal.go_on-requires-clause-more
 go_on-requires-clause-more g c =
     let i = c.steps.invariant in
-    subst (λ (y : System). HaltsAt y (known_of c.steps.search) c.args.most c.steps.front c.take_turns.new.front Waits)
+    subst (λ (y : System). MembersHaltAt y (known_to_go c.steps.search) c.args.most c.steps.front c.take_turns.new.front Waits)
     i.system (rw c.in-Waits.is at c.in-Ok.ensures.ok)
 
 pub returns-in-Err-go_on-clause-follows : goal.returns-in-Err-go_on-clause-follows
@@ -69,7 +69,7 @@ returns-in-Err-go_on-clause-follows g c =
     let z = c.take_turns.new.front in
     let k = follows_then c.take_turns.ensures.system i.follows c.take_turns.ensures.follows in
     follows_on w (g.S.Space.view c.go_on.new.space) f c.go_on.new.search most x z c.go_on.ensures.system
-    (c.go_on.ensures.ready z.graph z.tree.items (waiting z) k.steady.ready) k
+    (c.go_on.ensures.ready z.graph z.tree.items (waiting_members z) k.steady.ready) k
 
 pub returns-in-Err-go_on-clause-ok : goal.returns-in-Err-go_on-clause-ok
 returns-in-Err-go_on-clause-ok g c = memory_stops (g.S.Space.view c.args.space.now).system c.args.most
@@ -88,7 +88,7 @@ steps-preserved g c =
       system = c.go_on.ensures.system ∙ (c.take_turns.ensures.system ∙ i.system);
       within = i.within ∙ sym c.go_on.ensures.within;
       follows = follows_on w (g.S.Space.view c.go_on.new.space) f c.go_on.new.search most x z c.go_on.ensures.system
-          (c.go_on.ensures.ready z.graph z.tree.items (waiting z) k.steady.ready) k;
+          (c.go_on.ensures.ready z.graph z.tree.items (waiting_members z) k.steady.ready) k;
       steps = omega (arith, i.steps, c.take_turns.ensures.steps);
     }
 
@@ -112,6 +112,6 @@ steps-preserved-in-Opens g c =
 pub steps-smaller-in-Opens : goal.steps-smaller-in-Opens
 steps-smaller-in-Opens g c =
     let i = c.steps.invariant in
-    let h = subst (λ (y : System). HaltsAt y (known_of c.steps.search) c.args.most c.steps.front
+    let h = subst (λ (y : System). MembersHaltAt y (known_to_go c.steps.search) c.args.most c.steps.front
     c.take_turns.new.front Opens) i.system (rw c.in-Opens.is at c.in-Ok.ensures.ok) in
     opened_fewer _ _ _ h.0 h.1

@@ -1,6 +1,6 @@
 use Rattle.std.proofs.Common.{◌≡◌, ◌≤◌, ◌+◌, ◌-◌, ◌^◌, length}
-use Rattle.cost_to_go.specs.Standing.{within_of, steps_left}
-use Rattle.member_plans.specs.Front.{Follows, places}
+use Rattle.cost_to_go.specs.Standing.{to_go_within, steps_left}
+use Rattle.member_plans.specs.Front.{FollowsTurns, opened_places}
 use Rattle.member_plans.proofs.walk.walk.Given as goal
 
 abbrev pub invariant-steps : goal.invariant-steps
@@ -8,10 +8,10 @@ invariant-steps g l =
     let view = g.S.Space.view in
     record {
       system : (view l.space).system ≡ (view l.fn.space).system;
-      within : l.within ≡ within_of l.search;
-      follows : Follows (view l.space) l.search l.most l.fn.front l.front;
+      within : l.within ≡ to_go_within l.search;
+      follows : FollowsTurns (view l.space) l.search l.most l.fn.front l.front;
       steps : l.fn.steps ≤ l.steps;
     }
 
 abbrev pub decreases-steps : goal.decreases-steps
-decreases-steps g l = steps_left (g.S.Space.view l.fn.space).system l.search + (2 ^ 64 - length (places l.front))
+decreases-steps g l = steps_left (g.S.Space.view l.fn.space).system l.search + (2 ^ 64 - length (opened_places l.front))

@@ -3,7 +3,7 @@ use Rattle.std.proofs.lemmas.Result.{IfOk-weaker}
 use Rattle.symk_task.specs.declared.parts.Fact.{Fact}
 use Rattle.symk_task.specs.declared.parts.Operator.{Operator}
 use Rattle.symk_task.specs.declared.parts.TaskParts.{TaskParts}
-use Rattle.mutex_use.specs.Groups.{group_at}
+use Rattle.mutex_use.specs.Groups.{mutex_group_at}
 use Rattle.mutex_use.specs.Balance.{HaveUnbalanced, HaveBreaking}
 use Rattle.mutex_use.proofs.Balancing.{breaking_end}
 use Rattle.mutex_use.proofs.balance.breaking_operators.Goals as goal
@@ -11,7 +11,7 @@ use Rattle.mutex_use.proofs.balance.breaking_operators.Goals as goal
 pub returns : goal.returns
 returns c =
     let task = c.args.task.now in
-    let facts = group_at task c.args.group in
+    let facts = mutex_group_at task c.args.group in
     let among = c.in_ok-among.among.items in
     let operators = c.as_slice-operators.result.now in
     let same = c.as_slice-operators.ensures ∙ ap (λ (t : TaskParts). t.operators) c.parts.ensures.value in

@@ -1,5 +1,5 @@
 use Rattle.std.proofs.Common.{◌≡◌, take}
-use Rattle.mutex_use.specs.Counts.{Counted}
+use Rattle.mutex_use.specs.Counts.{CountsFacts}
 use Rattle.mutex_use.proofs.counts.count_facts.Given as goal
 
 abbrev pub invariant-facts : goal.invariant-facts
@@ -7,5 +7,5 @@ invariant-facts g l =
     let view = g.S.Space.view in
     record {
       task : (view l.space).task ≡ (view l.fn.space).task;
-      counted : Counted (view l.fn.space) (view l.space) l.within (take l.i l.facts) l.counts;
+      counted : CountsFacts (view l.fn.space) (view l.space) l.within (take l.i l.facts) l.counts;
     }

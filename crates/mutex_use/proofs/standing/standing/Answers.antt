@@ -4,7 +4,7 @@ use Rattle.std.proofs.lemmas.List.Elements.{Contains-get_or}
 use Rattle.space_api.specs.View.{Has}
 use Rattle.space_api.proofs.Keeping.{stays_trans}
 use Rattle.space_api.proofs.Trading.{valid_clash}
-use Rattle.mutex_use.specs.Rounds.{AreLeft}
+use Rattle.mutex_use.specs.Rounds.{AreGroupsLeft}
 use Rattle.mutex_use.proofs.Leaving.{left_more, left_same, from_same}
 use Rattle.mutex_use.proofs.standing.standing.Goals as goal
 use Rattle.mutex_use.proofs.standing.standing.Goals.{then-holds+in_ok-push, else-holds}
@@ -34,9 +34,10 @@ groups-preserved g c =
       task = c.tidy.ensures.task ∙ (c.stands.ensures.task ∙ inv.task);
       stays = stays_trans (stays_trans inv.stays c.stands.ensures.stays) c.tidy.ensures.stays;
       left = elim c.if-holds.branch [
-        | then-holds+in_ok-push w ↦ subst (AreLeft task From groups (i + 1)) (sym (ap (λ (u : Vec ℕ Global). u.items) w.left-is ∙ w.in_ok-push.ensures.items))
+        | then-holds+in_ok-push w ↦ subst (AreGroupsLeft task From groups (i + 1))
+            (sym (ap (λ (u : Vec ℕ Global). u.items) w.left-is ∙ w.in_ok-push.ensures.items))
             (left_more task From groups old i x c.requires.rising lt here inv.left (same.0 (told.0 w.if-holds.true)))
-        | else-holds w ↦ subst (AreLeft task From groups (i + 1)) (sym (ap (λ (u : Vec ℕ Global). u.items) w.left-is))
+        | else-holds w ↦ subst (AreGroupsLeft task From groups (i + 1)) (sym (ap (λ (u : Vec ℕ Global). u.items) w.left-is))
             (left_same task From groups old i x c.requires.rising lt here inv.left (λ st. valid_clash (told.1 (same.1 st)) w.if-holds.false))
       ];
     }

@@ -4,7 +4,7 @@ use Rattle.std.proofs.lemmas.Option.{slice_get-get_or}
 use Rattle.symk_task.specs.declared.parts.Effect.{Effect}
 use Rattle.symk_task.specs.declared.parts.Operator.{Operator}
 use Rattle.symk_task.specs.declared.parts.TaskParts.{TaskParts}
-use Rattle.mutex_use.specs.Writers.{AreWriters, Notes}
+use Rattle.mutex_use.specs.Writers.{AreWriters, NotesWriter}
 use Rattle.mutex_use.proofs.Lists.{write_back}
 use Rattle.mutex_use.proofs.Noting.{writers_start, writers_next, effects_within}
 use Rattle.mutex_use.proofs.writers.writers_of.Goals as goal
@@ -38,9 +38,9 @@ operators-preserved c =
     let at : slice_get c.args.task.now.operators i ≡ Some operator =
     subst (λ (z : List Operator). slice_get z i ≡ Some operator) whole
     (slice_get-get_or all i c.index-operators-i.result c.operators-test.true) in
-    let notes : Notes old i operator.effects new =
-    subst (λ (z : List (List ℕ)). Notes z i operator.effects new) c.deref_mut.ensures.value
-    (subst (λ (z : List Effect). Notes c.deref_mut.result.now i z new) c.as_slice.ensures
+    let notes : NotesWriter old i operator.effects new =
+    subst (λ (z : List (List ℕ)). NotesWriter z i operator.effects new) c.deref_mut.ensures.value
+    (subst (λ (z : List Effect). NotesWriter c.deref_mut.result.now i z new) c.as_slice.ensures
     c.in_ok-note_effects.ensures) in
     let len : length old ≡ c.operators.writers.len = sym c.operators.writers.ok.0 in
     subst (AreWriters c.args.task.now (i + 1)) (sym (write_back new old c.operators.writers.len len notes.each))

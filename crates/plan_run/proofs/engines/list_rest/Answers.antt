@@ -1,5 +1,5 @@
 use Rattle.std.proofs.Common.{ℕ, All, Option, sym, subst, ◌≤◌}
-use Rattle.task_system.specs.System.{System, cost_of}
+use Rattle.task_system.specs.System.{System, cost_in_system}
 use Rattle.lazy_plans.specs.Law.{top}
 use Rattle.plan_run.specs.Jobs.{aim_of}
 use Rattle.plan_run.proofs.Going.{cheap_of}
@@ -14,8 +14,8 @@ new-requires-clause-cheap g c =
     let serves = c.requires.owes.serves in
     let plans = job.earlier.now.plans in
     let cheap = cheap_of job.task.now job.mode job.limit job.earlier.now c.requires.lawful.earlier in
-    let there = subst (λ (y : System). All (λ p. cost_of y p ≤ top job.limit) plans) (sym serves.of_task) cheap in
-    subst (λ (q : Option ℕ). All (λ p. cost_of (e.system c.args.engine) p ≤ top q) plans) (sym serves.limited) there
+    let there = subst (λ (y : System). All (λ p. cost_in_system y p ≤ top job.limit) plans) (sym serves.of_task) cheap in
+    subst (λ (q : Option ℕ). All (λ p. cost_in_system (e.system c.args.engine) p ≤ top q) plans) (sym serves.limited) there
 
 pub list_plans-requires-clause-owes : goal.list_plans-requires-clause-owes
 list_plans-requires-clause-owes g c =

@@ -3,7 +3,7 @@ use Rattle.symk_task.specs.Plans.{cost_of}
 use Rattle.lazy_plans.specs.declared.stop.Stop.TheVariants.{CostRange}
 use Rattle.plan_out.specs.declared.end.End.TheVariants as end
 use Rattle.plan_out.specs.Texts.{block, end_line}
-use Rattle.run_status.specs.Ends.{Ends}
+use Rattle.run_status.specs.Ends.{EndsWithText}
 use Rattle.run_status.specs.Sent.{TookPiece, TookFront}
 use Rattle.run_status.specs.declared.status.Status.TheVariants as status
 use Rattle.plan_run.specs.Lists.{aim_after, all_end, asked}
@@ -259,7 +259,8 @@ returns-then-not-wanted-clause-lists g c =
     let here = e.pends c.plans.plans.inner in
     let mid = g.K.Sink.view c.plans.sink in
     let new = g.K.Sink.view c.end_list-then-not-wanted.new.sink in
-    let ends = subst (λ (n : ℕ). Ends status.Reached (end_line (end.Reached (n + wanted.count))) mid new c.end_list-then-not-wanted.result) c.len-before.ensures c.end_list-then-not-wanted.ensures.ends in
+    let ends = subst (λ (n : ℕ). EndsWithText status.Reached
+    (end_line (end.Reached (n + wanted.count))) mid new c.end_list-then-not-wanted.result) c.len-before.ensures c.end_list-then-not-wanted.ensures.ends in
     reached_ends task mode wanted limit earlier fits bound here old mid new c.plans.number _ so c.requires.lawful.least whole (off_by_not wanted.more c.if-not-wanted.true) ends
 
 pub returns-in-Some-Ok-next-clause-lists : goal.returns-in-Some-Ok-next-clause-lists
@@ -283,7 +284,8 @@ returns-in-Some-Ok-next-clause-lists g c =
     let arm = c.in-Some-Ok-next in
     let gave = limit_gave e.system e.mode e.most e.pends e.lawful e.last task mode limit (asked wanted) c.plans.number c.plans.plans c.next-2.new.self arm.field-0 arm.field-0-0 arm.field-0-is c.plans.invariant.stands within arm.ensures.steps in
     let new = g.K.Sink.view c.end_list-in-Some-Ok-next.new.sink in
-    let ends = subst (λ (n : ℕ). Ends status.MoreLeft (end_line (end.More (n + wanted.count))) mid new c.end_list-in-Some-Ok-next.result) c.len-before.ensures c.end_list-in-Some-Ok-next.ensures.ends in
+    let ends = subst (λ (n : ℕ). EndsWithText status.MoreLeft
+    (end_line (end.More (n + wanted.count))) mid new c.end_list-in-Some-Ok-next.result) c.len-before.ensures c.end_list-in-Some-Ok-next.ensures.ends in
     more_ends task mode wanted limit earlier fits bound here old there arm.field-0-0 gave mid new c.plans.number _ so c.requires.lawful.least whole more ends
 
 pub returns-in-Some-Err-CostRange-next-clause-lists : goal.returns-in-Some-Err-CostRange-next-clause-lists

@@ -1,7 +1,7 @@
 use Rattle.std.proofs.Common.{sym, subst}
 use Rattle.plan_run.specs.declared.earlier.Earlier.{Earlier}
 use Rattle.plan_run.specs.Earlier.{IsEarlier}
-use Rattle.run_status.specs.Ends.{Puts}
+use Rattle.run_status.specs.Ends.{PutsOutWith}
 use Rattle.plan_run.specs.Lists.{OrPart, aim_after}
 use Rattle.plan_run.proofs.Going.{none_earlier}
 use Rattle.plan_run.proofs.reaching.list_first.Goals as goal
@@ -17,5 +17,7 @@ list_found-requires g c =
 
 pub returns-clause-lists : goal.returns-clause-lists
 returns-clause-lists g c =
-    subst (λ (e : Earlier). Puts (OrPart (aim_after c.args.task.now c.args.mode c.args.wanted c.args.limit e.plans)) (g.K.Sink.view c.args.sink.now) (g.K.Sink.view c.list_found.new.sink) c.list_found.result)
+    subst (λ (e : Earlier). PutsOutWith (OrPart
+    (aim_after c.args.task.now c.args.mode c.args.wanted c.args.limit e.plans)) (g.K.Sink.view c.args.sink.now)
+    (g.K.Sink.view c.list_found.new.sink) c.list_found.result)
     c.none-earlier.ensures c.list_found.ensures.lists

@@ -1,6 +1,6 @@
 use Rattle.std.proofs.Common.{◌≡◌, ℕ, List, slice_index_or, subst}
 use Rattle.symk_task.specs.declared.parts.Mode.TheVariants.{TopK}
-use Rattle.prefix_tree.specs.StateGraph.{states_of, state_at, AreMoves}
+use Rattle.prefix_tree.specs.StateGraph.{states_of, numbered_state, AreGraphMoves}
 use Rattle.prefix_tree.specs.declared.tree.Node.{Node}
 use Rattle.prefix_tree.proofs.Paths.{grows_refl, tree_prolonged}
 use Rattle.prefix_tree.proofs.Passing.{number_is}
@@ -35,5 +35,5 @@ add_all-requires-clause-moves g c =
     c.node_at-here.result) c.deref.ensures.value (c.node_at-here.ensures c.node_at-here.result) in
     let ss = states_of c.find_moves.new.graph in
     let all = c.find_moves.ensures.graph.moves c.node_at-here.result.state c.in-Some.moves.now c.in-Some.ensures.found in
-    subst (λ (k : ℕ). AreMoves y ss (state_at ss k) c.in-Some.moves.now)
+    subst (λ (k : ℕ). AreGraphMoves y ss (numbered_state ss k) c.in-Some.moves.now)
     (number_is nodes c.args.entry.node c.node_at-here.result c.requires.entry.inside is) all.1

@@ -1,4 +1,4 @@
-use Rattle.prefix_ends.proofs.Dearest.{tells_leading}
+use Rattle.prefix_plans.proofs.Dearest.{tells_leading}
 use Rattle.prefix_plans.proofs.range.is_left.Goals as goal
 
 pub some_goes_on-left-requires-clause-tells : goal.some_goes_on-left-requires-clause-tells

@@ -1,18 +1,18 @@
 use Rattle.std.proofs.Common.{arith, None}
-use Rattle.prefix_tree.specs.Entries.{entries_of, prefixes}
+use Rattle.prefix_tree.specs.Entries.{queued_entries, prefixes}
 use Rattle.prefix_tree.specs.StateGraph.{states_of}
 use Rattle.prefix_tree.specs.Tree.{path_at}
 use Rattle.space_api.proofs.Trading.{valid_clash}
-use Rattle.prefix_ends.specs.Children.{IsEntry}
-use Rattle.prefix_ends.specs.Leading.{GoesOnFrom, IsDear}
-use Rattle.prefix_ends.proofs.Replacing.{replaced_perm}
+use Rattle.prefix_plans.specs.EndChildren.{IsEndEntry}
+use Rattle.prefix_plans.specs.Leading.{GoesOnFrom, IsDear}
+use Rattle.prefix_plans.proofs.Replacing.{replaced_perm}
 use Rattle.prefix_plans.proofs.Ranging.{keeps_all, ends_so, dear_inside, stops_so, keeps_on, each_on, fewer}
 use Rattle.prefix_plans.proofs.range.some_goes_on.Goals as goal
 
 pub entries-init : goal.entries-init
 entries-init g c = record {
   each = λ w f a. a;
-  keeps = keeps_all (g.S.Space.view c.args.space.now).system None (prefixes c.args.tree.now (entries_of c.args.queue.now)) c.requires.right;
+  keeps = keeps_all (g.S.Space.view c.args.space.now).system None (prefixes c.args.tree.now (queued_entries c.args.queue.now)) c.requires.right;
   dear = c.requires.dear;
   steps = omega arith;
 }
@@ -23,8 +23,8 @@ returns-in-None-clause-told g c =
     let ss = states_of c.args.graph.now in
     let nodes = c.args.tree.now in
     let z = c.requires.tree in
-    let old = entries_of c.args.queue.now in
-    let es = entries_of c.entries.queue in
+    let old = queued_entries c.args.queue.now in
+    let es = queued_entries c.entries.queue in
     let i = c.entries.invariant in
     ends_so y ss nodes z old es i.keeps i.dear c.in-None.ensures.none
 
@@ -34,8 +34,8 @@ goes_on-requires-clause-inside g c =
     let ss = states_of c.args.graph.now in
     let nodes = c.args.tree.now in
     let z = c.requires.tree in
-    let old = entries_of c.args.queue.now in
-    let es = entries_of c.entries.queue in
+    let old = queued_entries c.args.queue.now in
+    let es = queued_entries c.entries.queue in
     let i = c.entries.invariant in
     dear_inside y ss nodes z old es i.keeps i.dear c.in-Some.entry c.in-Some.ensures.some c.in-Some.ensures.at
 
@@ -45,8 +45,8 @@ returns-then-goes_on-clause-told g c =
     let ss = states_of c.args.graph.now in
     let nodes = c.args.tree.now in
     let z = c.requires.tree in
-    let old = entries_of c.args.queue.now in
-    let es = entries_of c.entries.queue in
+    let old = queued_entries c.args.queue.now in
+    let es = queued_entries c.entries.queue in
     let i = c.entries.invariant in
     stops_so y ss nodes z old es i.keeps i.dear c.in-Some.entry c.in-Some.ensures.some c.in-Some.ensures.at (c.goes_on.ensures.0 c.if-goes_on.true)
 
@@ -56,14 +56,14 @@ entries-smaller g c =
     let ss = states_of c.args.graph.now in
     let nodes = c.args.tree.now in
     let z = c.requires.tree in
-    let old = entries_of c.args.queue.now in
-    let es = entries_of c.entries.queue in
+    let old = queued_entries c.args.queue.now in
+    let es = queued_entries c.entries.queue in
     let i = c.entries.invariant in
     let e = c.in-Some.entry in
     let off : ¬ GoesOnFrom y (path_at nodes e.node) = (λ h. valid_clash (c.goes_on.ensures.1 h) c.if-goes_on.false) in
     let kids = c.new.result.items in
-    let new = entries_of c.replace.new.self in
-    let perm = replaced_perm es (entries_of c.make_room.new.self) kids new e c.make_room.ensures.same c.in-Some.ensures.at c.replace.ensures.replaces in
+    let new = queued_entries c.replace.new.self in
+    let perm = replaced_perm es (queued_entries c.make_room.new.self) kids new e c.make_room.ensures.same c.in-Some.ensures.at c.replace.ensures.replaces in
     fewer y ss nodes z old es i.keeps i.dear e c.in-Some.ensures.some c.in-Some.ensures.at off kids new c.new.ensures.items perm
 
 pub entries-preserved : goal.entries-preserved
@@ -72,17 +72,17 @@ entries-preserved g c =
     let ss = states_of c.args.graph.now in
     let nodes = c.args.tree.now in
     let z = c.requires.tree in
-    let old = entries_of c.args.queue.now in
-    let es = entries_of c.entries.queue in
+    let old = queued_entries c.args.queue.now in
+    let es = queued_entries c.entries.queue in
     let i = c.entries.invariant in
     let e = c.in-Some.entry in
     let off : ¬ GoesOnFrom y (path_at nodes e.node) = (λ h. valid_clash (c.goes_on.ensures.1 h) c.if-goes_on.false) in
     let kids = c.new.result.items in
-    let new = entries_of c.replace.new.self in
-    let perm = replaced_perm es (entries_of c.make_room.new.self) kids new e c.make_room.ensures.same c.in-Some.ensures.at c.replace.ensures.replaces in
+    let new = queued_entries c.replace.new.self in
+    let perm = replaced_perm es (queued_entries c.make_room.new.self) kids new e c.make_room.ensures.same c.in-Some.ensures.at c.replace.ensures.replaces in
     record {
       each = λ w f a. each_on y ss nodes z old es i.keeps i.dear e c.in-Some.ensures.some c.in-Some.ensures.at off
-          kids new c.new.ensures.items perm (IsEntry w f nodes) (i.each w f a);
+          kids new c.new.ensures.items perm (IsEndEntry w f nodes) (i.each w f a);
       keeps = keeps_on y ss nodes z old es i.keeps i.dear e c.in-Some.ensures.some c.in-Some.ensures.at off kids new c.new.ensures.items perm;
       dear = each_on y ss nodes z old es i.keeps i.dear e c.in-Some.ensures.some c.in-Some.ensures.at off kids new
           c.new.ensures.items perm (IsDear y nodes) i.dear;

@@ -1,4 +1,4 @@
-use Rattle.prefix_ends.specs.Left.{known_of}
+use Rattle.prefix_plans.specs.Left.{known_to_go}
 use Rattle.prefix_plans.proofs.Walking.{past_ends, ready_left}
 use Rattle.prefix_plans.proofs.walk.end.Goals as goal
 
@@ -29,5 +29,5 @@ returns-else-branch-clause-ready g c =
 pub returns-in-Some-clause-ok : goal.returns-in-Some-clause-ok
 returns-in-Some-clause-ok g c =
     let f = c.args.search.now in
-    past_ends (g.S.Space.view c.args.space.now) f (known_of f) c.args.most c.in-Some.field-0 c.args.front.now
+    past_ends (g.S.Space.view c.args.space.now) f (known_to_go f) c.args.most c.in-Some.field-0 c.args.front.now
     c.in-Some.is c.requires.ready c.requires.dear c.requires.right

@@ -1,7 +1,7 @@
 use Rattle.std.proofs.Common.{◌≡◌}
-use Rattle.prefix_tree.specs.Entries.{entries_of}
-use Rattle.prefix_ends.specs.Left.{known_of}
-use Rattle.prefix_plans.specs.Standing.{waiting, Stands, KeepsPending, work}
+use Rattle.prefix_tree.specs.Entries.{queued_entries}
+use Rattle.prefix_plans.specs.Left.{known_to_go}
+use Rattle.prefix_plans.specs.Standing.{waiting_prefixes, PrefixFrontStands, KeepsPending, prefix_work}
 use Rattle.prefix_plans.proofs.walk.take_turns.Given as goal
 
 abbrev pub invariant-turns : goal.invariant-turns
@@ -10,9 +10,9 @@ invariant-turns g l =
     let y = (view l.fn.space).system in
     record {
       system : (view l.space).system ≡ y;
-      ready : Stands (view l.space) l.search l.front;
-      keeps : KeepsPending y l.most (waiting l.fn.front) (waiting l.front);
+      ready : PrefixFrontStands (view l.space) l.search l.front;
+      keeps : KeepsPending y l.most (waiting_prefixes l.fn.front) (waiting_prefixes l.front);
     }
 
 abbrev pub decreases-turns : goal.decreases-turns
-decreases-turns g l = work (known_of l.search) (entries_of l.front.queue)
+decreases-turns g l = prefix_work (known_to_go l.search) (queued_entries l.front.queue)

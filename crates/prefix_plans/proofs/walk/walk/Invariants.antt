@@ -1,6 +1,6 @@
 use Rattle.std.proofs.Common.{◌≡◌}
-use Rattle.cost_to_go.specs.Standing.{within_of, steps_left}
-use Rattle.prefix_plans.specs.Standing.{waiting, Stands, KeepsPending}
+use Rattle.cost_to_go.specs.Standing.{to_go_within, steps_left}
+use Rattle.prefix_plans.specs.Standing.{waiting_prefixes, PrefixFrontStands, KeepsPending}
 use Rattle.prefix_plans.proofs.walk.walk.Given as goal
 
 abbrev pub invariant-steps : goal.invariant-steps
@@ -9,9 +9,9 @@ invariant-steps g l =
     let y = (view l.fn.space).system in
     record {
       system : (view l.space).system ≡ y;
-      ready : Stands (view l.space) l.search l.front;
-      within : l.within ≡ within_of l.search;
-      keeps : KeepsPending y l.most (waiting l.fn.front) (waiting l.front);
+      ready : PrefixFrontStands (view l.space) l.search l.front;
+      within : l.within ≡ to_go_within l.search;
+      keeps : KeepsPending y l.most (waiting_prefixes l.fn.front) (waiting_prefixes l.front);
     }
 
 abbrev pub decreases-steps : goal.decreases-steps

@@ -1,5 +1,5 @@
 use Rattle.std.proofs.Common.{◌∙◌}
-use Rattle.cost_layers.specs.Layers.{rings_at, whole_at}
+use Rattle.cost_layers.specs.Layers.{rings_at, union_at}
 use Rattle.cost_layers.proofs.Holding.{holds_kept}
 use Rattle.bidirectional.specs.Both.{b_of, front_layers, back_layers}
 use Rattle.reconstruct.proofs.Ends.{right_ends}
@@ -47,7 +47,7 @@ open_cut-requires-clause-front g c =
     let v = view c.args.space.now in
     let x = c.args.both.now in
     let l = front_layers x in
-    rw c.forward_layers.ensures.value (holds_kept v (view c.find_cuts.new.space) (rings_at l) (whole_at l)
+    rw c.forward_layers.ensures.value (holds_kept v (view c.find_cuts.new.space) (rings_at l) (union_at l)
     c.find_cuts.ensures.stays.kept (right_ends v x c.requires.both).front_held)
 
 pub open_cut-requires-clause-back : goal.open_cut-requires-clause-back
@@ -56,5 +56,5 @@ open_cut-requires-clause-back g c =
     let v = view c.args.space.now in
     let x = c.args.both.now in
     let l = back_layers x in
-    rw c.backward_layers.ensures.value (holds_kept v (view c.find_cuts.new.space) (rings_at l) (whole_at l)
+    rw c.backward_layers.ensures.value (holds_kept v (view c.find_cuts.new.space) (rings_at l) (union_at l)
     c.find_cuts.ensures.stays.kept (right_ends v x c.requires.both).back_held)

@@ -1,9 +1,9 @@
 use Rattle.std.proofs.Common.{Some, inr}
 use Rattle.bidirectional.specs.Both.{IsBeneath, IsOwnOf, front_layers, back_layers}
 use Rattle.bidirectional.proofs.Ends.{valid_ends, owned_ends}
-use Rattle.entry_turns.proofs.Staying.{right_kept}
+use Rattle.reconstruct.proofs.Staying.{right_kept}
 use Rattle.reconstruct.proofs.Ends.{right_ends}
-use Rattle.reconstruct.proofs.Moves.{moved_not, moved_drawn, listing_of}
+use Rattle.reconstruct.proofs.AgendaMoves.{moved_not, moved_drawn, listing_of}
 use Rattle.reconstruct.proofs.next_plan.draw_next.Goals as goal
 
 pub returns-in-None-clause-moves : goal.returns-in-None-clause-moves

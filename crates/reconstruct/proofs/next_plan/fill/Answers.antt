@@ -1,9 +1,9 @@
 use Rattle.std.proofs.Common.{rules, ◌≡◌, []}
 use Rattle.bidirectional.specs.Both.{IsBeneath, IsOwnOf, front_layers, back_layers}
 use Rattle.bidirectional.proofs.Ends.{valid_ends, owned_ends}
-use Rattle.entry_turns.proofs.Remembering.{right_empty}
+use Rattle.reconstruct.proofs.Remembering.{right_empty}
 use Rattle.reconstruct.specs.Working.{OwedBy}
-use Rattle.reconstruct.proofs.Moves.{moved_not, went_ok, gone_moved, gone_fits, moved_trans, rest_of, range_same}
+use Rattle.reconstruct.proofs.AgendaMoves.{moved_not, went_ok, gone_moved, gone_fits, moved_trans, rest_of, range_same}
 use Rattle.reconstruct.proofs.next_plan.fill.Goals as goal
 
 pub returns-then-not-is_empty-clause-moves : goal.returns-then-not-is_empty-clause-moves

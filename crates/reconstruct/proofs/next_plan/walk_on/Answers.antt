@@ -2,12 +2,12 @@ use Rattle.std.proofs.Common.{arith, inl, inr, Some}
 use Rattle.space_api.proofs.Trading.{trades_beside}
 use Rattle.reconstruct.proofs.Pends.{memory_stops}
 use Rattle.bidirectional.specs.Both.{IsBeneath, IsOwnOf, front_layers, back_layers}
-use Rattle.reconstruct.specs.Working.{Owes}
-use Rattle.entry_laws.specs.Drawing.{undrawn}
+use Rattle.reconstruct.specs.Working.{OwesByCuts}
+use Rattle.plan_cuts.specs.Drawing.{undrawn}
 use Rattle.bidirectional.proofs.Ends.{valid_ends, owned_ends, keeps_ends}
 use Rattle.reconstruct.proofs.Ends.{right_ends}
 use Rattle.reconstruct.proofs.Placing.{sides_of}
-use Rattle.reconstruct.proofs.Moves.{listing_some}
+use Rattle.reconstruct.proofs.AgendaMoves.{listing_some}
 use Rattle.reconstruct.proofs.Walked.{walked_working}
 use Rattle.reconstruct.proofs.next_plan.walk_on.Goals as goal
 
@@ -95,7 +95,10 @@ returns-in-Err-clause-turned g c most range =
     let queue = c.args.agenda.now.queue in
     let l = listing_some v (IsBeneath x) (front_layers x) (back_layers x) place queue c.requires.some (rw c.in-Some.is at c.requires.working.at) in
     let owes = rw (c.forward_layers.ensures.value, c.backward_layers.ensures.value) at c.in-Err.ensures.owes in
-    rw c.in-Some.is (memory_stops v.system most (Owes v (back_layers x) (Some place) queue), (owes place.cost (undrawn place.left place.after) l.lawful).1)
+    rw c.in-Some.is (
+      memory_stops v.system most (OwesByCuts v (back_layers x) (Some place) queue),
+      (owes place.cost (undrawn place.left place.after) l.lawful).1,
+    )
 
 pub returns-in-Ok-clause-trades : goal.returns-in-Ok-clause-trades
 returns-in-Ok-clause-trades g c =

@@ -1,4 +1,4 @@
-use Rattle.class_plans.proofs.Keeping.{own_member}
+use Rattle.selectors.proofs.Keeping.{own_member}
 use Rattle.scripted_plans.proofs.tests.classes_of_whole.Goals as goal
 
 pub new-classes-requires-clause-members : goal.new-classes-requires-clause-members

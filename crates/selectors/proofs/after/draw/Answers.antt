@@ -1,5 +1,5 @@
 use Rattle.std.proofs.Common.{◌∙◌, sym, arith, rules}
-use Rattle.selector_laws.proofs.Draws.{after_skips, after_stop, still_falls}
+use Rattle.lazy_plans.proofs.Draws.{after_skips, after_stop, still_falls}
 use Rattle.selectors.proofs.after.draw.Goals as goal
 
 pub plans-smaller : goal.plans-smaller

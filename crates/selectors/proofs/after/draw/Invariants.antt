@@ -1,7 +1,7 @@
 use Rattle.std.proofs.Common.{◌≡◌, ◌≢◌, ◌≤◌, None, vec_capacity}
-use Rattle.lazy_plans.specs.Law.{Stays}
-use Rattle.selector_laws.specs.Owing.{Unlisted}
-use Rattle.selector_laws.proofs.Draws.{still}
+use Rattle.lazy_plans.specs.Law.{PendsAlike}
+use Rattle.lazy_plans.specs.SelectorsOwe.{Unlisted}
+use Rattle.lazy_plans.proofs.Draws.{still}
 use Rattle.selectors.proofs.after.draw.Given as goal
 
 abbrev pub invariant-plans : goal.invariant-plans
@@ -13,7 +13,7 @@ invariant-plans g l =
       mode : i.mode l.inner ≡ l.fn.mode;
       most : i.most l.inner ≡ i.most l.fn.inner;
       capacity : vec_capacity l.fn.room ≤ vec_capacity l.room;
-      stays : Stays (Unlisted l.fn.mode l.fn.keys (i.pends l.fn.inner)) (Unlisted l.fn.mode l.fn.keys (i.pends l.inner));
+      stays : PendsAlike (Unlisted l.fn.mode l.fn.keys (i.pends l.fn.inner)) (Unlisted l.fn.mode l.fn.keys (i.pends l.inner));
       again : i.last l.fn.inner ≢ None → i.last l.inner ≡ i.last l.fn.inner;
     }
 

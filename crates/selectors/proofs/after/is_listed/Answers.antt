@@ -1,6 +1,6 @@
 use Rattle.std.proofs.Common.{sym, subst}
-use Rattle.selector_laws.specs.Owing.{IsKey}
-use Rattle.selector_laws.proofs.Keyed.{listed_by_key, key_by_listed, longer_unlisted}
+use Rattle.lazy_plans.specs.SelectorsOwe.{IsClassKey}
+use Rattle.lazy_plans.proofs.Keyed.{listed_by_key, key_by_listed, longer_unlisted}
 use Rattle.selectors.proofs.after.is_listed.Goals as goal
 
 pub returns-then-capacity-operators-clause-listed :
@@ -13,7 +13,8 @@ pub returns-in-Unordered-clause-listed : goal.returns-in-Unordered-clause-listed
 returns-in-Unordered-clause-listed c =
     let key = c.sort_into.new.room.items in
     let moved = rw c.as_slice-operators.ensures at c.sort_into.ensures.permutation in
-    let is : IsKey c.args.mode c.args.plan.now key = subst (λ m. IsKey m c.args.plan.now key) (sym c.in-Unordered.is) (moved, c.sort_into.ensures.rising) in
+    let is : IsClassKey c.args.mode c.args.plan.now key = subst (λ m. IsClassKey m c.args.plan.now key)
+    (sym c.in-Unordered.is) (moved, c.sort_into.ensures.rising) in
     let has = rw c.deref.ensures.value at c.has-in-Unordered.ensures in (
       (λ e. listed_by_key c.args.mode c.args.keys.now c.args.plan.now key is (has.0 e)),
       (λ h. has.1 (key_by_listed c.args.mode c.args.keys.now c.args.plan.now key c.requires.keyed is h)),

@@ -1,7 +1,7 @@
 use Rattle.std.proofs.Common.{◌∙◌, refl}
 use Rattle.symk_task.specs.declared.parts.Mode.TheVariants.{Unordered}
-use Rattle.selector_laws.proofs.Keyed.{key_same, keys_more}
-use Rattle.selector_laws.proofs.Draws.{begun, law_fresh, law_held, law_skips, law_stop, still_falls}
+use Rattle.lazy_plans.proofs.Keyed.{key_same, keys_more}
+use Rattle.lazy_plans.proofs.Draws.{begun, law_fresh, law_held, law_skips, law_stop, still_falls}
 use Rattle.selectors.proofs.unordered.draw.Goals as goal
 
 pub plans-init : goal.plans-init

@@ -1,8 +1,8 @@
 use Rattle.std.proofs.Common.{◌≡◌, None}
 use Rattle.symk_task.specs.declared.parts.Mode.TheVariants.{TopK, Unordered}
-use Rattle.lazy_plans.specs.Law.{Stays}
-use Rattle.selector_laws.specs.Owing.{Owes, Unlisted}
-use Rattle.selector_laws.proofs.Draws.{still}
+use Rattle.lazy_plans.specs.Law.{PendsAlike}
+use Rattle.lazy_plans.specs.SelectorsOwe.{Owes, Unlisted}
+use Rattle.lazy_plans.proofs.Draws.{still}
 use Rattle.selectors.proofs.unordered.draw.Given as goal
 
 abbrev pub invariant-plans : goal.invariant-plans
@@ -15,7 +15,7 @@ invariant-plans g l =
       most : i.most l.inner ≡ i.most l.fn.inner;
       seen : l.seen ≡ l.fn.seen;
       held : l.held ≡ None;
-      stays : Stays (Owes (i.pends l.fn.inner) l.fn.seen None) (Unlisted Unordered l.fn.seen (i.pends l.inner));
+      stays : PendsAlike (Owes (i.pends l.fn.inner) l.fn.seen None) (Unlisted Unordered l.fn.seen (i.pends l.inner));
     }
 
 abbrev pub decreases-plans : goal.decreases-plans

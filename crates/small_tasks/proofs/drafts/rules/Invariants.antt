@@ -1,6 +1,6 @@
 use Rattle.std.proofs.Common.{◌≡◌, map, take}
-use Rattle.small_tasks.specs.Drafts.{rule_of}
+use Rattle.small_tasks.specs.Drafts.{drafted_rule}
 use Rattle.small_tasks.proofs.drafts.rules.Given as goal
 
 abbrev pub invariant-rules : goal.invariant-rules
-invariant-rules l = l.rules.items ≡ map rule_of (take l.draft-index l.drafts)
+invariant-rules l = l.rules.items ≡ map drafted_rule (take l.draft-index l.drafts)

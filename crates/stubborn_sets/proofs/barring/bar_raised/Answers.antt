@@ -1,6 +1,6 @@
 use Rattle.std.proofs.Common.{Bool, false, IsTrue, List, length, ap, ◌∙◌, arith}
 use Rattle.std.proofs.Math.ListN.{length-replicate}
-use Rattle.stubborn_sets.specs.Depending.{Grows}
+use Rattle.stubborn_sets.specs.Depending.{GrowsMarks}
 use Rattle.stubborn_sets.specs.Barring.{AreBarredRules, IsBarred}
 use Rattle.stubborn_sets.proofs.GrowingLaw.{if_both}
 use Rattle.stubborn_sets.proofs.Stopping.{barring_begins}
@@ -23,7 +23,7 @@ returns-clause-barred c =
     let old = c.add.new.self.marks.items in
     let barred = c.bar_on.new.barred.marks.items in
     let marks = c.bar_on.new.set.marks.items in
-    if_both c.bar_on.result (λ (all : Bool). IsTrue all → Grows old barred)
+    if_both c.bar_on.result (λ (all : Bool). IsTrue all → GrowsMarks old barred)
     (λ all. IsTrue all → AreBarredRules parts values barred marks parts.rules)
     (λ all. IsTrue all → IsBarred parts values marks c.args.fact)
     (λ all grows bars yes. record { barred = barred; raises = (c.requires.raising, grows yes c.args.fact.var c.in_ok-add.ensures.has); rules = bars yes })

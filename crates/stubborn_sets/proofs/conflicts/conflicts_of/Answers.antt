@@ -1,6 +1,6 @@
 use Rattle.std.proofs.Common.{ℕ, ◌+◌, Vec, Global, sym, subst, ap, ◌∙◌}
 use Rattle.task_system.specs.Computed.{system_of}
-use Rattle.commuting.specs.Commuting.{Commute}
+use Rattle.stubborn_sets.specs.Commuting.{Commute}
 use Rattle.stubborn_sets.specs.Kept.{LeavesOut}
 use Rattle.stubborn_sets.proofs.KeptLaw.{leaves_out, puts_last}
 use Rattle.stubborn_sets.proofs.conflicts.conflicts_of.Goals as goal

@@ -1,5 +1,5 @@
 use Rattle.task_system.specs.Computed.{system_of}
-use Rattle.commuting.specs.Commuting.{Commute}
+use Rattle.stubborn_sets.specs.Commuting.{Commute}
 use Rattle.stubborn_sets.specs.Kept.{LeavesOut}
 use Rattle.stubborn_sets.proofs.conflicts.conflicts_of.Given as goal
 

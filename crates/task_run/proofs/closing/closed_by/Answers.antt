@@ -7,7 +7,7 @@ use Rattle.std.specs.Prelude.{replicate}
 use Rattle.task_run.specs.declared.counting.Counting.{Counting}
 use Rattle.task_run.specs.Values.{Valued}
 use Rattle.task_run.specs.Layer.{start_value}
-use Rattle.task_run.specs.Work.{Kept, AllPlaced}
+use Rattle.task_run.specs.Work.{KeptRules, AllPlaced}
 use Rattle.task_run.proofs.Rounds.{IsClosedTo, IsNext, none_closed, begin_layer, end_layer, all_closed, same_rules}
 use Rattle.task_run.proofs.closing.closed_by.Goals as goal
 
@@ -71,7 +71,7 @@ close_layer-requires-clause-kept c =
     let next : IsNext rules at end layer zero_counting =
     record { within = c.layers-test.true; here = refl; is_layer = told.layer } in
     let ready = begin_layer new.stack.items fits are inv next told.stacked told.only in
-    subst (λ (z : List (List ℕ)). Kept parts new.stack.items z) (sym told.waiting) ready.kept
+    subst (λ (z : List (List ℕ)). KeptRules parts new.stack.items z) (sym told.waiting) ready.kept
 
 pub close_layer-requires-clause-placed : goal.close_layer-requires-clause-placed
 close_layer-requires-clause-placed c =

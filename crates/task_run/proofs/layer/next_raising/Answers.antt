@@ -2,7 +2,7 @@ use Rattle.std.proofs.Common.{◌≡◌, ◌<◌, ◌∙◌, ℕ, List, [], leng
 use Rattle.std.proofs.lemmas.Grind.{get_or_default_zero}
 use Rattle.symk_task.specs.declared.parts.Rule.{Rule}
 use Rattle.task_run.specs.Work.{AllPlaced}
-use Rattle.task_run.specs.RuleStatus.{Lacks, HaveBetween}
+use Rattle.task_run.specs.RuleStatus.{LacksCondition, HaveBetween}
 use Rattle.task_run.specs.Layer.{Raises}
 use Rattle.task_run.proofs.Placing.{popped, back_idle, lacks_waits, lacks_within, all_stuck, kept_pop, kept_wait, rule_at, none_left}
 use Rattle.task_run.proofs.Resuming.{passed_wait, ready_raises}
@@ -96,7 +96,7 @@ looking-preserved-in-Continue-1 c =
     let from : c.index.result.now ≡ get_or c.looking.work.places.items x 0 = c.index.ensures
     ∙ get_or_default_zero c.looking.work.places.items x c.index.result.now
     (subst (λ (n : ℕ). x < n) (sym c.looking.invariant.passed.each) p.1) in
-    let found = subst (λ (n : ℕ). Lacks task c.args.layer c.args.values.now rule n c.in-WaitsFor.place var) from c.in-WaitsFor.ensures in
+    let found = subst (λ (n : ℕ). LacksCondition task c.args.layer c.args.values.now rule n c.in-WaitsFor.place var) from c.in-WaitsFor.ensures in
     record {
       kept = rw (stack, waiting) (kept_wait task rest old var x lt p.1 p.0);
       placed = rw (stack, waiting) (lacks_waits rest old x r.at c.in-WaitsFor.ensures lt but);

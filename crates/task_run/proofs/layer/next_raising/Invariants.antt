@@ -1,10 +1,10 @@
 use Rattle.std.proofs.Common.{length}
-use Rattle.task_run.specs.Work.{AllPlaced, Kept, Passed}
+use Rattle.task_run.specs.Work.{AllPlaced, KeptRules, Passed}
 use Rattle.task_run.proofs.layer.next_raising.Given as goal
 
 abbrev pub invariant-looking : goal.invariant-looking
 invariant-looking l = record {
-  kept : Kept l.parts l.work.stack.items l.work.waiting.items;
+  kept : KeptRules l.parts l.work.stack.items l.work.waiting.items;
   placed : AllPlaced l.parts l.layer l.values l.work.stack.items l.work.waiting.items;
   passed : Passed l.parts l.layer l.values l.work.places.items;
 }

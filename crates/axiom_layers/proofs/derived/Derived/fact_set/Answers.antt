@@ -2,7 +2,7 @@ use Rattle.std.proofs.Common.{subst, List, ℕ}
 use Rattle.symk_task.specs.declared.parts.TaskParts.{TaskParts}
 use Rattle.task_run.specs.Values.{HasValue}
 use Rattle.bdd_table.proofs.Adding.{ok_by}
-use Rattle.axiom_layers.specs.Raising.{Says}
+use Rattle.axiom_layers.specs.Raising.{IsTrueExactlyWhere}
 use Rattle.axiom_layers.proofs.Raised.{roots_kept, fact_holds}
 use Rattle.axiom_layers.proofs.derived.Derived.fact_set.Goals as goal
 
@@ -14,6 +14,6 @@ returns-clause-meaning c =
     let roots = c.args.self.now in
     let are = roots_kept task o c.args.ops.now ys roots c.value_set.ensures.kept c.requires.roots in
     ok_by c.value_set.result _ _ c.value_set.ensures.meaning (λ id m. fact_holds task o ys roots c.args.fact id c.parts.ensures.fits are c.requires.fact
-    (subst (λ (z : List ℕ). Says task o ys z (λ values. HasValue values c.args.fact) id) c.roots.ensures
-    (subst (λ (z : TaskParts). Says z o ys c.roots.result.now (λ values. HasValue values c.args.fact) id)
+    (subst (λ (z : List ℕ). IsTrueExactlyWhere task o ys z (λ values. HasValue values c.args.fact) id) c.roots.ensures
+    (subst (λ (z : TaskParts). IsTrueExactlyWhere z o ys c.roots.result.now (λ values. HasValue values c.args.fact) id)
     c.parts.ensures.value m)))

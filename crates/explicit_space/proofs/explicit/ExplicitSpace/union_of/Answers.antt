@@ -2,9 +2,9 @@ use Rattle.std.proofs.Common.{◌⊎◌, IsTrue, ap, subst}
 use Rattle.std.proofs.lemmas.Result.{IfOk-weaker}
 use Rattle.symk_task.specs.Fits.{Fits}
 use Rattle.space_api.specs.View.{Unites}
-use Rattle.explicit_space.specs.Members.{has_state, AreStates, HasThose}
+use Rattle.explicit_space.specs.Members.{has_explicit_state, AreStates, HasThoseStates}
 use Rattle.explicit_space.specs.Explicit.{Explicit}
-use Rattle.explicit_space.specs.Seen.{seen}
+use Rattle.explicit_space.specs.Seen.{explicit_view}
 use Rattle.explicit_space.proofs.Meaning.{states_as, unites_means, unites_states}
 use Rattle.explicit_space.proofs.explicit.ExplicitSpace.union_of.Goals as goal
 
@@ -14,7 +14,11 @@ returns-clause-ok c =
     let is = ap (λ (x : Explicit). x.task) c.self.view_is in
     let fits = subst Fits is c.self.invariant.fits in
     let said = c.union.ensures in
-    IfOk-weaker c.union.result (λ set. HasThose set (λ s. IsTrue (has_state c.members.result.now s) ⊎ IsTrue (has_state c.members-2.result.now s))) (λ set. HasThose set (Unites (seen e) c.args.a c.args.b)) (λ set. unites_means e fits c.args.a c.args.b c.members.result.now c.members-2.result.now c.members.ensures.set c.members-2.ensures.set c.members.ensures.states c.members-2.ensures.states set) said
+    IfOk-weaker c.union.result (λ set. HasThoseStates set
+    (λ s. IsTrue (has_explicit_state c.members.result.now s)
+    ⊎ IsTrue (has_explicit_state c.members-2.result.now s)))
+    (λ set. HasThoseStates set (Unites (explicit_view e) c.args.a c.args.b))
+    (λ set. unites_means e fits c.args.a c.args.b c.members.result.now c.members-2.result.now c.members.ensures.set c.members-2.ensures.set c.members.ensures.states c.members-2.ensures.states set) said
 
 pub returns-clause-states : goal.returns-clause-states
 returns-clause-states c =
@@ -22,5 +26,8 @@ returns-clause-states c =
     let is = ap (λ (x : Explicit). x.task) c.self.view_is in
     let fits = subst Fits is c.self.invariant.fits in
     let said = c.union.ensures in
-    IfOk-weaker c.union.result (λ set. HasThose set (λ s. IsTrue (has_state c.members.result.now s) ⊎ IsTrue (has_state c.members-2.result.now s))) (λ set. AreStates e.task set)
-    (λ set h. states_as e.task set (Unites (seen e) c.args.a c.args.b) (unites_states e fits c.args.a c.args.b c.members.result.now c.members-2.result.now c.members.ensures.set c.members-2.ensures.set c.members.ensures.states c.members-2.ensures.states) (unites_means e fits c.args.a c.args.b c.members.result.now c.members-2.result.now c.members.ensures.set c.members-2.ensures.set c.members.ensures.states c.members-2.ensures.states set h)) said
+    IfOk-weaker c.union.result (λ set. HasThoseStates set
+    (λ s. IsTrue (has_explicit_state c.members.result.now s)
+    ⊎ IsTrue (has_explicit_state c.members-2.result.now s))) (λ set. AreStates e.task set)
+    (λ set h. states_as e.task set (Unites (explicit_view e) c.args.a c.args.b)
+    (unites_states e fits c.args.a c.args.b c.members.result.now c.members-2.result.now c.members.ensures.set c.members-2.ensures.set c.members.ensures.states c.members-2.ensures.states) (unites_means e fits c.args.a c.args.b c.members.result.now c.members-2.result.now c.members.ensures.set c.members-2.ensures.set c.members.ensures.states c.members-2.ensures.states set h)) said

@@ -1,6 +1,6 @@
 use Rattle.std.proofs.Common.{◌∙◌}
 use Rattle.symk_task.specs.declared.parts.Mode.TheVariants.{Loopless}
-use Rattle.prefix_laws.proofs.Owed.{none_held}
+use Rattle.lazy_plans.proofs.Owed.{none_held}
 use Rattle.loopless.proofs.Asks.{ready_stays, stopped, tidied_none, tidied_some, untidied}
 use Rattle.loopless.proofs.engine.LooplessPlans.ask.Goals as goal
 

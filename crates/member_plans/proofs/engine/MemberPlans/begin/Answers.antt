@@ -1,7 +1,7 @@
 use Rattle.std.proofs.Common.{◌∙◌, sym, subst}
 use Rattle.space_api.proofs.Trading.{kept_made}
 use Rattle.member_plans.specs.Moves.{Serves}
-use Rattle.prefix_ends.proofs.Moving.{alone_fresh}
+use Rattle.prefix_plans.proofs.Moving.{alone_fresh}
 use Rattle.member_plans.proofs.Asking.{begun_sound, begun_all}
 use Rattle.member_plans.proofs.engine.MemberPlans.begin.Goals as goal
 

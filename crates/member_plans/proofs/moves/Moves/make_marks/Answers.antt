@@ -3,7 +3,7 @@ use Rattle.symk_task.specs.Variables.{IsState}
 use Rattle.task_system.specs.System.{State, System}
 use Rattle.task_system.proofs.StatesLaw.{states_law}
 use Rattle.space_api.proofs.Listing.{reached_listed}
-use Rattle.single_states.specs.States.{IsReached}
+use Rattle.space_api.specs.States.{IsReached}
 use Rattle.member_plans.specs.Moves.{Serves}
 use Rattle.member_plans.specs.declared.moves.Moves.{Moves}
 use Rattle.task_system.specs.System.{Listed}

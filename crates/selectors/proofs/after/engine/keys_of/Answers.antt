@@ -1,6 +1,6 @@
 use Rattle.std.proofs.Common.{◌∙◌, take, length, ◌≤◌, vec_capacity, arith}
 use Rattle.std.proofs.lemmas.List.{take_more}
-use Rattle.selector_laws.proofs.Keyed.{keys_of_more}
+use Rattle.lazy_plans.proofs.Keyed.{keys_of_more}
 use Rattle.selectors.proofs.Noting.{short_more}
 use Rattle.selectors.proofs.after.engine.keys_of.Goals as goal
 

@@ -1,5 +1,5 @@
 use Rattle.std.proofs.Common.{◌≡◌, ◌≤◌, All, length, take, vec_len, vec_capacity}
-use Rattle.selector_laws.specs.Owing.{AreKeysOf}
+use Rattle.lazy_plans.specs.SelectorsOwe.{AreKeysOf}
 use Rattle.selectors.proofs.after.engine.keys_of.Given as goal
 
 abbrev pub invariant-loop-plan : goal.invariant-loop-plan

@@ -1,5 +1,5 @@
 use Rattle.lazy_plans.proofs.ListLaw.{rest_first, rest_without}
-use Rattle.selector_laws.proofs.Keyed.{are_keys_of, unlisted_of}
+use Rattle.lazy_plans.proofs.Keyed.{are_keys_of, unlisted_of}
 use Rattle.selectors.proofs.after.engine.After.new.Goals as goal
 
 pub returns-clause-lawful : goal.returns-clause-lawful

@@ -1,5 +1,0 @@
-use Rattle.cert_nodes.proofs.Rebuilding.{Rebuilt}
-use Rattle.cert_nodes.proofs.moving.rebuilt.Given as goal
-
-abbrev pub invariant-ids : goal.invariant-ids
-invariant-ids l = Rebuilt l.old l.wanted.items l.indexes l.fn.ops l.ops l.ids.items l.id

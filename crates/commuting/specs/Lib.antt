@@ -1,3 +1,0 @@
-pub mod Commuting
-pub mod Reading
-pub mod Meeting

@@ -1,0 +1,8 @@
+use Rattle.std.proofs.lemmas.Bool.Decides.{Decides-eqb}
+use Rattle.std.proofs.lemmas.Slice.Eq.{strip_prefix_is}
+use Rattle.line_grammar.proofs.Fronts.{stripped}
+use Rattle.line_grammar.proofs.fields.after.Goals as goal
+
+pub returns : goal.returns
+returns c = stripped c.args.word.now c.args.line.now c.strip_prefix.result
+    (strip_prefix_is Decides-eqb c.args.line.now c.args.word.now c.strip_prefix.result c.strip_prefix.ensures.cases)

@@ -1,9 +1,0 @@
-pub mod Ranking
-pub mod Moving
-pub mod Growing
-pub mod Reaching
-pub mod Bettering
-pub mod Dating
-pub mod Replacing
-pub mod Dearest
-pub mod First

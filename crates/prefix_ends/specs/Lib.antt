@@ -1,6 +1,0 @@
-pub mod Left
-pub mod Reach
-pub mod Children
-pub mod Standing
-pub mod Leading
-pub mod Owned

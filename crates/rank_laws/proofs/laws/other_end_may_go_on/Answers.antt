@@ -1,5 +1,0 @@
-use Rattle.rank_laws.proofs.Ranking.{goes_on}
-use Rattle.rank_laws.proofs.laws.other_end_may_go_on.Goals as goal
-
-pub returns : goal.returns
-returns c = λ side y within f g at waits many le r. goes_on _ _ f _ many _ r g le

@@ -1,5 +1,0 @@
-use Rattle.rank_laws.proofs.Sound.{rank_cost}
-use Rattle.rank_laws.proofs.laws.ranks_are_least_costs.Goals as goal
-
-pub returns : goal.returns
-returns c = λ side y within f at waits many r i x s a. rank_cost side y r i x s a

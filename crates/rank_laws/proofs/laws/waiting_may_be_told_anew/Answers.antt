@@ -1,5 +1,0 @@
-use Rattle.rank_laws.proofs.Ranking.{told_anew}
-use Rattle.rank_laws.proofs.laws.waiting_may_be_told_anew.Goals as goal
-
-pub returns : goal.returns
-returns c = λ side y within f at waits after many r keys rest. told_anew _ _ f _ many _ r _ keys rest

@@ -1,3 +1,0 @@
-pub mod Rearranged
-pub mod Keyed
-pub mod Draws

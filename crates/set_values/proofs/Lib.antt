@@ -1,6 +1,0 @@
-pub mod Passing
-pub mod Descending
-pub mod StepLaws
-pub mod FactLists
-pub mod Missing
-pub mod Children

@@ -1,9 +1,0 @@
-use Rattle.std.proofs.Common.{◌≡◌, ◌<◌, ◌+◌, ℕ, true}
-use Rattle.set_values.specs.Marks.{is_marked, KeepsMarks}
-use Rattle.set_values.proofs.marking.mark_all.Given as goal
-
-abbrev pub invariant-values : goal.invariant-values
-invariant-values l = record {
-  all : (k : ℕ) → k < l.value → is_marked l.marks.items (l.first + k) ≡ true;
-  kept : KeepsMarks l.fn.marks.items l.marks.items;
-}

@@ -1,5 +1,0 @@
-use Rattle.set_values.proofs.FactLists.{PlacedBelow}
-use Rattle.set_values.proofs.placing.places_of.Given as goal
-
-abbrev pub invariant-facts : goal.invariant-facts
-invariant-facts l = PlacedBelow l.order l.starts l.facts l.fact-index l.places

@@ -1,6 +1,0 @@
-use Rattle.std.specs.List.{Contains}
-use Rattle.set_values.proofs.FactLists.{AskedBelow}
-use Rattle.set_values.proofs.stepping.asked.Given as goal
-
-abbrev pub invariant-effects : goal.invariant-effects
-invariant-effects l = AskedBelow (λ f. Contains l.operator.prevail f) l.operator.effects l.effect-index l.facts

@@ -1,5 +1,0 @@
-use Rattle.set_values.proofs.Passing.{AddsBelow}
-use Rattle.set_values.proofs.walking.add_ends.Given as goal
-
-abbrev pub invariant-values : goal.invariant-values
-invariant-values l = AddsBelow l.table l.block l.start l.id l.fn.ends.items l.ends.items l.fn.marks.items l.marks.items l.value

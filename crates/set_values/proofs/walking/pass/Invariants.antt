@@ -1,5 +1,0 @@
-use Rattle.set_values.proofs.Passing.{PassesBelow}
-use Rattle.set_values.proofs.walking.pass.Given as goal
-
-abbrev pub invariant-ids : goal.invariant-ids
-invariant-ids l = PassesBelow l.table l.block l.start l.ids l.ends.items l.fn.marks.items l.marks.items l.id-index

@@ -1,6 +1,0 @@
-pub mod Marks
-pub mod Ends
-pub mod Occurs
-pub mod Placed
-pub mod Steps
-pub mod Leading

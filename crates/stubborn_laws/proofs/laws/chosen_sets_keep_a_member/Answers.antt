@@ -1,5 +1,0 @@
-use Rattle.stubborn_laws.proofs.Moving.{chosen_member}
-use Rattle.stubborn_laws.proofs.laws.chosen_sets_keep_a_member.Goals as goal
-
-pub returns : goal.returns
-returns c = chosen_member

@@ -1,2 +1,0 @@
-pub mod Stubborn
-pub mod Laws

@@ -2,9 +2,11 @@
 """own_checks.py: what no proof says of the tools and the pages. The last line is `N passed, N failed`; the status is 0 where none failed.
 
 Tests of python/symk.py (test_symk.py), of tools/to_list.py (test_to_list.py), of tools/table.py (test_table.py), of tools/docstrings.py
-(test_docstrings.py) and of tools/rt.py (test_rt.py); the names that the pages give (check_docs.py), and the docstrings of the sources (docstrings.py). Tests that run the
-planner take the program of SYMK_PROGRAM, else .symk/symk, else what a check of one's own left in crates/symk_cli/out, else what `./symk`
-compiles of the sources as they stand; where there is none they are skipped, which is said.
+(test_docstrings.py) and of tools/rt.py (test_rt.py); the names that the pages give (check_docs.py), and the docstrings of the sources (docstrings.py);
+and that no name of specs/ stands in two crates (source_numbers.py): each that does is printed.
+
+Tests that run the planner take the program of SYMK_PROGRAM, else .symk/symk, else what a check of one's own left in crates/symk_cli/out, else
+what `./symk` compiles of the sources as they stand; where there is none they are skipped, which is said.
 """
 import os
 import subprocess
@@ -29,6 +31,7 @@ if not os.environ.get("SYMK_PROGRAM"):
 sys.path[:0] = [str(TOP / "tools"), str(TOP / "python")]
 import check_docs  # noqa: E402
 import docstrings  # noqa: E402
+import source_numbers  # noqa: E402
 import test_docstrings  # noqa: E402
 import test_rt  # noqa: E402
 import test_symk  # noqa: E402
@@ -47,6 +50,10 @@ def main():
         passed, failed = passed + (fault is None), failed + (fault is not None)
         if fault:
             print("%s: %s" % (name, fault))
+    twice = list(source_numbers.names())
+    for name in twice:
+        print("specs: %s" % name)
+    passed, failed = passed + (not twice), failed + len(twice)
     passed, failed = passed + ran.testsRun - len(ran.skipped) - bad, failed + bad
     print("%d passed, %d failed" % (passed, failed))
     return 1 if failed else 0

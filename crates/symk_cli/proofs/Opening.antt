@@ -118,10 +118,10 @@ stops_after named name told told' old mid new result same s = subst (λ (v : Sin
 
 -- and what is refused after it, and after files of which no fault was counted
 pub refused_before : (May : Type 0 → Option Bytes → Status → Bytes → Type 0) (told mid : Option Told) (file name : Bytes) {before between : ℕ} (after : ℕ) {old then : SinkView} (new : SinkView) (result : Status)
-    → Tells (Opened file) told mid → between ≡ before → then ≡ old
+    → Tells (Opened file) told mid → (between ≡ before) × (then ≡ old)
     → HasRead mid name (λ read. PutsOutWith (OrFront (May (Rose between after) read)) then new result)
     → HasRead told name (λ read. PutsOutWith (OrFront (May (Rose before after) read)) old new result)
-refused_before May told mid file name {before = before} {between = between} after {old = old} new result t quiet same h =
+refused_before May told mid file name {before = before} {between = between} after {old = old} new result t quiet h =
     let p = h.2 in
-    let q = subst (λ (v : SinkView). PutsOutWith (OrFront (May (Rose between after) h.0)) v new result) same p in
-    (h.0, read_before file name told mid h.0 t h.1, subst (λ (n : ℕ). PutsOutWith (OrFront (May (Rose n after) h.0)) old new result) quiet q)
+    let q = subst (λ (v : SinkView). PutsOutWith (OrFront (May (Rose between after) h.0)) v new result) quiet.1 p in
+    (h.0, read_before file name told mid h.0 t h.1, subst (λ (n : ℕ). PutsOutWith (OrFront (May (Rose n after) h.0)) old new result) quiet.0 q)

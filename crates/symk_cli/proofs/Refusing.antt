@@ -36,6 +36,12 @@ not_unreadable T stop is e = let bad : stops.TooLong ≡ stops.Unreadable = cc i
 pub not_memory : (T : Type 0) (stop : ReadStop) → stop ≡ stops.TooLong → IsErrOf {T = T} (Err stop) stops.Memory → ⊥
 not_memory T stop is e = let bad : stops.TooLong ≡ stops.Memory = cc in absurd (cc)
 
+-- F is what was read of the file of this name, no longer than it may be, and no sink was touched
+pub record IsReadUntouched (told : Option Told) (name F : Bytes) (old mid : SinkView) : Type 0 where
+  pub untouched : mid ≡ old
+  pub text : IsToldText told name F
+  pub short : length F ≤ most_bytes
+
 -- out of memory, after a sink that wasn't touched
 pub memory_after : (May : Option Bytes → Status → Bytes → Type 0) (told : Option Told) (name : Bytes)
     (old new : SinkView) → new ≡ old → HasRead told name
@@ -87,19 +93,19 @@ module _ (rose : Type 0) where
 
   -- a line that offends
   pub file_offends : {E : Type 0} (told : Option Told) (name F : Bytes) (line : ℕ) (wanted : Shape) {old mid new : SinkView} (made : Result Bytes E) (result : Status)
-      → mid ≡ old → IsToldText told name F → length F ≤ most_bytes → RefusedAt (lines F) (read.Offence line wanted) → IfOk made (λ text. text ≡ offence_text line wanted)
+      → IsReadUntouched told name F old mid → RefusedAt (lines F) (read.Offence line wanted) → IfOk made (λ text. text ≡ offence_text line wanted)
       → MatchResult made (λ text. EndsWithText status.Offending text mid new result)
       (λ _. (result ≡ status.Memory) × (new ≡ mid))
       → HasRead told name (λ read. PutsOutWith (OrFront (FileRefused rose read)) old new result)
-  file_offends told name F line wanted {mid = mid} {new = new} made result same text short refused is ends =
-      let p = text_puts (FileRefused rose (Some F)) status.Offending made (offence_text line wanted) mid new result is (record { short = short; line = line; wanted = wanted; offends = refused; text = refl }) ends in
-      (Some F, text, subst (λ (v : SinkView). PutsOutWith (OrFront (FileRefused rose (Some F))) v new result) same p)
+  file_offends told name F line wanted {mid = mid} {new = new} made result h refused is ends =
+      let p = text_puts (FileRefused rose (Some F)) status.Offending made (offence_text line wanted) mid new result is (record { short = h.short; line = line; wanted = wanted; offends = refused; text = refl }) ends in
+      (Some F, h.text, subst (λ (v : SinkView). PutsOutWith (OrFront (FileRefused rose (Some F))) v new result) h.untouched p)
 
   pub plans_offend : {E : Type 0} (told : Option Told) (name P : Bytes) (line : ℕ) {old mid new : SinkView} (made : Result Bytes E) (result : Status)
-      → mid ≡ old → IsToldText told name P → length P ≤ most_bytes → PlansRefusedAt (lines P) (plans.Offence line) → IfOk made (λ text. text ≡ plans_offence_text line)
+      → IsReadUntouched told name P old mid → PlansRefusedAt (lines P) (plans.Offence line) → IfOk made (λ text. text ≡ plans_offence_text line)
       → MatchResult made (λ text. EndsWithText status.Offending text mid new result)
       (λ _. (result ≡ status.Memory) × (new ≡ mid))
       → HasRead told name (λ read. PutsOutWith (OrFront (PlansRefused rose read)) old new result)
-  plans_offend told name P line {mid = mid} {new = new} made result same text short refused is ends =
-      let p = text_puts (PlansRefused rose (Some P)) status.Offending made (plans_offence_text line) mid new result is (record { short = short; line = line; offends = refused; text = refl }) ends in
-      (Some P, text, subst (λ (v : SinkView). PutsOutWith (OrFront (PlansRefused rose (Some P))) v new result) same p)
+  plans_offend told name P line {mid = mid} {new = new} made result h refused is ends =
+      let p = text_puts (PlansRefused rose (Some P)) status.Offending made (plans_offence_text line) mid new result is (record { short = h.short; line = line; offends = refused; text = refl }) ends in
+      (Some P, h.text, subst (λ (v : SinkView). PutsOutWith (OrFront (PlansRefused rose (Some P))) v new result) h.untouched p)

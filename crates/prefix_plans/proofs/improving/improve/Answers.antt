@@ -55,5 +55,13 @@ returns-in-Some g c =
     let e = c.entry_of.ensures in
     let bound : c.entry_of.result.bound.0 ≡ c.entry_of.result.cost + c.in-Some.left.cost = omega (arith, c.entry_of.ensures.bound, c.entry_of.ensures.cost) in
     better v c.args.heuristic.now.search.now c.args.tree.now c.args.entry c.entry_of.result c.requires.entry
-    c.state-state.result.now run c.in-Some.left (rw c.in-Some.is at c.left_from.ensures) e.node e.cost e.at_goal
-    bound e.ring e.settled e.small e.range
+    c.state-state.result.now run c.in-Some.left (rw c.in-Some.is at c.left_from.ensures) (record {
+      node = e.node;
+      cost = e.cost;
+      goal = e.at_goal;
+      bound = bound;
+      ring = e.ring;
+      settled = e.settled;
+      small = e.small;
+      range = e.range;
+    })

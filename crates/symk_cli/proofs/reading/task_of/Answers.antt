@@ -6,7 +6,7 @@ use Rattle.symk_cli.proofs.reading.task_of.Goals as goal
 pub returns-in-Err-Offence-clause-refused : goal.returns-in-Err-Offence-clause-refused
 returns-in-Err-Offence-clause-refused g c =
     file_offends _ (g.F.Files.view c.args.files.now).told c.args.name.now c.in_ok-text.text.items c.in-Err-Offence.line c.in-Err-Offence.wanted _ _
-    c.in_ok-text.ensures.untouched c.in_ok-text.ensures.text c.in_ok-text.ensures.within
+    (record { untouched = c.in_ok-text.ensures.untouched; text = c.in_ok-text.ensures.text; short = c.in_ok-text.ensures.within })
     (rw c.deref.ensures.value at (rw c.in-Err-Offence.field-0-is at c.in-Err-Offence.ensures.offence)) c.offence_text.ensures c.end_with.ensures.ends
 
 pub returns-in_err-text-clause-refused : goal.returns-in_err-text-clause-refused

@@ -21,7 +21,7 @@ returns-clause-answer g c =
     let mid = g.K.Sink.view c.task_of.new.sink in
     let new = g.K.Sink.view c.plans_of.new.sink in
     earlier_refused _ told (further_asked c.args.list) c.in-Ok.task old new _ c.in-Ok.ensures.task
-    (refused_before PlansRefused told (g.F.Files.view c.task_of.new.files).told c.args.list.file.now c.args.list.plans.now _ new c.in-Err-plans_of.status c.in-Ok.ensures.opened c.in-Ok.ensures.quiet.0 c.in-Ok.ensures.untouched c.in-Err-plans_of.ensures.refused)
+    (refused_before PlansRefused told (g.F.Files.view c.task_of.new.files).told c.args.list.file.now c.args.list.plans.now _ new c.in-Err-plans_of.status c.in-Ok.ensures.opened (c.in-Ok.ensures.quiet.0, c.in-Ok.ensures.untouched) c.in-Err-plans_of.ensures.refused)
 
 pub returns-clause-opened : goal.returns-clause-opened
 returns-clause-opened g c =

@@ -21,7 +21,7 @@ returns-clause-answer g c =
     let mid = g.K.Sink.view c.task_of.new.sink in
     let new = g.K.Sink.view c.text_of.new.sink in
     cert_refused _ told c.args.file.now c.args.cert.now c.in-Ok.task old new _ c.in-Ok.ensures.task
-    (refused_before (λ rose. TextRefused rose Cert) told (g.F.Files.view c.task_of.new.files).told c.args.file.now c.args.cert.now _ new c.in-Err-text_of.status c.in-Ok.ensures.opened c.in-Ok.ensures.quiet.0 c.in-Ok.ensures.untouched c.in-Err-text_of.ensures.refused)
+    (refused_before (λ rose. TextRefused rose Cert) told (g.F.Files.view c.task_of.new.files).told c.args.file.now c.args.cert.now _ new c.in-Err-text_of.status c.in-Ok.ensures.opened (c.in-Ok.ensures.quiet.0, c.in-Ok.ensures.untouched) c.in-Err-text_of.ensures.refused)
 
 pub returns-clause-opened : goal.returns-clause-opened
 returns-clause-opened g c =

@@ -6,9 +6,8 @@ use Rattle.bidirectional.proofs.cutting.ops_among.Given as goal
 
 abbrev pub invariant-operators : goal.invariant-operators
 invariant-operators g l =
-    let view = g.S.Space.view in
-    let v = view l.fn.space in
+    let v = g.S.Space.view l.fn.space in
     record {
-      stays : Stays v (view l.space);
+      stays : Stays v (g.S.Space.view l.space);
       found : Gathered v.system (Stands v l.meeting.front.now) (Has v l.to) l.cost l.meeting.b l.place.z l.op-items l.op-index l.place.op l.found.items;
     }

@@ -5,30 +5,15 @@ ghost use Rattle.var_order.specs.Layout.{IsOrderOf};
 use axiom_layers::{Derived, compile};
 use bdd_ops::Ops;
 use bdd_table::{Id, Table};
-use small_tasks::{Draft, RuleDraft, VariableDraft, drafted};
+use small_tasks::{
+    BASE, DERIVED, Draft, FOURTH_WHERE_NOT_THIRD, NEXT, SECOND_TO_0, SECOND_WHERE_FIRST,
+    THIRD_WHERE_SECOND, drafted,
+};
 use std::alloc::Global;
 use std::process::Abort;
 use std::test::Fail;
 use symk_task::{Memory, Task};
 use var_order::Order;
-
-/// A base variable with two values.
-const BASE: VariableDraft = VariableDraft {
-    layer: None,
-    values: 2,
-};
-
-/// A derived variable of the first layer.
-const DERIVED: VariableDraft = VariableDraft {
-    layer: Some(0),
-    values: 2,
-};
-
-/// A derived variable of the next layer.
-const NEXT: VariableDraft = VariableDraft {
-    layer: Some(1),
-    values: 2,
-};
 
 /// Variable 1 is raised where the base variable 0 is 1, variable 2 where variable 1 is, by a rule that comes first, and
 /// variable 3, of the next layer, where variable 2 is not.
@@ -39,21 +24,9 @@ const TWO_LAYERS: Draft = Draft {
     goal: &[(2, 1), (3, 0)],
     operators: &[],
     rules: &[
-        RuleDraft {
-            conds: &[(1, 1)],
-            var: 2,
-            new: 1,
-        },
-        RuleDraft {
-            conds: &[(0, 1)],
-            var: 1,
-            new: 1,
-        },
-        RuleDraft {
-            conds: &[(2, 0)],
-            var: 3,
-            new: 1,
-        },
+        THIRD_WHERE_SECOND,
+        SECOND_WHERE_FIRST,
+        FOURTH_WHERE_NOT_THIRD,
     ],
 };
 
@@ -64,18 +37,7 @@ const DEFAULT_RULE: Draft = Draft {
     initial: &[0, 0],
     goal: &[(1, 1)],
     operators: &[],
-    rules: &[
-        RuleDraft {
-            conds: &[(0, 1)],
-            var: 1,
-            new: 1,
-        },
-        RuleDraft {
-            conds: &[],
-            var: 1,
-            new: 0,
-        },
-    ],
+    rules: &[SECOND_WHERE_FIRST, SECOND_TO_0],
 };
 
 /// What the tests look at.

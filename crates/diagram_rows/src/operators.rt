@@ -11,7 +11,7 @@ use crate::states::{no_diagrams, states, task_of};
 use axiom_layers::compile;
 use bdd_ops::Ops;
 use bdd_table::{FALSE, Id, TableFault};
-use small_tasks::{Draft, EffectDraft, OperatorDraft, VariableDraft};
+use small_tasks::{Draft, EffectDraft, FIRST_1_TO_2, ON, OperatorDraft, THREE};
 use std::alloc::Global;
 use std::process::Abort;
 use std::test::Fail;
@@ -22,31 +22,14 @@ use var_order::Order;
 /// The operators of cost 1 lead to the next value, and that of cost 2 from the last to the first.
 const RING: Draft = Draft {
     metric: 1,
-    variables: &[VariableDraft {
-        layer: None,
-        values: 3,
-    }],
+    variables: &[THREE],
     initial: &[0],
     goal: &[(0, 2)],
     operators: &[
+        ON,
         OperatorDraft {
             name: b"",
-            effects: &[EffectDraft {
-                conds: &[],
-                var: 0,
-                pre: Some(0),
-                post: 1,
-            }],
-            cost: 1,
-        },
-        OperatorDraft {
-            name: b"",
-            effects: &[EffectDraft {
-                conds: &[],
-                var: 0,
-                pre: Some(1),
-                post: 2,
-            }],
+            effects: &[FIRST_1_TO_2],
             cost: 1,
         },
         OperatorDraft {

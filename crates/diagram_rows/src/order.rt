@@ -3,7 +3,10 @@
 ghost use Rattle.std.specs.Prelude.{◌≡◌, IfSome};
 ghost use Rattle.var_order.specs.Layout.{width_of};
 
-use small_tasks::{Draft, EffectDraft, OperatorDraft, RuleDraft, VariableDraft, drafted};
+use small_tasks::{
+    BASE, DERIVED, Draft, FIRST_0_TO_1, FIRST_1_TO_2, OperatorDraft, RuleDraft, SECOND_WHERE_FIRST,
+    THREE, VariableDraft, drafted,
+};
 use std::alloc::Global;
 use std::process::Abort;
 use std::test::Fail;
@@ -16,28 +19,10 @@ pub const ONE: VariableDraft = VariableDraft {
     values: 1,
 };
 
-/// A base variable of two values.
-pub const TWO: VariableDraft = VariableDraft {
-    layer: None,
-    values: 2,
-};
-
-/// A base variable of three values.
-const THREE: VariableDraft = VariableDraft {
-    layer: None,
-    values: 3,
-};
-
 /// A base variable of five values.
 const FIVE: VariableDraft = VariableDraft {
     layer: None,
     values: 5,
-};
-
-/// A derived variable.
-const DERIVED: VariableDraft = VariableDraft {
-    layer: Some(0),
-    values: 2,
 };
 
 /// Two operators lead along a variable of three values, and rules raise a derived one, the goal, at all but the first.
@@ -49,31 +34,17 @@ pub const LINE: Draft = Draft {
     operators: &[
         OperatorDraft {
             name: b"m1",
-            effects: &[EffectDraft {
-                conds: &[],
-                var: 0,
-                pre: Some(0),
-                post: 1,
-            }],
+            effects: &[FIRST_0_TO_1],
             cost: 1,
         },
         OperatorDraft {
             name: b"m2",
-            effects: &[EffectDraft {
-                conds: &[],
-                var: 0,
-                pre: Some(1),
-                post: 2,
-            }],
+            effects: &[FIRST_1_TO_2],
             cost: 1,
         },
     ],
     rules: &[
-        RuleDraft {
-            conds: &[(0, 1)],
-            var: 1,
-            new: 1,
-        },
+        SECOND_WHERE_FIRST,
         RuleDraft {
             conds: &[(0, 2)],
             var: 1,
@@ -162,7 +133,7 @@ fn check_many(rt: &impl Abort, order: &Order) {
 
 #[test]
 fn variables_of_one_value_and_derived_ones(rt: HostRuntime) -> Result<(), Fail> {
-    let variables = [ONE, FIVE, DERIVED, ONE, TWO];
+    let variables = [ONE, FIVE, DERIVED, ONE, BASE];
     let order = order_of(&rt, rt.alloc(), &variables, &[0, 0, 0, 0, 0])?;
     check_many(&rt, &order);
     Ok(())
@@ -178,7 +149,7 @@ fn check_bits(rt: &impl Abort, alloc: Global, order: &Order) -> Result<(), Memor
 
 #[test]
 fn bits_of_a_state(rt: HostRuntime) -> Result<(), Fail> {
-    let variables = [FIVE, DERIVED, TWO];
+    let variables = [FIVE, DERIVED, BASE];
     let order = order_of(&rt, rt.alloc(), &variables, &[0, 0, 0])?;
     check_bits(&rt, rt.alloc(), &order)?;
     Ok(())

@@ -2,10 +2,11 @@
 
 ghost use Rattle.std.specs.Prelude.{◌<◌, length, IfOk};
 
-use crate::order::{LINE, ONE, TWO, order_in, order_of};
+use crate::order::{LINE, ONE, order_in, order_of};
 use bdd_ops::Ops;
 use bdd_sets::{fact_set, has, next_fact_set, state_set, valid_set};
 use bdd_table::{Id, TRUE, Table};
+use small_tasks::BASE;
 use std::alloc::Global;
 use std::process::Abort;
 use std::test::Fail;
@@ -141,7 +142,7 @@ fn with_next(rt: &impl Abort, alloc: Global, order: &Order) -> Result<(), Memory
 
 #[test]
 fn the_next_state(rt: HostRuntime) -> Result<(), Fail> {
-    let order = order_of(&rt, rt.alloc(), &[ONE, TWO], &[0, 0])?;
+    let order = order_of(&rt, rt.alloc(), &[ONE, BASE], &[0, 0])?;
     with_next(&rt, rt.alloc(), &order)?;
     Ok(())
 }

@@ -10,7 +10,7 @@ use crate::states::{no_diagrams, state, states, task_of};
 use axiom_layers::compile;
 use bdd_ops::Ops;
 use bdd_table::Id;
-use small_tasks::{Draft, EffectDraft, OperatorDraft, VariableDraft};
+use small_tasks::{BASE, Draft, EffectDraft, OperatorDraft};
 use std::alloc::Global;
 use std::process::Abort;
 use std::test::Fail;
@@ -150,11 +150,6 @@ fn check(rt: &impl Abort, alloc: Global, row: &Row) -> Result<(), Fail> {
     check_task(rt, alloc, &task, row)
 }
 
-const TWO: VariableDraft = VariableDraft {
-    layer: None,
-    values: 2,
-};
-
 /// The first operator of the line leads from the first value to the second, and applies nowhere else.
 const FIRST: Row = Row {
     draft: LINE,
@@ -168,7 +163,7 @@ const FIRST: Row = Row {
 const EXCHANGE: Row = Row {
     draft: Draft {
         metric: 0,
-        variables: &[TWO, TWO],
+        variables: &[BASE, BASE],
         initial: &[1, 0],
         goal: &[(0, 1)],
         operators: &[OperatorDraft {
@@ -213,7 +208,7 @@ const EXCHANGE: Row = Row {
 const ON_THEN_OFF: Row = Row {
     draft: Draft {
         metric: 0,
-        variables: &[TWO],
+        variables: &[BASE],
         initial: &[0],
         goal: &[(0, 1)],
         operators: &[OperatorDraft {

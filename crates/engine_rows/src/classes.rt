@@ -4,69 +4,40 @@ use crate::engines::Engine;
 use crate::listing::Ending;
 use crate::prefix_lists::{Of, Row, are_listed, are_refused};
 use lazy_plans::Stop;
-use small_tasks::{Draft, EffectDraft, OperatorDraft, RuleDraft, VariableDraft};
+use small_tasks::{
+    BASE, DERIVED, Draft, EffectDraft, FIRST_0_TO_1, FIRST_0_TO_2, FIRST_1_TO_0, FURTHER,
+    OperatorDraft, RuleDraft, SECOND_0_TO_1, THIRD_WHERE_SECOND, THREE,
+};
 use std::test::Fail;
 
-const LAMP: VariableDraft = VariableDraft {
-    layer: None,
-    values: 2,
+/// The operator that turns on the first lamp.
+const FIRST: OperatorDraft = OperatorDraft {
+    name: b"first",
+    effects: &[FIRST_0_TO_1],
+    cost: 1,
 };
 
-const PLACE: VariableDraft = VariableDraft {
-    layer: None,
-    values: 3,
-};
-
-const TOLD: VariableDraft = VariableDraft {
-    layer: Some(0),
-    values: 2,
-};
-
-/// The first variable goes from 0 to 1, and back.
-const FIRST_ON: EffectDraft = EffectDraft {
-    conds: &[],
-    var: 0,
-    pre: Some(0),
-    post: 1,
-};
-
-const FIRST_OFF: EffectDraft = EffectDraft {
-    conds: &[],
-    var: 0,
-    pre: Some(1),
-    post: 0,
-};
-
-/// The second variable goes from 0 to 1.
-const OTHER_ON: EffectDraft = EffectDraft {
-    conds: &[],
-    var: 1,
-    pre: Some(0),
-    post: 1,
+/// The operator that turns on the second lamp.
+const OTHER: OperatorDraft = OperatorDraft {
+    name: b"other",
+    effects: &[SECOND_0_TO_1],
+    cost: 1,
 };
 
 /// Two lamps, the first of which has two switches.
 const TWO_FOR_ONE: Draft = Draft {
     metric: 0,
-    variables: &[LAMP, LAMP],
+    variables: &[BASE, BASE],
     initial: &[0, 0],
     goal: &[(0, 1), (1, 1)],
     operators: &[
-        OperatorDraft {
-            name: b"first",
-            effects: &[FIRST_ON],
-            cost: 1,
-        },
+        FIRST,
         OperatorDraft {
             name: b"second",
-            effects: &[FIRST_ON],
+            effects: &[FIRST_0_TO_1],
             cost: 1,
         },
-        OperatorDraft {
-            name: b"other",
-            effects: &[OTHER_ON],
-            cost: 1,
-        },
+        OTHER,
     ],
     rules: &[],
 };
@@ -74,13 +45,13 @@ const TWO_FOR_ONE: Draft = Draft {
 /// A door that opens; what comes in before, and what after it.
 const BEFORE_AND_AFTER: Draft = Draft {
     metric: 0,
-    variables: &[LAMP, LAMP, LAMP],
+    variables: &[BASE, BASE, BASE],
     initial: &[0, 0, 0],
     goal: &[(0, 1), (1, 1), (2, 1)],
     operators: &[
         OperatorDraft {
             name: b"open",
-            effects: &[FIRST_ON],
+            effects: &[FIRST_0_TO_1],
             cost: 1,
         },
         OperatorDraft {
@@ -110,18 +81,14 @@ const BEFORE_AND_AFTER: Draft = Draft {
 /// Two lamps, each of which gives light.
 const EITHER: Draft = Draft {
     metric: 0,
-    variables: &[LAMP, LAMP, TOLD],
+    variables: &[BASE, BASE, DERIVED],
     initial: &[0, 0, 0],
     goal: &[(2, 1)],
     operators: &[
-        OperatorDraft {
-            name: b"first",
-            effects: &[FIRST_ON],
-            cost: 1,
-        },
+        FIRST,
         OperatorDraft {
             name: b"second",
-            effects: &[OTHER_ON],
+            effects: &[SECOND_0_TO_1],
             cost: 1,
         },
     ],
@@ -131,36 +98,28 @@ const EITHER: Draft = Draft {
             var: 2,
             new: 1,
         },
-        RuleDraft {
-            conds: &[(1, 1)],
-            var: 2,
-            new: 1,
-        },
+        THIRD_WHERE_SECOND,
     ],
 };
 
 /// A lamp that goes on and off at no cost, and one that goes on at cost 1.
 const ROUND: Draft = Draft {
     metric: 1,
-    variables: &[LAMP, LAMP],
+    variables: &[BASE, BASE],
     initial: &[0, 0],
     goal: &[(0, 1), (1, 1)],
     operators: &[
         OperatorDraft {
             name: b"on",
-            effects: &[FIRST_ON],
+            effects: &[FIRST_0_TO_1],
             cost: 0,
         },
         OperatorDraft {
             name: b"off",
-            effects: &[FIRST_OFF],
+            effects: &[FIRST_1_TO_0],
             cost: 0,
         },
-        OperatorDraft {
-            name: b"other",
-            effects: &[OTHER_ON],
-            cost: 1,
-        },
+        OTHER,
     ],
     rules: &[],
 };
@@ -168,35 +127,21 @@ const ROUND: Draft = Draft {
 /// A way of cost 5, and one of cost 2^64.
 const NEAR_AND_PAST: Draft = Draft {
     metric: 1,
-    variables: &[PLACE],
+    variables: &[THREE],
     initial: &[0],
     goal: &[(0, 2)],
     operators: &[
         OperatorDraft {
             name: b"near",
-            effects: &[EffectDraft {
-                conds: &[],
-                var: 0,
-                pre: Some(0),
-                post: 2,
-            }],
+            effects: &[FIRST_0_TO_2],
             cost: 5,
         },
         OperatorDraft {
             name: b"far",
-            effects: &[FIRST_ON],
+            effects: &[FIRST_0_TO_1],
             cost: u64::MAX,
         },
-        OperatorDraft {
-            name: b"one",
-            effects: &[EffectDraft {
-                conds: &[],
-                var: 0,
-                pre: Some(1),
-                post: 2,
-            }],
-            cost: 1,
-        },
+        FURTHER,
     ],
     rules: &[],
 };

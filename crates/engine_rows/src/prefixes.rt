@@ -4,47 +4,29 @@ use crate::engines::Engine;
 use crate::listing::Ending;
 use crate::prefix_lists::{Of, Row, are_listed, are_refused};
 use lazy_plans::Stop;
-use small_tasks::{Draft, EffectDraft, OperatorDraft, VariableDraft};
+use small_tasks::{Draft, FIRST_0_TO_1, FIRST_1_TO_0, FIRST_1_TO_2, OperatorDraft, THREE};
 use std::test::Fail;
 
 /// A place that is left at cost 1 and come back to at cost 2, and a far way on to the goal.
 const WIDE: Draft = Draft {
     metric: 1,
-    variables: &[VariableDraft {
-        layer: None,
-        values: 3,
-    }],
+    variables: &[THREE],
     initial: &[0],
     goal: &[(0, 2)],
     operators: &[
         OperatorDraft {
             name: b"leave",
-            effects: &[EffectDraft {
-                conds: &[],
-                var: 0,
-                pre: Some(0),
-                post: 1,
-            }],
+            effects: &[FIRST_0_TO_1],
             cost: 1,
         },
         OperatorDraft {
             name: b"come back",
-            effects: &[EffectDraft {
-                conds: &[],
-                var: 0,
-                pre: Some(1),
-                post: 0,
-            }],
+            effects: &[FIRST_1_TO_0],
             cost: 2,
         },
         OperatorDraft {
             name: b"go far",
-            effects: &[EffectDraft {
-                conds: &[],
-                var: 0,
-                pre: Some(1),
-                post: 2,
-            }],
+            effects: &[FIRST_1_TO_2],
             cost: 1_000_000_000_000,
         },
     ],

@@ -4,8 +4,8 @@ ghost use Rattle.std.specs.Prelude.{◌≤◌, ◌<◌, IfOk, length};
 ghost use Rattle.symk_task.specs.Variables.{IsState};
 
 use small_tasks::{
-    Draft, EffectDraft, OperatorDraft, VariableDraft, conditional_effects, drafted,
-    switch_and_back, two_switches,
+    BASE, Draft, EffectDraft, OperatorDraft, conditional_effects, drafted, switch_and_back,
+    two_switches,
 };
 use std::alloc::Global;
 use std::test::Fail;
@@ -114,20 +114,7 @@ fn what_is_seen_to_commute_does_in_drawn_tasks(rt: HostRuntime) -> Result<(), Fa
 /// Three lights in a circle: each press turns over a light and the next.
 const LIGHTS: Draft<'_> = Draft {
     metric: 0,
-    variables: &[
-        VariableDraft {
-            layer: None,
-            values: 2,
-        },
-        VariableDraft {
-            layer: None,
-            values: 2,
-        },
-        VariableDraft {
-            layer: None,
-            values: 2,
-        },
-    ],
+    variables: &[BASE, BASE, BASE],
     initial: &[0, 0, 0],
     goal: &[(0, 1)],
     operators: &[

@@ -4,44 +4,15 @@ ghost use Rattle.std.specs.Prelude.{◌<◌, length};
 ghost use Rattle.symk_task.specs.Variables.{IsState};
 
 use small_tasks::{
-    Draft, EffectDraft, OperatorDraft, RuleDraft, VariableDraft, conditional_effects, drafted,
-    later_effect_reaches, later_effect_undoes, one_switch,
+    BASE, DERIVED, Draft, FOURTH_WHERE_NOT_THIRD, NEXT, ON, SECOND_TO_0, SECOND_WHERE_FIRST,
+    THIRD_WHERE_SECOND, conditional_effects, drafted, later_effect_reaches, later_effect_undoes,
+    one_switch,
 };
 use std::alloc::Global;
 use std::process::Abort;
 use std::test::Fail;
 use symk_task::{Plan, State, Task};
 use task_run::{Verdict, applies, closed, goal_holds, run_plan, step, successor};
-
-/// The operator that changes the first variable from its first value to its second.
-const ON: OperatorDraft = OperatorDraft {
-    name: b"",
-    effects: &[EffectDraft {
-        conds: &[],
-        var: 0,
-        pre: Some(0),
-        post: 1,
-    }],
-    cost: 1,
-};
-
-/// A base variable with two values.
-const BASE: VariableDraft = VariableDraft {
-    layer: None,
-    values: 2,
-};
-
-/// A derived variable of the first layer.
-const DERIVED: VariableDraft = VariableDraft {
-    layer: Some(0),
-    values: 2,
-};
-
-/// A derived variable of the next layer.
-const NEXT: VariableDraft = VariableDraft {
-    layer: Some(1),
-    values: 2,
-};
 
 /// The second of three derived variables follows from the first, which follows from the base variable, and the third,
 /// of the next layer, from the second at its default value.
@@ -52,21 +23,9 @@ const CHAIN: Draft = Draft {
     goal: &[(2, 1)],
     operators: &[ON],
     rules: &[
-        RuleDraft {
-            conds: &[(1, 1)],
-            var: 2,
-            new: 1,
-        },
-        RuleDraft {
-            conds: &[(0, 1)],
-            var: 1,
-            new: 1,
-        },
-        RuleDraft {
-            conds: &[(2, 0)],
-            var: 3,
-            new: 1,
-        },
+        THIRD_WHERE_SECOND,
+        SECOND_WHERE_FIRST,
+        FOURTH_WHERE_NOT_THIRD,
     ],
 };
 
@@ -77,18 +36,7 @@ const TO_DEFAULT: Draft = Draft {
     initial: &[0, 0],
     goal: &[(1, 1)],
     operators: &[ON],
-    rules: &[
-        RuleDraft {
-            conds: &[(0, 1)],
-            var: 1,
-            new: 1,
-        },
-        RuleDraft {
-            conds: &[],
-            var: 1,
-            new: 0,
-        },
-    ],
+    rules: &[SECOND_WHERE_FIRST, SECOND_TO_0],
 };
 
 fn check_closed(

@@ -1,6 +1,6 @@
 //! Worked rows of tasks.
 
-use small_tasks::{Draft, OperatorDraft, VariableDraft, drafted, drafted_parts};
+use small_tasks::{BASE, Draft, OperatorDraft, drafted, drafted_parts};
 use std::alloc::Global;
 use std::process::Abort;
 use std::test::Fail;
@@ -96,10 +96,7 @@ fn keys_are_ordered(rt: HostRuntime) -> Result<(), Fail> {
 /// One variable of two values, the second of them initial, and nothing else.
 const LAMP: Draft = Draft {
     metric: 1,
-    variables: &[VariableDraft {
-        layer: None,
-        values: 2,
-    }],
+    variables: &[BASE],
     initial: &[1],
     goal: &[],
     operators: &[],
@@ -109,10 +106,7 @@ const LAMP: Draft = Draft {
 /// The same, and an operator that changes nothing.
 const WAIT: Draft = Draft {
     metric: 1,
-    variables: &[VariableDraft {
-        layer: None,
-        values: 2,
-    }],
+    variables: &[BASE],
     initial: &[1],
     goal: &[],
     operators: &[OperatorDraft {

@@ -9,7 +9,8 @@ use bdd_space::BddSpace;
 use explicit_space::{ExplicitSpace, FuseSpace};
 use forward_search::{Forward, Step};
 use small_tasks::{
-    Draft, EffectDraft, OperatorDraft, VariableDraft, drafted, switch_and_back, zero_costs,
+    Draft, FIRST_0_TO_1, FIRST_0_TO_2, FURTHER, OperatorDraft, THREE, drafted, switch_and_back,
+    zero_costs,
 };
 use space_api::{Space, SpaceFault};
 use std::alloc::Global;
@@ -135,33 +136,16 @@ fn each_layer_has_what_its_cost_reaches_and_an_empty_one_closes(
 /// A dear step to the goal, of as much as 64 bits hold, and a cheap one on from there.
 const DEAR: Draft<'_> = Draft {
     metric: 1,
-    variables: &[VariableDraft {
-        layer: None,
-        values: 3,
-    }],
+    variables: &[THREE],
     initial: &[0],
     goal: &[(0, 1)],
     operators: &[
         OperatorDraft {
             name: b"big",
-            effects: &[EffectDraft {
-                conds: &[],
-                var: 0,
-                pre: Some(0),
-                post: 1,
-            }],
+            effects: &[FIRST_0_TO_1],
             cost: u64::MAX,
         },
-        OperatorDraft {
-            name: b"one",
-            effects: &[EffectDraft {
-                conds: &[],
-                var: 0,
-                pre: Some(1),
-                post: 2,
-            }],
-            cost: 1,
-        },
+        FURTHER,
     ],
     rules: &[],
 };
@@ -226,37 +210,27 @@ fn a_cost_past_the_range_is_marked_unless_its_states_were_cut(rt: HostRuntime) -
     Ok(())
 }
 
+/// The operator that leads to the dead end of the fork.
+const LOSE: OperatorDraft<'_> = OperatorDraft {
+    name: b"lose",
+    effects: &[FIRST_0_TO_1],
+    cost: 0,
+};
+
+/// The operator that leads to its goal.
+const WIN: OperatorDraft<'_> = OperatorDraft {
+    name: b"win",
+    effects: &[FIRST_0_TO_2],
+    cost: 0,
+};
+
 /// A place from which two operators lead at cost 0: the first to a dead end, the second to the goal.
 const FORK: Draft<'_> = Draft {
     metric: 1,
-    variables: &[VariableDraft {
-        layer: None,
-        values: 3,
-    }],
+    variables: &[THREE],
     initial: &[0],
     goal: &[(0, 2)],
-    operators: &[
-        OperatorDraft {
-            name: b"lose",
-            effects: &[EffectDraft {
-                conds: &[],
-                var: 0,
-                pre: Some(0),
-                post: 1,
-            }],
-            cost: 0,
-        },
-        OperatorDraft {
-            name: b"win",
-            effects: &[EffectDraft {
-                conds: &[],
-                var: 0,
-                pre: Some(0),
-                post: 2,
-            }],
-            cost: 0,
-        },
-    ],
+    operators: &[LOSE, WIN],
     rules: &[],
 };
 

@@ -2,8 +2,8 @@
 
 use plan_out::{Blocks, Checked, End, PlansFault, Why, block, check_list, end_line, read_plans};
 use small_tasks::{
-    Draft, EffectDraft, OperatorDraft, VariableDraft, drafted, one_switch, past_64_bits,
-    switch_and_back,
+    BASE, Draft, EffectDraft, FIRST_0_TO_1, OperatorDraft, SECOND_0_TO_1, drafted, one_switch,
+    past_64_bits, switch_and_back,
 };
 use std::alloc::Global;
 use std::process::Abort;
@@ -252,37 +252,21 @@ fn gives_each_reason_on_a_switch(rt: HostRuntime) -> Result<(), Fail> {
     Ok(())
 }
 
-/// A switch.
-const SWITCH: VariableDraft = VariableDraft {
-    layer: None,
-    values: 2,
-};
-
 /// Two switches, an operator for each that turns it on, and one that leaves the second as it is.
 const TWO_SWITCHES: Draft = Draft {
     metric: 0,
-    variables: &[SWITCH, SWITCH],
+    variables: &[BASE, BASE],
     initial: &[0, 0],
     goal: &[(0, 1), (1, 1)],
     operators: &[
         OperatorDraft {
             name: b"a-on",
-            effects: &[EffectDraft {
-                conds: &[],
-                var: 0,
-                pre: Some(0),
-                post: 1,
-            }],
+            effects: &[FIRST_0_TO_1],
             cost: 1,
         },
         OperatorDraft {
             name: b"b-on",
-            effects: &[EffectDraft {
-                conds: &[],
-                var: 1,
-                pre: Some(0),
-                post: 1,
-            }],
+            effects: &[SECOND_0_TO_1],
             cost: 1,
         },
         OperatorDraft {

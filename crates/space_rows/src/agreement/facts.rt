@@ -7,7 +7,7 @@ ghost use Rattle.space_api.specs.Frames.{Kept};
 
 use bdd_space::BddSpace;
 use explicit_space::ExplicitSpace;
-use small_tasks::{Draft, EffectDraft, OperatorDraft, VariableDraft, drafted};
+use small_tasks::{BASE, Draft, FIRST_1_TO_0, OperatorDraft, SECOND_0_TO_1, drafted};
 use space_api::{Space, SpaceFault};
 use std::alloc::Global;
 use std::test::Fail;
@@ -163,37 +163,15 @@ fn both_spaces_agree_on_the_states_of_a_fact_and_on_their_operators(
     Ok(())
 }
 
-/// A variable that is off or on.
-const LAMP: VariableDraft = VariableDraft {
-    layer: None,
-    values: 2,
-};
-
-/// The first lamp is turned off.
-const FIRST_OFF: EffectDraft<'static> = EffectDraft {
-    conds: &[],
-    var: 0,
-    pre: Some(1),
-    post: 0,
-};
-
-/// The second lamp is turned on.
-const SECOND_ON: EffectDraft<'static> = EffectDraft {
-    conds: &[],
-    var: 1,
-    pre: Some(0),
-    post: 1,
-};
-
 /// The first of two lamps is on, the second is to be, and an operator turns the first off and the second on.
 const MOVED: Draft<'static> = Draft {
     metric: 0,
-    variables: &[LAMP, LAMP],
+    variables: &[BASE, BASE],
     initial: &[1, 0],
     goal: &[(1, 1)],
     operators: &[OperatorDraft {
         name: b"",
-        effects: &[FIRST_OFF, SECOND_ON],
+        effects: &[FIRST_1_TO_0, SECOND_0_TO_1],
         cost: 1,
     }],
     rules: &[],

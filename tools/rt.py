@@ -1,8 +1,8 @@
 #!/usr/bin/env python3
 """rt.py WORDS..: the toolchain's `rt WORDS..`, in seconds where that takes minutes before and after a check.
 
-rt tells by a sum over its files whether a library is built of what lies there, and in it are the sums of the libraries below: each is
-taken anew along every way that leads down to it in crates.txt. From the crates that stand on most others there are thousands of ways.
+rt tells by a sum over its files whether a library is built of what lies there, and in it are the sums of the libraries below: by some of
+the toolchain's kits each is taken anew along every way that leads down to it in crates.txt. From the crates that stand on most others there are thousands of ways.
 Here a crate's sum is taken once, and kept until a check or a build begins or ends. Where the toolchain's rt isn't made as this expects,
 it runs as it is. The gate is a plain `rt ci`, and never this.
 """

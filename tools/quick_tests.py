@@ -22,7 +22,7 @@ ROOM = 2_500_000
 SECONDS = 300
 # Tests that would take too long without optimisation: of a crate the file, what is looked for in it, what stands there instead, and what is said.
 SHORTER = {
-    "engine_rows": ("src/agreement.rt", r"(?m)^(const SEEDS: u64 = )300;$", r"\g<1>20;", "with 20 of its 300 seeds"),
+    "engine_tests": ("src/agreement.rt", r"(?m)^(const SEEDS: u64 = )300;$", r"\g<1>20;", "with 20 of its 300 seeds"),
     "symk_cli": ("src/tests/large.rt", r"(?s)#\[test\]\nfn (?:refuses_long_texts|reads_the_longest_text)\(.*?\n\}\n", "", "without its tests of texts of 268,435,456 bytes and more"),
 }
 RESULT = re.compile(r"test result: \w+\. (\d+) passed; (\d+) failed")

@@ -1,5 +1,0 @@
-use Rattle.engine_rows.proofs.listing.ends_so.Given as goal
-
--- the call counts its own turns
-abbrev pub ghosts-ask : goal.ghosts-ask
-ghosts-ask g a = record { name = a.blank.name; parts = a.blank.parts }

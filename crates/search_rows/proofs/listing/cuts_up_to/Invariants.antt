@@ -1,7 +1,0 @@
-use Rattle.space_api.specs.Frames.{Stays}
-use Rattle.search_rows.proofs.listing.cuts_up_to.Given as goal
-
-abbrev pub invariant-costs : goal.invariant-costs
-invariant-costs g l =
-    let view = g.S.Space.view in
-    Stays (view l.fn.space) (view l.space)

@@ -1,7 +1,0 @@
-use Rattle.run_graph.proofs.Listed.{all_useful}
-use Rattle.search_rows.proofs.telling.list_costs.Goals as goal
-
-pub new_within-requires-clause-within : goal.new_within-requires-clause-within
-new_within-requires-clause-within g c =
-    let view = g.S.Space.view in
-    all_useful (view c.args.space.now) (view c.all.new.self) c.in_ok-all.all c.in_ok-all.ensures.reached c.all.ensures.makes.kept.system c.in_ok-all.ensures.makes.ok

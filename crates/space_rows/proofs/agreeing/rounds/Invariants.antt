@@ -1,5 +1,0 @@
-use Rattle.space_rows.proofs.Rounding.{InRounds}
-use Rattle.space_rows.proofs.agreeing.rounds.Given as goal
-
-abbrev pub invariant-rounds : goal.invariant-rounds
-invariant-rounds g l = InRounds l.counter (g.A.Space.view l.fn.a) (g.A.Space.view l.a) (g.B.Space.view l.fn.b) (g.B.Space.view l.b) l.pairs.items

@@ -1,5 +1,0 @@
-use Rattle.space_api.specs.Frames.{Kept}
-use Rattle.space_rows.proofs.agreement.facts.misses_none.Given as goal
-
-abbrev pub invariant-operators : goal.invariant-operators
-invariant-operators g l = Kept (g.S.Space.view l.fn.space) (g.S.Space.view l.space)

@@ -1,5 +1,0 @@
-use Rattle.space_api.specs.View.{Valid}
-use Rattle.space_rows.proofs.calls.rounds.Given as goal
-
-abbrev pub invariant-rounds : goal.invariant-rounds
-invariant-rounds g l = Valid (g.S.Space.view l.space) l.init

@@ -1,10 +1,12 @@
 -- Answers of an engine seen from an earlier value, and answers given again.
-use Rattle.std.proofs.Common.{ℕ, List, Option, Some, None, Result, Ok, Err}
+use Rattle.std.proofs.Common.{◌≡◌, ℕ, List, Option, Some, None, Result, Ok, Err, subst}
 use Rattle.symk_task.specs.declared.parts.Mode.{Mode}
 use Rattle.task_system.specs.System.{System}
 use Rattle.lazy_plans.specs.Law.{PendsAlike, MayStop, NoneLeft, Turned, Ended, last_of}
 use Rattle.lazy_plans.specs.declared.stop.Stop.{Stop}
 use Rattle.lazy_plans.specs.declared.stop.Stop.TheVariants.{Memory, CostRange}
+use Rattle.lazy_plans.specs.declared.stop.Ending.{Ending}
+use Rattle.lazy_plans.specs.declared.stop.Ending.TheVariants.{Exhausted, StoppedBy}
 
 -- the law seen from an earlier value of which the same pends
 pub stays_trans : (a b c : List ℕ → Type 0) → PendsAlike a b → PendsAlike b c → PendsAlike a c
@@ -41,10 +43,23 @@ ended_by y m most a b (Ok (Some p)) g = tt
 ended_by y m most a b (Ok None) h = none_from y most a b (λ q k. (h.1 q).0 k) h.0
 ended_by y m most a b (Err stop) h = stops_from y most a b stop h.1 h.0
 
--- the answer that ended it may be given again
-pub again_none : (y : System) (m : Mode) (most : Option ℕ) (a : List ℕ → Type 0) → Ended y most a (Some None) → Turned y m most a a (Ok None)
-again_none y m most a h = (h, λ q. ((λ k. k), (λ k. k)))
+none_some : (e : Ending) → None ≡ Some e → ⊥
+none_some e is = cc
 
-pub again_stop : (y : System) (m : Mode) (most : Option ℕ) (a : List ℕ → Type 0) (stop : Stop)
-    → Ended y most a (Some (Some stop)) → Turned y m most a a (Err stop)
-again_stop y m most a stop h = (h, λ q. ((λ k. k), (λ k. k)))
+of_stop : (s t : Stop) → Some (StoppedBy s) ≡ Some (StoppedBy t) → t ≡ s
+of_stop s t e = cc
+
+-- the answer that ended it may be given again
+pub again : (y : System) (m : Mode) (most : Option ℕ) (a : List ℕ → Type 0) (r : Result (Option (List ℕ)) Stop) (e : Ending)
+    → last_of r ≡ Some e → Ended y most a (Some e) → Turned y m most a a r
+again y m most a (Ok (Some p)) e is h = absurd (none_some e is)
+again y m most a (Ok None) Exhausted is h = (h, λ q. ((λ k. k), (λ k. k)))
+again y m most a (Ok None) (StoppedBy s) is h = absurd (other is)
+  where
+    other : Some Exhausted ≡ Some (StoppedBy s) → ⊥
+    other e = cc
+again y m most a (Err s) Exhausted is h = absurd (other is)
+  where
+    other : Some (StoppedBy s) ≡ Some Exhausted → ⊥
+    other e = cc
+again y m most a (Err s) (StoppedBy t) is h = (subst (MayStop y most a) (of_stop s t is) h, λ q. ((λ k. k), (λ k. k)))

@@ -10,4 +10,5 @@ pub mod Once
 pub mod Growing
 pub mod Turns
 pub mod Falls
+pub mod Shells
 pub mod Owed

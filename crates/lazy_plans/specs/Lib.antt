@@ -5,4 +5,5 @@ pub mod Told
 pub mod SelectorsOwe
 pub mod Queue
 pub mod Weight
+pub mod Shell
 pub mod PrefixesOwe

@@ -47,7 +47,7 @@ fn kept_to<S: Space>(
 
 /// All plans of the task, which grow from the middle outwards, up to a greatest cost where there is one, searched for
 /// as is asked. The space is of the task and has no valid set.
-pub fn top_plans<S: Space + Drop>(
+pub(crate) fn top_plans<S: Space + Drop>(
     alloc: Global,
     task: &Task,
     search: Search,
@@ -78,7 +78,7 @@ pub fn top_plans<S: Space + Drop>(
 }
 
 /// All plans of the task by their prefixes, in the same way. They are searched for from both ends, whatever the direction.
-pub fn prefix_plans<S: Space + Drop>(
+pub(crate) fn prefix_plans<S: Space + Drop>(
     alloc: Global,
     task: &Task,
     search: Search,
@@ -136,7 +136,7 @@ fn member_plans<'a, S: Space + Drop>(
 }
 
 /// One plan of each class of rearrangements of the task, in the same way.
-pub fn class_plans<'a, S: Space + Drop>(
+pub(crate) fn class_plans<'a, S: Space + Drop>(
     alloc: Global,
     task: &'a Task,
     search: Search,
@@ -156,7 +156,7 @@ pub fn class_plans<'a, S: Space + Drop>(
 }
 
 /// All loopless plans of the task, in the same way. They are searched for backward, whatever the direction.
-pub fn loopless_plans<S: Space + Drop>(
+pub(crate) fn loopless_plans<S: Space + Drop>(
     alloc: Global,
     task: &Task,
     search: Search,

@@ -19,7 +19,7 @@ const TRIFLE: u64 = 1 << 18;
 /// be shut. Where no direction is asked for, the backward side goes on while all steps together are a trifle: what is
 /// left of a plan is then found by single states, in less time than what comes before a cut, by sets.
 #[derive(Clone, Copy, Debug)]
-pub struct Patient {
+pub(crate) struct Patient {
     choice: Choice,
     // How much work the steps so far were, up to the range.
     spent: u64,

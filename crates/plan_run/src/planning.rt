@@ -25,7 +25,7 @@ use symk_text::{Text, push_bytes, push_number};
 ///
 /// The first plan tells whether the earlier list misses one: it is then cheaper than the last of that list, and a
 /// cheapest.
-pub fn list_plans<I: LazyPlans + Drop, K: Sink>(
+pub(crate) fn list_plans<I: LazyPlans + Drop, K: Sink>(
     alloc: Global,
     job: Job<'_>,
     engine: I,
@@ -130,7 +130,7 @@ fn put_block<K: Sink>(
 }
 
 /// Puts the line that ends a list.
-pub fn end_list<K: Sink>(alloc: Global, sink: &mut K, why: End) -> Status
+pub(crate) fn end_list<K: Sink>(alloc: Global, sink: &mut K, why: End) -> Status
     ensures ends { EndsWithText (end_status why) (end_text why) (K.view sink.old) (K.view sink.new) result }
     ensures causes { HasCauses result 0 0 (K.view sink.old).faults (K.view sink.new).faults }
 {

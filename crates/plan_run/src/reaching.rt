@@ -24,7 +24,7 @@ use symk_task::{Memory, Mode, Task};
 
 /// What the cheapest plan of a task costs.
 #[derive(Clone, Copy, Debug, PartialEq, Eq)]
-pub enum Least {
+pub(crate) enum Least {
     /// So much.
     Costs(u64),
     /// More than 64 bits hold.

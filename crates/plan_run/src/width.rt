@@ -50,7 +50,7 @@ fn width_of(operators: &[Operator]) -> Width {
 ///
 /// So many layers by exact cost may lie below a plan of few steps, and without end where a cheap circle stands beside a
 /// dear operator. It is a choice of the engine alone, and changes no list.
-pub fn costs_are_wide(task: &Task) -> bool {
+pub(crate) fn costs_are_wide(task: &Task) -> bool {
     let parts = task.parts();
     let width = width_of(parts.operators.as_slice());
     parts.metric != 0 && 0 < width.measure && WIDE <= width.greatest / width.measure

@@ -1,15 +1,17 @@
-//! The costs that have a layer, one after the other, and the first whose layer has a state of a set.
+//! The costs that have a layer, one after the other, and the first whose layer has a state of a set, or one state.
 
 ghost use Rattle.std.specs.Prelude.{◌≡◌, ◌<◌, ◌^◌, ◌↔◌, ℕ, None, IsTrue, IfOk, MatchOption};
 ghost use Rattle.task_system.specs.System.{State};
 ghost use Rattle.space_api.specs.View.{View, Valid, Has};
 ghost use Rattle.space_api.specs.Frames.{Stays};
+ghost use Rattle.space_api.specs.States.{IsReached};
 ghost use Rattle.run_graph.specs.Layering.{InLayer};
 ghost use Rattle.cost_layers.specs.Layers.{union_at, Held, Stands};
-ghost use Rattle.cost_search.specs.Meeting.{IsFirstFrom, IsLayerMeeting};
+ghost use Rattle.cost_search.specs.Meeting.{IsFirstFrom, IsFirstIn, IsLayerMeeting};
 
 use cost_layers::Layers;
-use space_api::{Space, SpaceFault, meets};
+use space_api::{Space, SpaceFault, has_state, meets};
+use symk_task::State;
 
 /// The next cost after this one that has a layer, or None where no later cost has one.
 ///
@@ -65,4 +67,40 @@ pub fn first_meeting<S: Space>(
         next = cost_after(layers, cost);
     }
     Ok(None)
+}
+
+/// Whether the layer of this cost has the state.
+fn layer_has<S: Space>(space: &S, layers: &Layers<S::Set>, cost: u64, state: &State) -> bool
+    requires held { Held (S.view space.now) layers.now }
+    requires state { IsReached (S.view space.now).system state.now }
+    ensures { IsTrue result ↔ InLayer (Stands (S.view space.now) layers.now) cost state.now }
+{
+    match layers.layer(cost) {
+        Some(whole) => has_state(space, whole, state),
+        None => false,
+    }
+}
+
+/// The least cost from this one on whose layer has the state, which operators reach. None exactly where no such layer has
+/// it. It takes no memory.
+///
+/// Public, so that who asks the layers of a search for one state need not prove it again.
+pub fn first_with_state<S: Space>(
+    space: &S,
+    layers: &Layers<S::Set>,
+    low: u64,
+    state: &State,
+) -> Option<u64>
+    requires held { Held (S.view space.now) layers.now }
+    requires state { IsReached (S.view space.now).system state.now }
+    ensures { IsFirstIn (S.view space.now) layers.now state.now low result }
+{
+    let mut next = layers.next_cost(low);
+    'costs: while let Some(cost) = next {
+        if layer_has(space, layers, cost, state) {
+            return Some(cost);
+        }
+        next = cost_after(layers, cost);
+    }
+    None
 }

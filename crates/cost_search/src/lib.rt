@@ -22,7 +22,7 @@ mod release;
 mod restrict;
 mod search;
 
-pub use costs::{cost_after, first_meeting};
+pub use costs::{cost_after, first_meeting, first_with_state};
 pub use directed::Directed;
 pub use direction::{Direction, FromGoal, FromInit};
 pub use search::{Search, Step};

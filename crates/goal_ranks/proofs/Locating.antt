@@ -1,15 +1,13 @@
 -- In which layer of the search ahead a state stands.
-use Rattle.std.proofs.Common.{◌≡◌, ℕ, ◌<◌, ◌≤◌, ◌⊎◌, ◌↔◌, inl, inr, Option, Some, None, MatchOption, Bool, true, false, IsTrue, arith}
+use Rattle.std.proofs.Common.{◌≡◌, ℕ, ◌<◌, ◌≤◌, ◌⊎◌, ◌↔◌, inl, inr, Some, None, arith}
 use Rattle.task_system.specs.System.{State}
 use Rattle.space_api.specs.View.{View, Has}
-use Rattle.space_api.proofs.Trading.{valid_clash}
 use Rattle.run_graph.specs.Layering.{InLayer}
 use Rattle.run_graph.specs.Reached.{ReachedAt}
 use Rattle.cost_layers.specs.Layers.{rings_at, union_at, Stands, Held}
 use Rattle.cost_layers.specs.declared.layers.Layers.{Layers}
 use Rattle.cost_layers.proofs.Holding.{layer_at}
 use Rattle.cost_search.specs.Search.{layers_of}
-use Rattle.cost_search.proofs.Coming.{bound_of as next_bound, ComesAfter, next_past}
 use Rattle.cost_search.proofs.Meeting.{no_stand}
 use Rattle.goal_ranks.specs.Least.{least_search}
 use Rattle.goal_ranks.specs.declared.least.LeastCosts.{LeastCosts}
@@ -22,11 +20,6 @@ module _ {Set : Type 0} (v : View Set) (l : Layers Set) (held : Held v l) (s : S
 
   pub whole_has : (c : ℕ) (whole : Set) → union_at l c ≡ Some whole → Has v whole s ↔ InLayer (Stands v l) c s
   whole_has c whole e = (layer_at v (rings_at l c) (union_at l c) whole e (held.each c)).parts s
-
-  -- no layer before one has the state, nor that one: none before the next has it
-  pub none_past : (c : ℕ) (o : Option ℕ) → ((d : ℕ) → d < c → ¬ InLayer (Stands v l) d s) → ¬ InLayer (Stands v l) c s
-      → ComesAfter (union_at l) c o → (d : ℕ) → d < next_bound o → ¬ InLayer (Stands v l) d s
-  none_past c o below here after = next_past (union_at l) (λ d. ¬ InLayer (Stands v l) d s) none_in c o below here after
 
 below_or : (m n : ℕ) → (m < n) ⊎ (n ≤ m)
 below_or m n = grind arith
@@ -41,16 +34,3 @@ module _ {Set : Type 0} (v : View Set) (f : LeastCosts Set) (z : IsAhead v f) (s
         let w = stands_below v f z a s run (omega (arith, lt, few)) in
         absurd (none w.0 (omega (arith, w.1, lt)) w.2)
   ]
-
-pub false_true : false ≡ true → ⊥
-false_true e = cc
-
-pub not_true : (b : Bool) (P : Type 0) → IsTrue b ↔ P → b ≡ false → ¬ P
-not_true b P same lacks p = valid_clash (same.1 p) lacks
-
--- no layer before the first has the state
-pub none_first : {Set : Type 0} (v : View Set) (l : Layers Set) → Held v l → (s : State) (o : Option ℕ)
-    → MatchOption o ((d : ℕ) → 0 ≤ d → union_at l d ≡ None) (λ n. (d : ℕ) → 0 ≤ d → d < n → union_at l d ≡ None)
-    → (d : ℕ) → d < next_bound o → ¬ InLayer (Stands v l) d s
-none_first v l held s None m d lt = none_in v l held s d (m d (omega arith))
-none_first v l held s (Some n) m d lt = none_in v l held s d (m d (omega arith) lt)

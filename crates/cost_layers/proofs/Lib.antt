@@ -13,3 +13,4 @@ pub mod Counting
 pub mod Trying
 pub mod Spreading
 pub mod ClosingIn
+pub mod Useful

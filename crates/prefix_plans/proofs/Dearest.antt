@@ -19,7 +19,8 @@ use Rattle.prefix_tree.specs.declared.entry.Entry.{Entry}
 use Rattle.prefix_plans.specs.Left.{LeadsOn, bound_at}
 use Rattle.prefix_plans.specs.EndChildren.{IsEndEntry}
 use Rattle.prefix_plans.specs.Leading.{TellsLeading, GoesOnFrom, IsDear}
-use Rattle.prefix_plans.proofs.Ranking.{run_inside, inside_run}
+use Rattle.cost_layers.proofs.Useful.{run_inside}
+use Rattle.prefix_plans.proofs.Ranking.{inside_run}
 
 -- whether a plan goes on from the prefix that ends in s
 pub decides_on : {Set : Type 0} (v : View Set) (a : Set) (e : List ℕ) (s : State) (b : Bool) → TellsLeading v a

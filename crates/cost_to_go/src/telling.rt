@@ -50,20 +50,15 @@ impl<T: Copy> CostToGo<T> {
         self.ranks.beyond()
     }
 
-    /// The rank of the state, which operators reach, of those of this number or later whose cost is `low` or more. None
-    /// exactly where none of these has it. It takes no memory, and looks at one set where the state has no rank at all.
-    pub fn rank_from<S: Space<Set = T>>(
-        &self,
-        space: &S,
-        state: &State,
-        first: usize,
-        low: u64,
-    ) -> Option<Rank>
+    /// The rank of the state, which operators reach, of those of the number of `from` or later that cost as much or more, as
+    /// `GoalRanks::rank_from` tells it. None exactly where none of these has it.
+    pub fn rank_from<S: Space<Set = T>>(&self, space: &S, state: &State, from: Rank) -> Option<Rank>
         requires stands { IsCostToGo (S.view space.now) self.now }
         requires state { IsReached (S.view space.now).system state.now }
-        ensures { MatchOption result ((i x : ℕ) → first ≤ i → low ≤ x → ¬ HasRankToGo (S.view space.now) self.now i x
-            state.now) (λ rank. HasRankToGo (S.view space.now) self.now rank.number rank.cost state.now) }
+        ensures { MatchOption result ((i x : ℕ) → from.number ≤ i → from.cost ≤ x
+            → ¬ HasRankToGo (S.view space.now) self.now i x state.now)
+            (λ rank. HasRankToGo (S.view space.now) self.now rank.number rank.cost state.now) }
     {
-        self.ranks.rank_from(space, state, first, low)
+        self.ranks.rank_from(space, state, from)
     }
 }

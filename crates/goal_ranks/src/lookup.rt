@@ -38,26 +38,21 @@ fn may_have<S: Space>(space: &S, ranked: Ranked<S::Set>, state: &State, low: u64
 }
 
 impl<T: Copy> GoalRanks<T> {
-    /// The rank of the state, which operators reach, of those of this number or later whose cost is `low` or more. None
-    /// exactly where none of these has it. It takes no memory, and looks at one set where the state has no rank at all.
-    pub fn rank_from<S: Space<Set = T>>(
-        &self,
-        space: &S,
-        state: &State,
-        first: usize,
-        low: u64,
-    ) -> Option<Rank>
+    /// The rank of the state, which operators reach, of those of the number of `from` or later that cost as much or more.
+    /// None exactly where none of these has it. It takes no memory, and looks at one set where the state has no rank at all.
+    pub fn rank_from<S: Space<Set = T>>(&self, space: &S, state: &State, from: Rank) -> Option<Rank>
         requires ranks { IsGoalRanks (S.view space.now) self.now }
         requires state { IsReached (S.view space.now).system state.now }
-        ensures { MatchOption result ((i x : ℕ) → first ≤ i → low ≤ x → ¬ HasRank (S.view space.now) self.now i x
-            state.now) (λ rank. HasRank (S.view space.now) self.now rank.number rank.cost state.now) }
+        ensures { MatchOption result ((i x : ℕ) → from.number ≤ i → from.cost ≤ x
+            → ¬ HasRank (S.view space.now) self.now i x state.now)
+            (λ rank. HasRank (S.view space.now) self.now rank.number rank.cost state.now) }
     {
         if has_state(space, self.left, state) {
             return None;
         }
-        'ranks: for number in first..self.ranks.len() {
+        'ranks: for number in from.number..self.ranks.len() {
             let ranked = self.ranks[number];
-            if may_have(space, ranked, state, low) {
+            if may_have(space, ranked, state, from.cost) {
                 return Some(Rank {
                     cost: ranked.cost,
                     number,
@@ -74,7 +69,8 @@ impl<T: Copy> GoalRanks<T> {
         ensures { MatchOption result ((i x : ℕ) → ¬ HasRank (S.view space.now) self.now i x state.now)
             (λ rank. HasRank (S.view space.now) self.now rank.number rank.cost state.now) }
     {
-        self.rank_from(space, state, 0, 0)
+        let first = Rank { cost: 0, number: 0 };
+        self.rank_from(space, state, first)
     }
 
     /// Of the sets that wait in slots the one of the least key. None where no slot has one. The set stays its owner's, until

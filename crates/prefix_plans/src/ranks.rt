@@ -66,11 +66,15 @@ impl Ranks {
             state.now) (λ rank. IsRanked (S.view space.now) search.now rank.cost rank.number state.now) }
     {
         if let Some(rank) = self.kept_at(number) {
-            if let Some(rank) = search.rank_from(space, state, rank.number, rank.cost) {
+            if let Some(rank) = search.rank_from(space, state, rank) {
                 return Some(rank);
             }
         }
-        let found = search.rank_from(space, state, first, low);
+        let from = Rank {
+            cost: low,
+            number: first,
+        };
+        let found = search.rank_from(space, state, from);
         if let Some(rank) = found {
             self.keep(number, rank);
         }

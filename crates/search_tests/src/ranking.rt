@@ -58,7 +58,8 @@ fn rank_of_start<S: Space>(
     requires { IsCostToGo (S.view space.now) search.now }
 {
     let state = start(alloc, space)?;
-    Ok(search.rank_from(space, &state, 0, 0))
+    let first = Rank { cost: 0, number: 0 };
+    Ok(search.rank_from(space, &state, first))
 }
 
 /// Whether no key of what waits is above the cost of the cheapest plan, while the initial state has no rank.

@@ -29,7 +29,7 @@ ranks-preserved g c =
     let f = c.args.self.now in
     let lt : c.ranks.number < length f.ranks.items = grind (arith, c.ranks-test.true, c.len-number-end.ensures) in
     let at = slice_get_read f.ranks.items (length f.ranks.items) c.ranks.number c.index-ranked.result.now refl lt c.index-ranked.ensures in
-    none_further (g.S.Space.view c.args.space.now) f.ranks.items c.args.state.now c.args.first c.args.low
+    none_further (g.S.Space.view c.args.space.now) f.ranks.items c.args.state.now c.args.from.number c.args.from.cost
     c.ranks.number c.ranks.invariant c.index-ranked.result.now at
     (not_both c.may_have.result _ c.may_have.ensures c.if-may_have.false)
 
@@ -37,4 +37,4 @@ pub returns : goal.returns
 returns g c =
     let f = c.args.self.now in
     let le : length f.ranks.items ≤ c.ranks.number = grind (arith, c.ranks-test.false, c.len-number-end.ensures) in
-    none_at_all (g.S.Space.view c.args.space.now) f.ranks.items c.args.state.now c.args.first c.args.low c.ranks.number c.ranks.invariant le
+    none_at_all (g.S.Space.view c.args.space.now) f.ranks.items c.args.state.now c.args.from.number c.args.from.cost c.ranks.number c.ranks.invariant le

@@ -1,9 +1,9 @@
 -- A prefix that is longer by an operator.
-use Rattle.std.proofs.Common.{◌≡◌, ℕ, ◌<◌, ◌+◌, true, false, IsTrue, List, [], ◌∷◌, ◌++◌, length, refl, sym, ap, subst, arith}
+use Rattle.std.proofs.Common.{◌≡◌, ℕ, ◌<◌, ◌+◌, IsTrue, List, [], ◌∷◌, ◌++◌, length, sym, ap, subst, arith}
 use Rattle.std.specs.Bool.{Decides}
 use Rattle.std.specs.List.{Contains}
 use Rattle.symk_task.specs.declared.parts.Mode.TheVariants.{TopK}
-use Rattle.task_system.specs.System.{State, System, Listed, RunsInSystem, cost_in_system}
+use Rattle.task_system.specs.System.{State, Listed, RunsInSystem, cost_in_system}
 use Rattle.run_graph.specs.Reached.{ReachedAt}
 use Rattle.space_api.specs.View.{View}
 use Rattle.cost_to_go.specs.declared.search.CostToGo.{CostToGo}
@@ -21,13 +21,6 @@ use Rattle.prefix_plans.specs.Left.{PrefixEndsAtLeast, IsKnown}
 use Rattle.prefix_plans.specs.Reach.{IsLongerEnd}
 use Rattle.prefix_plans.specs.EndChildren.{IsEndEntry}
 use Rattle.prefix_plans.specs.declared.reach.Reached.{Reached}
-
--- nothing is left where the goal holds
-pub no_goal : (y : System) (s : State) (c : ℕ) → 0 < c → CostsAtLeast y s c → Decides false (IsTrue (y.goal s))
-no_goal y s c some least = ((λ e. absurd (not_true e)), (λ goal. absurd (let le = least [] s refl goal in omega (arith, some, le))))
-  where
-    not_true : false ≡ true → ⊥
-    not_true e = cc
 
 module _ {Set : Type 0} (v : View Set) (f : CostToGo Set) (ss : List State) (nodes : List Node) (i : ℕ)
     (z : IsTree v.system TopK ss nodes) (lt : i < length nodes) where

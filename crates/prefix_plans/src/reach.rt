@@ -1,23 +1,19 @@
 //! What is known of a state that a prefix may go on to.
 
-ghost use Rattle.std.specs.Prelude.{IsTrue, IfOk};
-ghost use Rattle.std.specs.Bool.{Decides};
+ghost use Rattle.std.specs.Prelude.{IfOk};
 ghost use Rattle.symk_task.specs.declared.parts.Mode.TheVariants.{TopK};
 ghost use Rattle.space_api.specs.View.{View};
-ghost use Rattle.space_api.specs.States.{IsReached};
 ghost use Rattle.prefix_tree.specs.StateGraph.{states_of, IsStateGraph, IsGraphMove};
 ghost use Rattle.prefix_tree.specs.Tree.{IsTree, path_at, end_at};
 ghost use Rattle.cost_to_go.specs.Standing.{IsCostToGo};
-ghost use Rattle.cost_to_go.specs.Telling.{CostsAtLeast};
 ghost use Rattle.prefix_plans.specs.EndChildren.{IsEndEntry};
 ghost use Rattle.prefix_plans.specs.Reach.{IsEndReach};
 
 use crate::left::{Heuristic, Left, left_after, left_from};
 use crate::ranks::Ranks;
-use prefix_tree::{Entry, Move, Node};
-use space_api::{Space, SpaceFault, goal_at};
+use prefix_tree::{Entry, Move, Node, goal_after};
+use space_api::{Space, SpaceFault};
 use std::alloc::Global;
-use symk_task::State;
 
 /// What is known of a state that a prefix may go on to.
 #[derive(Clone, Copy)]
@@ -26,23 +22,6 @@ pub(crate) struct Reached {
     pub(crate) cost: u128,
     pub(crate) left: Left,
     pub(crate) at_goal: bool,
-}
-
-/// Whether the goal holds in the state. It is looked at only where nothing may be left.
-fn goal_after<S: Space>(
-    alloc: Global,
-    space: &S,
-    state: &State,
-    left: Left,
-) -> Result<bool, SpaceFault>
-    requires reached { IsReached (S.view space.now).system state.now }
-    requires left { CostsAtLeast (S.view space.now).system state.now left.cost }
-    ensures { IfOk result (λ holds. Decides holds (IsTrue ((S.view space.now).system.goal state.now))) }
-{
-    if left.cost > 0 {
-        return Ok(false);
-    }
-    goal_at(alloc, space, state)
 }
 
 /// What is known of the state to which the move leads from the end of the entry's prefix; None where no plan goes on so.
@@ -69,7 +48,7 @@ pub(crate) fn reach<S: Space>(
     match left_from(heuristic, ranks, next, step.to, cost, 0, low) {
         None => Ok(None),
         Some(left) => {
-            let at_goal = goal_after(alloc, heuristic.space, next, left)?;
+            let at_goal = goal_after(alloc, heuristic.space, next, left.cost)?;
             Ok(Some(Reached {
                 cost,
                 left,

@@ -11,12 +11,14 @@
 //! state, on `indexmap` for states by number, and on std's binary heap.
 #![tactic(auto)]
 
+mod ends;
 mod entry;
 mod moves;
 mod queue;
 mod state_graph;
 mod tree;
 
+pub use ends::goal_after;
 pub use entry::Entry;
 pub use moves::{find_moves, number_of_start};
 pub use queue::Queue;

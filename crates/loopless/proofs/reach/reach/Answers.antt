@@ -24,13 +24,13 @@ left_from-requires-clause-low g c =
 
 pub goal_after-requires-clause-reached : goal.goal_after-requires-clause-reached
 goal_after-requires-clause-reached g c =
-    subst (IsReached (g.S.Space.view c.args.heuristic.now.space.now).system) (sym c.state.ensures)
+    subst (IsReached (g.S.Space.view c.args.heuristic.now.space.now).system) (sym c.state-next.ensures)
     (c.requires.informed.graph.reached c.args.step.to c.requires.step.within)
 
 pub goal_after-requires-clause-left : goal.goal_after-requires-clause-left
 goal_after-requires-clause-left g c =
     let left = rw c.in-Some.is at c.left_from.ensures.left in
-    subst (λ (s : State). RestCostsAtLeast (g.S.Space.view c.args.heuristic.now.space.now).system s c.in-Some.left.cost) (sym c.state.ensures) left.0
+    subst (λ (s : State). RestCostsAtLeast (g.S.Space.view c.args.heuristic.now.space.now).system s c.in-Some.left.cost) (sym c.state-next.ensures) left.0
 
 pub returns-in-None-clause-reach : goal.returns-in-None-clause-reach
 returns-in-None-clause-reach g c =
@@ -44,7 +44,7 @@ returns-in_ok-at_goal-in-Some-clause-reach g c =
     let ss = states_of c.args.heuristic.now.graph.now in
     let passed = c.passes.ensures y Loopless ss c.requires.tree c.requires.informed.graph.once c.requires.step.within in
     let left = rw c.in-Some.is at c.left_from.ensures.left in
-    let goal = subst (λ (s : State). Decides c.in_ok-at_goal-in-Some.at_goal (IsTrue (y.goal s))) c.state.ensures c.in_ok-at_goal-in-Some.ensures in
+    let goal = subst (λ (s : State). Decides c.in_ok-at_goal-in-Some.at_goal (IsTrue (y.goal s))) c.state-next.ensures c.in_ok-at_goal-in-Some.ensures in
     longer y ss c.args.tree.now c.args.node c.requires.tree c.requires.node c.args.step c.requires.step
     (c.requires.informed.graph.listed c.args.step.to c.requires.step.within) (λ l. valid_clash (passed.1 l) c.if-passes.false)
     (record { left = c.in-Some.left; at_goal = c.in_ok-at_goal-in-Some.at_goal }) left.0 left.1 goal

@@ -1,41 +1,28 @@
 -- An engine before its first call.
-use Rattle.std.proofs.Common.{◌≡◌, ℕ, ◌<◌, IsTrue, inl, List, [], ◌∷◌, length, Option, Some, None, refl, sym, ap, subst, arith}
+use Rattle.std.proofs.Common.{◌≡◌, ℕ, ◌<◌, IsTrue, inl, List, [], ◌∷◌, length, Option, Some, None, sym, subst, arith}
 use Rattle.std.specs.Bool.{Decides}
 use Rattle.std.specs.List.{AllByRecursion}
 use Rattle.std.specs.List.Sorted.{IsPermutation}
-use Rattle.std.proofs.lemmas.List.Sorted.{length_permutation, All-permutation}
-use Rattle.std.proofs.lemmas.List.Elements.{recursion_from_All, All-from_recursion}
-use Rattle.task_system.specs.System.{State, System, Listed, IsSystemPlan, IsSystemPlanOf, cost_in_system}
+use Rattle.task_system.specs.System.{System, IsSystemPlanOf, cost_in_system}
 use Rattle.symk_task.specs.declared.parts.Mode.TheVariants.{Loopless}
 use Rattle.space_api.specs.View.{View}
 use Rattle.lazy_plans.specs.Law.{Last}
 use Rattle.cost_search.specs.Directed.{Backward}
-use Rattle.lazy_plans.specs.Queue.{Good, Right, Pending}
-use Rattle.lazy_plans.proofs.Traces.{good_first, plan_by}
+use Rattle.lazy_plans.specs.Queue.{Right, Pending}
 use Rattle.lazy_plans.proofs.Turns.{first_right, first_pends}
 use Rattle.prefix_tree.specs.StateGraph.{states_of, numbered_state, IsStateGraph}
 use Rattle.loopless.specs.declared.front.Front.{Front}
 use Rattle.loopless.specs.Rests.{AreKeptRests}
-use Rattle.prefix_tree.specs.Tree.{IsTree, IsNode, path_at, state_number_at}
+use Rattle.prefix_tree.specs.Tree.{IsTree, path_at}
 use Rattle.prefix_tree.specs.declared.tree.Node.{Node}
 use Rattle.prefix_tree.specs.declared.entry.Entry.{Entry}
 use Rattle.prefix_tree.specs.Entries.{prefixes}
+use Rattle.prefix_tree.proofs.First.{only, first_path, first_prefixes, first_tree, first_plan}
 use Rattle.loopless.specs.Children.{IsEntry}
 use Rattle.loopless.specs.Front.{waiting, prefixes_of}
 use Rattle.loopless.specs.Standing.{IsAlone}
 use Rattle.lazy_plans.specs.PrefixesOwe.{OwesByPrefix}
 use Rattle.loopless.specs.Sound.{IsLooplessSound}
-
--- a permutation of one element is it
-only : (e : Entry) (es : List Entry) → IsPermutation (e ∷ []) es → es ≡ e ∷ []
-only e [] p = absurd (omega (arith, length_permutation (e ∷ []) [] p))
-only e (x ∷ []) p =
-    let one : AllByRecursion (λ (k : Entry). k ≡ e) (x ∷ []) =
-    recursion_from_All (λ (k : Entry). k ≡ e) (x ∷ [])
-    (All-permutation (λ (k : Entry). k ≡ e) (e ∷ []) (x ∷ []) p
-    (All-from_recursion (λ (k : Entry). k ≡ e) (e ∷ []) (refl, tt))) in
-    ap (λ (k : Entry). k ∷ []) one.0
-only e (x ∷ y ∷ es) p = absurd (omega (arith, length_permutation (e ∷ []) (x ∷ y ∷ es) p))
 
 -- the empty prefix alone may go on: its node is n, its entry e
 pub record Starts (y : System) (f : Front) (n : Node) (e : Entry) : Type 0 where
@@ -51,25 +38,11 @@ pub record Starts (y : System) (f : Front) (n : Node) (e : Entry) : Type 0 where
   pub goal : Decides e.at_goal (IsTrue (y.goal y.initial))
 
 module _ {Set : Type 0} (v : View Set) (b : Backward Set) (f : Front) (n : Node) (e : Entry) (alone : IsAlone v b) (s : Starts v.system f n e) where
-  good : Good v.system Loopless []
-  good = good_first v.system Loopless (subst (Listed v.system.states) s.starts (s.graph.listed n.state s.within))
-
-  first_path : (i : ℕ) → i ≡ 0 → path_at (n ∷ []) i ≡ []
-  first_path i z = ap (path_at (n ∷ [])) z
-
-  node : IsNode v.system Loopless (states_of f.graph) 0 [] n.state
-  node = record { good = good; within = s.within; runs = sym s.starts; deep = omega arith }
-
   tree : IsTree v.system Loopless (states_of f.graph) (n ∷ [])
-  tree = record {
-    some = omega arith;
-    linked = λ i d lt. inl (omega (arith, lt), first_path i (omega (arith, lt)));
-    each = λ i lt. let z : i ≡ 0 = omega (arith, lt) in
-        subst (λ (j : ℕ). IsNode v.system Loopless (states_of f.graph) j (path_at (n ∷ []) j) (state_number_at (n ∷ []) j)) (sym z) node;
-  }
+  tree = first_tree v.system Loopless f.graph n s.graph s.within s.starts
 
   path : path_at (n ∷ []) e.node ≡ []
-  path = first_path e.node s.place
+  path = first_path n e.node s.place
 
   entry : IsEntry v.system (n ∷ []) e
   entry = record {
@@ -79,16 +52,14 @@ module _ {Set : Type 0} (v : View Set) (b : Backward Set) (f : Front) (n : Node)
     least = omega (arith, s.cost);
     span = omega (arith, s.bound);
     bounds = λ p plan on. omega (arith, s.bound);
-    plan = subst (λ (p : List ℕ). Decides e.at_goal (IsSystemPlan v.system p)) (sym path) (plan_by v.system [] good.end good.runs e.at_goal
-        (subst (λ (t : State). Decides e.at_goal (IsTrue (v.system.goal t))) good.runs s.goal));
+    plan = first_plan v.system n e.node e.at_goal s.place s.goal;
   }
 
   single : waiting f ≡ e ∷ []
   single = only e (waiting f) s.put
 
   prefix : prefixes_of f ≡ [] ∷ []
-  prefix = subst (λ (nodes : List Node). prefixes nodes (waiting f) ≡ [] ∷ []) (sym s.tree)
-      (subst (λ (l : List Entry). prefixes (n ∷ []) l ≡ [] ∷ []) (sym single) (ap (λ (p : List ℕ). p ∷ []) path))
+  prefix = subst (λ (nodes : List Node). prefixes nodes (waiting f) ≡ [] ∷ []) (sym s.tree) (first_prefixes n e (waiting f) s.put s.place)
 
   begun_in : (most : Option ℕ) → IsLooplessSound v b f most None None
   begun_in most = record {

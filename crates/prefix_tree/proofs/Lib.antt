@@ -5,3 +5,4 @@ pub mod StateGraphs
 pub mod Replacing
 pub mod Entries
 pub mod Going
+pub mod First

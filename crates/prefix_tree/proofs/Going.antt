@@ -2,7 +2,7 @@
 use Rattle.std.proofs.Common.{◌≡◌, ℕ, ◌+◌, ◌-◌, ◌<◌, ◌≤◌, List, [], ◌∷◌, ◌++◌, length, get_or, slice_index_or, refl, sym, ◌∙◌, ap, subst, arith}
 use Rattle.std.specs.List.{Contains}
 use Rattle.std.proofs.lemmas.List.{length-map, get_or-map}
-use Rattle.space_api.proofs.Rising.{IsPast, past_gap}
+use Rattle.space_api.proofs.Rising.{IsPast, past_gap, past_next}
 use Rattle.symk_task.specs.declared.parts.Mode.{Mode}
 use Rattle.task_system.specs.System.{State, System, Listed, Leads, RunsInSystem}
 use Rattle.lazy_plans.specs.Queue.{IsAllowed, Good, Hopeless, ChildrenBelow}
@@ -23,6 +23,15 @@ ops_few moves i lt = omega (arith, lt, length-map moves (λ (z : Move). z.op))
 
 pub ops_many : (moves : List Move) (i : ℕ) → length moves ≤ i → length (move_operators moves) ≤ i
 ops_many moves i le = omega (arith, le, length-map moves (λ (z : Move). z.op))
+
+module _ (y : System) (ss : List State) (s : State) (moves : List Move) (all : AreGraphMoves y ss s moves) (i : ℕ) (lt : i < length moves) where
+  pub op_known : get_or (move_operators moves) i 0 < y.operators
+  op_known =
+      let d : Move = record { op = 0; to = 0 } in
+      subst (λ (k : ℕ). k < y.operators) (op_at moves d i lt) (all.each i d lt).leads.number
+
+  pub op_past : IsPast (move_operators moves) (i + 1) (get_or (move_operators moves) i 0 + 1)
+  op_past = past_next (move_operators moves) all.rising i (ops_few moves i lt)
 
 module _ (y : System) (m : Mode) (ss : List State) (nodes : List Node) (i : ℕ) (z : IsTree y m ss nodes) (lt : i < length nodes) where
   -- the state where the prefix ends

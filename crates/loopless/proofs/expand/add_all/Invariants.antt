@@ -1,10 +1,8 @@
-use Rattle.std.proofs.Common.{ℕ, ◌≤◌}
-use Rattle.space_api.proofs.Rising.{IsPast}
-use Rattle.prefix_tree.specs.StateGraph.{states_of, move_operators}
+use Rattle.prefix_tree.specs.StateGraph.{states_of}
 use Rattle.prefix_tree.specs.Tree.{GrowsTree, path_at}
 use Rattle.symk_task.specs.declared.parts.Mode.TheVariants.{Loopless}
-use Rattle.loopless.specs.Children.{AreChildren}
 use Rattle.loopless.specs.Told.{Informs}
+use Rattle.loopless.proofs.Skipping.{HasAdded}
 use Rattle.loopless.proofs.expand.add_all.Given as goal
 
 abbrev pub invariant-moves : goal.invariant-moves
@@ -14,6 +12,5 @@ invariant-moves g l =
     record {
       informed : Informs g.S.Space.view l.heuristic l.rests;
       grows : GrowsTree y Loopless (states_of l.heuristic.graph.now) a l.tree.items;
-      children : (m : ℕ) × IsPast (move_operators l.moves) l.step-index m × (m ≤ y.operators) ×
-          AreChildren y l.tree.items (path_at a l.entry.node) m l.children.items;
+      children : HasAdded y (path_at a l.entry.node) l.moves l.tree.items l.step-index l.children.items;
     }

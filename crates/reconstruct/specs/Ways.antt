@@ -1,7 +1,7 @@
 -- Where operators lead on from an entry.
-use Rattle.std.specs.Prelude.{◌≡◌, ℕ, ◌-◌, ◌≤◌, ◌⊎◌, ◌↔◌, IsFalse, List, Option, Some, None}
+use Rattle.std.specs.Prelude.{◌≡◌, ℕ, ◌-◌, ◌≤◌, ◌⊎◌, ◌↔◌, IsFalse, Option, Some, None}
 use Rattle.symk_task.specs.Variables.{IsState}
-use Rattle.task_system.specs.System.{State, Leads, RunsInSystem}
+use Rattle.task_system.specs.System.{State, Leads}
 use Rattle.space_api.specs.View.{View, Valid, Has}
 use Rattle.space_api.specs.Frames.{Stays}
 use Rattle.cost_layers.specs.Layers.{union_at, Stands as StandsIn}
@@ -59,12 +59,3 @@ FoundBefore v w e op within (Some a) = IsChildSet v w e op within a
 abbrev pub LandsIn : {Set : Type 0} → View Set → State → ℕ → Set → Option State → Type 0
 LandsIn v s op within None = (t : State) → Leads v.system op s t → ¬ Has v within t
 LandsIn v s op within (Some t) = IsState v.task t × Leads v.system op s t × Has v within t
-
--- operators lead from the initial state to s
-abbrev pub IsReachedInView : {Set : Type 0} → View Set → State → Type 0
-IsReachedInView v s = (ops : List ℕ) × RunsInSystem v.system v.system.initial ops s
-
--- the state to which the operator leads from s, or None where it doesn't apply
-abbrev pub LeadsToOrNone : {Set : Type 0} → View Set → ℕ → State → Option State → Type 0
-LeadsToOrNone v op s None = (t : State) → ¬ Leads v.system op s t
-LeadsToOrNone v op s (Some t) = IsState v.task t × Leads v.system op s t

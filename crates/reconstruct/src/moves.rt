@@ -31,14 +31,14 @@ pub(crate) struct Successors {
 ghost use Rattle.std.specs.Prelude.{◌≡◌, ◌<◌, ◌↔◌, ◌++◌, IsTrue, IfOk, OnOk, option_to_list};
 ghost use Rattle.task_run.specs.Values.{Valued};
 ghost use Rattle.space_api.specs.View.{View, Valid};
+ghost use Rattle.space_api.specs.States.{IsReached};
 ghost use Rattle.cost_layers.specs.Layers.{Held};
-ghost use Rattle.reconstruct.specs.Ways.{IsReachedInView, IsWay, LandsIn};
+ghost use Rattle.reconstruct.specs.Ways.{IsWay, LandsIn};
 ghost use Rattle.reconstruct.specs.Moves.{FoundMove, AreMoves, IsEnd, AreSuccessors};
 
-use crate::states::{is_goal, next_state, values_of};
 use crate::ways::{Way, first_ring, way_after, way_for};
 use cost_layers::Layers;
-use space_api::{Space, SpaceFault};
+use space_api::{Space, SpaceFault, is_goal, next_state, values_of};
 use std::alloc::Global;
 
 /// The state to which the operator leads. None where it doesn't lead into the layer.
@@ -49,7 +49,7 @@ fn state_after<S: Space>(
     op: u32,
     within: S::Set,
 ) -> Result<Option<State>, SpaceFault>
-    requires state { IsReachedInView (S.view space.now) node.state.now }
+    requires state { IsReached (S.view space.now).system node.state.now }
     requires valued { Valued (S.view space.now).task node.state.now node.values.now }
     requires within { Valid (S.view space.now) within }
     requires op { op < (S.view space.now).system.operators }
@@ -77,7 +77,7 @@ fn move_by<S: Space>(
     op: u32,
 ) -> Result<Option<Move>, SpaceFault>
     requires back { Held (S.view space.now) back.now }
-    requires state { IsReachedInView (S.view space.now) node.state.now }
+    requires state { IsReached (S.view space.now).system node.state.now }
     requires valued { Valued (S.view space.now).task node.state.now node.values.now }
     requires op { op < (S.view space.now).system.operators }
     requires cost { way.cost ≡ (S.view space.now).system.cost op }
@@ -120,7 +120,7 @@ fn moves_from<S: Space>(
     node: Node<'_>,
 ) -> Result<Vec<Move>, SpaceFault>
     requires back { Held (S.view space.now) back.now }
-    requires state { IsReachedInView (S.view space.now) node.state.now }
+    requires state { IsReached (S.view space.now).system node.state.now }
     requires valued { Valued (S.view space.now).task node.state.now node.values.now }
     ensures { IfOk result (λ moves. AreMoves (S.view space.now) back.now node.entry.cost node.entry.state.now moves.items) }
 {
@@ -151,7 +151,7 @@ pub(crate) fn successors_of<S: Space>(
     state: &State,
 ) -> Result<Successors, SpaceFault>
     requires back { Held (S.view space.now) back.now }
-    requires state { IsReachedInView (S.view space.now) state.now }
+    requires state { IsReached (S.view space.now).system state.now }
     ensures { IfOk result (λ all. AreSuccessors (S.view space.now) back.now cost state.now all.moves.items all.ends) }
 {
     let values = values_of(alloc, space, state)?;

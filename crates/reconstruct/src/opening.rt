@@ -7,11 +7,10 @@ ghost use Rattle.cost_layers.specs.Layers.{Held};
 ghost use Rattle.reconstruct.specs.Opened.{IsDrawable, OpensCross, OpenedEntry, OpenedWhole, OpenedCross};
 
 use crate::entries::{Entry, Prefix, Suffix};
-use crate::states::start;
 use crate::ways::{first_ring, least_ring};
 use cost_layers::Layers;
 use plan_cuts::Cut;
-use space_api::{Space, SpaceFault};
+use space_api::{Space, SpaceFault, start};
 use std::alloc::{AllocError, Global};
 
 /// The entry of plans that are not cut: the suffix of this cost from the initial state on.

@@ -24,11 +24,11 @@ ghost use Rattle.reconstruct.specs.Turned.{IsDone, IsWholePrefix, Begun, BeginsT
 use crate::expand::expand;
 use crate::expansions::Expansions;
 use crate::queue::Queue;
-use crate::states::{is_goal, reached, values_of};
+use crate::states::reached;
 use crate::ways::first_ring;
 use cost_layers::Layers;
 use lazy_plans::Steps;
-use space_api::{Space, SpaceFault};
+use space_api::{Space, SpaceFault, goal_at};
 use std::alloc::{AllocError, Global};
 use std::sync::ledger::Ledger;
 
@@ -48,10 +48,7 @@ fn ends<S: Space>(
     }
     match memo.ends_of(suffix.cost, &suffix.state) {
         Some(ends) => Ok(ends),
-        None => {
-            let values = values_of(alloc, space, &suffix.state)?;
-            Ok(is_goal(space, &suffix.state, &values))
-        }
+        None => goal_at(alloc, space, &suffix.state),
     }
 }
 

@@ -1,40 +1,36 @@
 -- Whether a list pends is computed.
-use Rattle.std.proofs.Common.{◌≡◌, ℕ, Bool, true, not, nat_lt, ◌⊎◌, inl, inr, List, [], ◌∷◌, Option, Some, None, refl, sym, subst}
+use Rattle.std.proofs.Common.{◌≡◌, ℕ, Bool, true, not, ◌⊎◌, inl, inr, List, [], ◌∷◌, refl, sym, subst}
 use Rattle.std.specs.Bool.{Decides}
-use Rattle.std.proofs.lemmas.Bool.Decides.{Decides-and, Decides-or, Decides-not, Decides-ltb, Decides-like}
+use Rattle.std.proofs.lemmas.Bool.Decides.{Decides-and, Decides-or, Decides-not, Decides-like}
 use Rattle.symk_task.specs.declared.parts.Mode.TheVariants.{TopK, Unordered}
 use Rattle.task_system.specs.System.{State, System, RunsInSystem, are_equal, same}
 use Rattle.task_system.proofs.SameLaw.{same_law}
-use Rattle.lazy_plans.specs.Told.{on_step, is_plan_in}
+use Rattle.lazy_plans.specs.Told.{is_plan_in}
 use Rattle.lazy_plans.proofs.Told.{equal_is, equal_self, in_told}
 use Rattle.member_laws.specs.Nodes.{JoinsAtNode, IsJoinedAtNode, PendsNode}
-use Rattle.member_laws.specs.Told.{leads_to, joins, is_joined, pends_node}
+use Rattle.member_laws.specs.Told.{system_between, leads_to, joins, is_joined, pends_node}
 
 equal_told : (p q : List ℕ) → Decides (are_equal p q) (p ≡ q)
 equal_told p q = (equal_is p q, λ e. subst (λ (z : List ℕ). are_equal p z ≡ true) e (equal_self p))
 
-some_is : (a b : State) → Some a ≡ Some b → a ≡ b
-some_is a b e = cc
+-- the runs of the one are those of the other
+module _ (y : System) (s : State) (test : State → Bool) where
+  runs_back : (p : List ℕ) (m t : State) → RunsInSystem (system_between y s test) m p t → RunsInSystem y m p t
+  runs_back [] m t e = e
+  runs_back (op ∷ p) m t (n, leads, rest) = (n, record { number = leads.number; step = leads.step }, runs_back p n t rest)
 
-none_some : (a : State) → None ≡ Some a → ⊥
-none_some a e = cc
-
-step_told : (o : Option State) (f : State → Bool) (P : State → Type 0) → ((t : State) → Decides (f t) (P t))
-    → Decides (on_step o f) ((t : State) × (o ≡ Some t) × P t)
-step_told None f P d = ((λ e. cc), (λ h. absurd (none_some h.0 h.1)))
-step_told (Some t) f P d = ((λ e. (t, refl, (d t).0 e)), (λ h. (d t).1 (subst P (sym (some_is t h.0 h.1)) h.2)))
+  runs_there : (p : List ℕ) (m t : State) → RunsInSystem y m p t → RunsInSystem (system_between y s test) m p t
+  runs_there [] m t e = e
+  runs_there (op ∷ p) m t (n, leads, rest) = (n, record { number = leads.number; step = leads.step }, runs_there p n t rest)
 
 -- the operators lead to a state of which P holds
 leads_told : (y : System) (p : List ℕ) (test : State → Bool) (P : State → Type 0)
     → ((t : State) → Decides (test t) (P t)) → (s : State)
     → Decides (leads_to y s p test) ((t : State) × RunsInSystem y s p t × P t)
-leads_told y [] test P d s = ((λ e. (s, refl, (d s).0 e)), (λ h. (d s).1 (subst P (sym h.1) h.2)))
-leads_told y (op ∷ p) test P d s =
-    let next = step_told (y.step op s) (λ t. leads_to y t p test) (λ m. (t : State) × RunsInSystem y m p t × P t) (leads_told y p test P d) in
-    Decides-like (leads_to y s (op ∷ p) test)
-    (λ h. (h.1.2.0, (h.1.0, record { number = h.0; step = h.1.1 }, h.1.2.1), h.1.2.2))
-    (λ h. (h.1.1.number, (h.1.0, h.1.1.step, (h.0, h.1.2, h.2))))
-    (Decides-and (nat_lt op y.operators) (on_step (y.step op s) (λ t. leads_to y t p test)) (Decides-ltb op y.operators) next)
+leads_told y p test P d s = Decides-like (leads_to y s p test)
+    (λ h. (h.0, runs_back y s test p s h.0 h.1, (d h.0).0 h.2))
+    (λ h. (h.0, runs_there y s test p s h.0 h.1, (d h.0).1 h.2))
+    (in_told (system_between y s test) TopK p)
 
 module _ (y : System) where
   joins_told : (x z : List ℕ) → Decides (joins y x z) (JoinsAtNode y x z)

@@ -1,13 +1,16 @@
 -- Whether a list of operators pends, computed.
-use Rattle.std.specs.Prelude.{ℕ, Bool, false, ◌&&◌, ◌||◌, not, nat_lt, List, [], ◌∷◌}
+use Rattle.std.specs.Prelude.{ℕ, Bool, false, ◌&&◌, ◌||◌, not, List, [], ◌∷◌}
 use Rattle.symk_task.specs.declared.parts.Mode.TheVariants.{TopK, Unordered}
 use Rattle.task_system.specs.System.{State, System, are_equal, same}
-use Rattle.lazy_plans.specs.Told.{on_step, is_plan_in}
+use Rattle.lazy_plans.specs.Told.{is_plan_in}
+
+-- the system whose runs begin at s, and whose goal states are those of which the test holds
+abbrev pub system_between : System → State → (State → Bool) → System
+system_between y s test = record { initial = s; step = y.step; goal = test; cost = y.cost; operators = y.operators; states = y.states }
 
 -- whether the operators lead from s to a state of which the test holds
 abbrev pub leads_to : System → State → List ℕ → (State → Bool) → Bool
-leads_to y s [] test = test s
-leads_to y s (op ∷ p) test = nat_lt op y.operators && on_step (y.step op s) (λ t. leads_to y t p test)
+leads_to y s p test = is_plan_in (system_between y s test) TopK p
 
 -- whether two lists join
 abbrev pub joins : System → List ℕ → List ℕ → Bool

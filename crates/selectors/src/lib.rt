@@ -3,7 +3,7 @@
 //! `Unordered` gives the first plan of each class of rearrangements, and `After` the plans that an earlier list lacks;
 //! both keep the law of an engine, so what is proved of lists of plans given holds of theirs. `Limited` is an iterator
 //! over the first plans of an engine, which asks nothing after the last that is wanted. For other selectors `Keys` and
-//! `note_class` tell which classes were met, and `lasting` which answer is repeated.
+//! `note_class` tell which classes were met.
 //!
 //! An engine that leaves out plans, as one that goes on by stubborn sets does, keeps no law of all plans. `LazyMembers`
 //! is the law that it can keep: of each class of rearrangements, but for those that it gave, a member pends. From it

@@ -9,7 +9,6 @@ mod engine;
 
 use crate::keys::{Keys, note_class};
 pub use engine::Unordered;
-pub(crate) use engine::lasting;
 use lazy_plans::{LazyPlans, Steps, Stop};
 use std::alloc::Global;
 use std::sync::ledger::Ledger;

@@ -9,8 +9,7 @@ ghost use Rattle.selectors.specs.Left.{Left, is_left, Sorting, fair_left, told_l
 use crate::classes::draw;
 use crate::keys::Keys;
 use crate::members::LazyMembers;
-use crate::unordered::lasting;
-use lazy_plans::{LazyPlans, Steps, Stop};
+use lazy_plans::{Ending, LazyPlans, Steps, Stop};
 use std::alloc::Global;
 use std::sync::ledger::Ledger;
 use symk_task::Plan;
@@ -25,7 +24,7 @@ use symk_task::Plan;
 pub struct Classes<I> {
     inner: I,
     seen: Keys,
-    last: Option<Option<Stop>>,
+    last: Option<Ending>,
 }
 
 impl<I: LazyMembers> Classes<I> {
@@ -69,13 +68,11 @@ impl<I: LazyMembers> LazyPlans for Classes<I> {
         alloc: Global,
         steps: &mut Steps<L>,
     ) -> Result<Option<Plan>, Stop> {
-        match self.last {
-            Some(None) => return Ok(None),
-            Some(Some(stop)) => return Err(stop),
-            None => {}
+        if let Some(ending) = self.last {
+            return ending.answer();
         }
         let given = draw(alloc, &mut self.inner, &mut self.seen, steps);
-        self.last = lasting(&given);
+        self.last = Ending::of(&given);
         given
     }
 

@@ -2,13 +2,12 @@
 
 ghost use Rattle.std.specs.Prelude.{◌≡◌, ◌↔◌, ℕ, List, Option, Some, None, IfOk};
 ghost use Rattle.symk_task.specs.declared.parts.Mode.TheVariants.{TopK, Unordered as unordered};
-ghost use Rattle.lazy_plans.specs.Law.{last_of};
 ghost use Rattle.lazy_plans.specs.SelectorsOwe.{Owes, owes, Standing};
 ghost use Rattle.lazy_plans.proofs.Draws.{fair_owes, told_owes};
 
 use crate::keys::Keys;
 use crate::unordered::draw;
-use lazy_plans::{LazyPlans, Steps, Stop};
+use lazy_plans::{Ending, LazyPlans, Steps, Stop};
 use std::alloc::Global;
 use std::sync::ledger::Ledger;
 use symk_task::{Memory, Plan};
@@ -22,7 +21,7 @@ pub struct Unordered<I> {
     inner: I,
     seen: Keys,
     held: Option<Plan>,
-    last: Option<Option<Stop>>,
+    last: Option<Ending>,
 }
 
 impl<I: LazyPlans> Unordered<I> {
@@ -43,17 +42,6 @@ impl<I: LazyPlans> Unordered<I> {
             held: None,
             last: None,
         })
-    }
-}
-
-/// What every later call of an engine repeats that gave this answer.
-pub(crate) fn lasting(given: &Result<Option<Plan>, Stop>) -> Option<Option<Stop>>
-    ensures { result ≡ last_of given.now }
-{
-    match given {
-        Ok(Some(_)) => None,
-        Ok(None) => Some(None),
-        Err(stop) => Some(Some(*stop)),
     }
 }
 
@@ -78,10 +66,8 @@ impl<I: LazyPlans> LazyPlans for Unordered<I> {
         alloc: Global,
         steps: &mut Steps<L>,
     ) -> Result<Option<Plan>, Stop> {
-        match self.last {
-            Some(None) => return Ok(None),
-            Some(Some(stop)) => return Err(stop),
-            None => {}
+        if let Some(ending) = self.last {
+            return ending.answer();
         }
         let given = draw(
             alloc,
@@ -90,7 +76,7 @@ impl<I: LazyPlans> LazyPlans for Unordered<I> {
             &mut self.held,
             steps,
         );
-        self.last = lasting(&given);
+        self.last = Ending::of(&given);
         given
     }
 

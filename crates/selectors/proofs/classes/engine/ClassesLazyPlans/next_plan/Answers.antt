@@ -5,7 +5,7 @@ use Rattle.selectors.proofs.classes.engine.ClassesLazyPlans.next_plan.Goals as g
 pub returns-clause-lawful : goal.returns-clause-lawful
 returns-clause-lawful g c =
     let e = c.draw-given.ensures in
-    rw (e.system, e.most, c.lasting-self.ensures) (record {
+    rw (e.system, e.most, c.of-self.ensures) (record {
       lawful = e.lawful;
       keyed = e.seen;
       covers = e.covers;

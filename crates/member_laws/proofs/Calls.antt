@@ -1,9 +1,10 @@
 -- Calls of several turns, refused, and given again.
-use Rattle.std.proofs.Common.{ℕ, List, Option, Some, None, Result, Ok, Err, refl}
+use Rattle.std.proofs.Common.{◌≡◌, ℕ, List, Option, Some, None, Result, Ok, Err, refl, sym, subst}
 use Rattle.task_system.specs.System.{System}
 use Rattle.lazy_plans.specs.Law.{PendsAlike, MayStop, NoneLeft, Ended, last_of}
 use Rattle.lazy_plans.specs.declared.stop.Stop.{Stop}
 use Rattle.lazy_plans.specs.declared.stop.Stop.TheVariants.{Memory, CostRange}
+use Rattle.lazy_plans.specs.declared.stop.Ending.{Ending}
 use Rattle.selectors.specs.Members.{GaveMember, KeepsMembers, TurnedMembers}
 use Rattle.member_laws.specs.Nodes.{PendsNode}
 
@@ -53,12 +54,15 @@ ended_by y most a b (Ok (Some p)) g = tt
 ended_by y most a b (Ok None) h = none_after y most a b h.1 h.0
 ended_by y most a b (Err stop) h = stops_after y most a b stop h.1 h.0
 
--- the answer that ended it may be given again
-pub again_none : (y : System) (most : Option ℕ) (a : List ℕ → Type 0) → Ended y most a (Some None) → TurnedMembers y most a a (Ok None)
-again_none y most a h = (h, keeps_self a)
+none_some : (e : Ending) → None ≡ Some e → ⊥
+none_some e is = cc
 
-pub again_stop : (y : System) (most : Option ℕ) (a : List ℕ → Type 0) (stop : Stop) → Ended y most a (Some (Some stop)) → TurnedMembers y most a a (Err stop)
-again_stop y most a stop h = (h, keeps_self a)
+-- the answer that ended it may be given again
+pub again : (y : System) (most : Option ℕ) (a : List ℕ → Type 0) (r : Result (Option (List ℕ)) Stop) (e : Ending)
+    → last_of r ≡ Some e → Ended y most a (Some e) → TurnedMembers y most a a r
+again y most a (Ok (Some p)) e is h = absurd (none_some e is)
+again y most a (Ok None) e is h = (subst (Ended y most a) (sym is) h, keeps_self a)
+again y most a (Err s) e is h = (subst (Ended y most a) (sym is) h, keeps_self a)
 
 -- out of memory says nothing of what pends
 memory_stops : (y : System) (most : Option ℕ) (before : List ℕ → Type 0) → MayStop y most before Memory

@@ -1,5 +1,5 @@
 -- The laws of prefixes that are opened once for each node.
-use Rattle.std.specs.Prelude.{ℕ, ◌<◌, ◌≤◌, IsTrue, List, [], ◌∷◌, ◌++◌, Option, Some, None, Result, Ok, Err}
+use Rattle.std.specs.Prelude.{◌≡◌, ℕ, ◌<◌, ◌≤◌, IsTrue, List, [], ◌∷◌, ◌++◌, Option, Some, None, Result, Ok, Err}
 use Rattle.std.specs.Bool.{Decides}
 use Rattle.std.specs.List.{AllByRecursion}
 use Rattle.symk_task.specs.declared.parts.Mode.TheVariants.{TopK}
@@ -8,6 +8,7 @@ use Rattle.space_api.specs.Listing.{ListsReached}
 use Rattle.lazy_plans.specs.Law.{PendsAlike, MayStop, NoneLeft, Ended, last_of, top}
 use Rattle.lazy_plans.specs.declared.stop.Stop.{Stop}
 use Rattle.lazy_plans.specs.declared.stop.Stop.TheVariants.{Memory, CostRange}
+use Rattle.lazy_plans.specs.declared.stop.Ending.{Ending}
 use Rattle.lazy_plans.specs.Queue.{prefix, Bounds, Hopeless, Replaced}
 use Rattle.selectors.specs.Members.{GaveMember, TurnedMembers, ArePlans}
 use Rattle.member_laws.specs.Nodes.{IsJoinedAtNode, CoversOpened, PendsNode, GoesOnToJoin}
@@ -104,6 +105,5 @@ abbrev pub EndingsStand : Type 0
 EndingsStand = (y : System) (most : Option ℕ) (first now : List (List ℕ))
     → ((result : Result (Option (List ℕ)) Stop) → TurnedMembers y most (PendsNode y first) (PendsNode y now) result
     → Ended y most (PendsNode y now) (last_of result))
-    × (Ended y most (PendsNode y now) (Some None) → TurnedMembers y most (PendsNode y now) (PendsNode y now) (Ok None))
-    × ((stop : Stop) → Ended y most (PendsNode y now) (Some (Some stop))
-    → TurnedMembers y most (PendsNode y now) (PendsNode y now) (Err stop))
+    × ((result : Result (Option (List ℕ)) Stop) (ending : Ending) → last_of result ≡ Some ending
+    → Ended y most (PendsNode y now) (Some ending) → TurnedMembers y most (PendsNode y now) (PendsNode y now) result)

@@ -11,6 +11,7 @@ use Rattle.task_system.specs.System.{IsSystemPlan, IsSystemPlanOf, same}
 use Rattle.lazy_plans.specs.Law.{Fair, Last}
 use Rattle.lazy_plans.specs.declared.stop.Stop.{Stop}
 use Rattle.lazy_plans.specs.declared.stop.Stop.TheVariants.{Memory, CostRange}
+use Rattle.lazy_plans.specs.declared.stop.Ending.TheVariants.{StoppedBy}
 use Rattle.lazy_plans.specs.Told.{is_plan_in}
 use Rattle.lazy_plans.proofs.Told.{in_told}
 use Rattle.lazy_plans.specs.SelectorsOwe.{Unlisted, is_unlisted}
@@ -43,7 +44,7 @@ pub record TookFirst (left later given more : List (List ℕ)) (p : List ℕ) : 
 
 -- once it stopped it answers so again
 abbrev pub last_by : Bool → Last
-last_by true = Some (Some Memory)
+last_by true = Some (StoppedBy Memory)
 last_by false = None
 
 -- what a call answers: one of those that are left, or out of memory, from which on nothing changes

@@ -6,7 +6,7 @@ ghost use Rattle.scripted_plans.specs.Free.{free, is_one_of, IsOneOf, IsScript};
 ghost use Rattle.scripted_plans.specs.Scripted.{fair_script, told_script};
 
 use indexmap::IndexSet;
-use lazy_plans::{LazyPlans, Steps, Stop};
+use lazy_plans::{Ending, LazyPlans, Steps, Stop};
 use std::alloc::Global;
 use std::sync::ledger::Ledger;
 use symk_task::{Memory, Plan};
@@ -19,7 +19,7 @@ pub struct Script {
     refused: Option<u64>,
     /// How many calls there were.
     calls: u64,
-    last: Option<Option<Stop>>,
+    last: Option<Ending>,
 }
 
 impl Script {
@@ -71,21 +71,19 @@ impl LazyPlans for Script {
         _alloc: Global,
         steps: &mut Steps<L>,
     ) -> Result<Option<Plan>, Stop> {
-        match self.last {
-            Some(None) => return Ok(None),
-            Some(Some(stop)) => return Err(stop),
-            None => {}
+        if let Some(ending) = self.last {
+            return ending.answer();
         }
         steps.tick();
         self.calls = self.calls.saturating_add(1);
         if self.refused == Some(self.calls) {
-            self.last = Some(Some(Stop::Memory));
+            self.last = Some(Ending::StoppedBy(Stop::Memory));
             return Err(Stop::Memory);
         }
         match self.plans.shift_remove_index(0) {
             Some(plan) => Ok(Some(plan)),
             None => {
-                self.last = Some(None);
+                self.last = Some(Ending::Exhausted);
                 Ok(None)
             }
         }

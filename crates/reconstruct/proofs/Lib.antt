@@ -6,7 +6,6 @@ pub mod Goes
 pub mod AgendaMoves
 pub mod Walked
 pub mod Tidying
-pub mod Pends
 pub mod Asks
 pub mod Sets
 pub mod Joining

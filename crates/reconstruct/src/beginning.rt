@@ -11,6 +11,7 @@ use crate::expansions::Expansions;
 use crate::next_plan::Agenda;
 use crate::queue::Queue;
 use bidirectional::{Both, Choose};
+use lazy_plans::Shell;
 use space_api::Space;
 use std::alloc::Global;
 use symk_task::Memory;
@@ -48,15 +49,13 @@ fn begin<S: Space + Drop, P: Choose + Drop>(
     Ok(TopPlans {
         space,
         both,
-        most,
         within,
         agenda: Agenda {
             listed: None,
             queue: Queue::new(alloc),
             memo: Expansions::new(alloc),
         },
-        held: None,
-        ended: None,
+        shell: Shell::new(most),
     })
 }
 

@@ -2,25 +2,19 @@
 
 use crate::next_plan::Agenda;
 use bidirectional::{Both, Choose};
-use lazy_plans::{LazyPlans, Steps, Stop};
+use lazy_plans::{LazyPlans, Shell, Steps, Stop};
 use space_api::Space;
-use std::alloc::Global;
-use symk_task::Plan;
 
 /// All plans of a task, the cheapest first, by a search from both ends. It owns its space.
 #[derive(Drop)]
 pub struct TopPlans<S: Space, P: Choose> {
     pub(crate) space: S,
     pub(crate) both: Both<S::Set, P>,
-    /// The greatest cost that is wanted.
-    pub(crate) most: Option<u64>,
     /// The set to which the backward side was kept at first, where one was handed over.
     pub(crate) within: Option<S::Set>,
     pub(crate) agenda: Agenda<S::Set>,
-    /// A plan that was found when the space could not be tidied.
-    pub(crate) held: Option<Plan>,
-    /// The answer that ended it: no plan is left, or why it stopped.
-    pub(crate) ended: Option<Option<Stop>>,
+    /// What hands out the plans that were found.
+    pub(crate) shell: Shell,
 }
 
 ghost use Rattle.std.specs.Prelude.{◌≡◌, ◌≢◌, None, IfOk};
@@ -32,7 +26,9 @@ ghost use Rattle.reconstruct.specs.Engine.{cut_system, most_of, ended_by, Pends,
 ghost use Rattle.reconstruct.specs.Laws.{engine_fair, engine_told};
 
 use crate::next_plan::give;
+use std::alloc::Global;
 use std::sync::ledger::Ledger;
+use symk_task::Plan;
 
 impl<S: Space, P: Choose> TopPlans<S, P> {
     /// Asks for the next plan, and tidies the space before it is handed out. Where that is refused the plan is held,
@@ -48,28 +44,15 @@ impl<S: Space, P: Choose> TopPlans<S, P> {
             alloc,
             &mut self.space,
             &mut self.both,
-            self.most,
+            self.shell.most(),
             &mut self.agenda,
             steps,
         ) {
-            Err(stop) => {
-                self.ended = Some(Some(stop));
-                Err(stop)
+            Err(stop) => self.shell.stop(stop),
+            Ok(found) => {
+                let tidied = self.space.tidy().is_ok();
+                self.shell.hand_out(found, tidied)
             }
-            Ok(found) => match self.space.tidy() {
-                Err(_) => {
-                    self.held = found;
-                    self.ended = Some(Some(Stop::Memory));
-                    Err(Stop::Memory)
-                }
-                Ok(()) => match found {
-                    None => {
-                        self.ended = Some(None);
-                        Ok(None)
-                    }
-                    Some(plan) => Ok(Some(plan)),
-                },
-            },
         }
     }
 }
@@ -110,10 +93,9 @@ impl<S: Space, P: Choose> LazyPlans for TopPlans<S, P> {
         ensures keeps { KeepsAll S.view self.new }
         ensures tidy { IfOk result (λ o. HasCutRoom S.view self.new) }
     {
-        match self.ended {
+        match self.shell.ended() {
             None => self.ask(alloc, steps),
-            Some(None) => Ok(None),
-            Some(Some(stop)) => Err(stop),
+            Some(ending) => ending.answer(),
         }
     }
 

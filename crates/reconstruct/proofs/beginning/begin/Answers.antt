@@ -1,8 +1,8 @@
 use Rattle.std.proofs.Common.{refl, None}
 use Rattle.bidirectional.specs.Both.{back_layers}
 use Rattle.reconstruct.specs.declared.next_plan.Agenda.{Agenda}
-use Rattle.reconstruct.proofs.Asks.{engine_begins}
-use Rattle.reconstruct.proofs.Pends.{pends_all}
+use Rattle.lazy_plans.specs.Shell.{shell_held}
+use Rattle.reconstruct.proofs.Asks.{engine_begins, pends_all}
 use Rattle.reconstruct.proofs.beginning.begin.Goals as goal
 
 pub returns : goal.returns
@@ -14,9 +14,9 @@ returns g c =
     let t = c.in_ok-both.ensures.trades in
     let agenda : Agenda _ = record { listed = None; queue = c.new.result; memo = c.new-2.result } in
     record {
-      lawful = engine_begins {u = u} {v = v} agenda c.requires t c.in_ok-both.ensures.both refl c.new.ensures c.new-2.ensures;
+      lawful = engine_begins {u = u} {v = v} agenda c.requires t c.in_ok-both.ensures.both refl c.new.ensures c.new-2.ensures c.new-3.ensures;
       system = t.system;
-      most_is = refl;
-      all = pends_all u v (back_layers both) agenda refl t.system;
-      goes_on = refl;
+      most_is = c.new-3.ensures.wanted;
+      all = pends_all u v (back_layers both) agenda.queue (shell_held c.new-3.result) c.new-3.ensures.free t.system;
+      goes_on = c.new-3.ensures.goes_on;
     }

@@ -1,6 +1,6 @@
 use Rattle.std.proofs.Common.{arith, inl, inr, Some}
 use Rattle.space_api.proofs.Trading.{trades_beside}
-use Rattle.reconstruct.proofs.Pends.{memory_stops}
+use Rattle.lazy_plans.proofs.Shells.{memory_stops}
 use Rattle.bidirectional.specs.Both.{IsBeneath, IsOwnOf, front_layers, back_layers}
 use Rattle.reconstruct.specs.Working.{OwesByCuts}
 use Rattle.plan_cuts.specs.Drawing.{undrawn}

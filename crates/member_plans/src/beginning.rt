@@ -17,6 +17,7 @@ use crate::given::Given;
 use crate::moves::Moves;
 use crate::opened::Opened;
 use cost_to_go::CostToGo;
+use lazy_plans::Shell;
 use prefix_plans::Ranks;
 use prefix_tree::{Entry, Node, Queue, StateGraph, number_of_start};
 use space_api::{Space, goal_at};
@@ -100,8 +101,7 @@ impl<'a, S: Space + Drop> MemberPlans<'a, S> {
             search,
             within,
             front,
-            most,
-            ended: None,
+            shell: Shell::new(most),
         })
     }
 

@@ -2,7 +2,7 @@
 
 use crate::front::Front;
 use cost_to_go::CostToGo;
-use lazy_plans::{Steps, Stop};
+use lazy_plans::{Shell, Steps, Stop};
 use space_api::Space;
 
 /// Of each class of rearrangements one plan at least, the cheapest first. It owns its space, of the task that it borrows.
@@ -15,10 +15,8 @@ pub struct MemberPlans<'a, S: Space> {
     pub(crate) within: S::Set,
     /// Prefixes, those that wait, and those that were opened.
     pub(crate) front: Front<'a>,
-    /// The greatest cost that is wanted, if there is one.
-    pub(crate) most: Option<u64>,
-    /// The answer that ended it: no plan is left, or why it stopped.
-    pub(crate) ended: Option<Option<Stop>>,
+    /// What hands out the plans that were given. It holds none, since the space is tidied before a plan is given.
+    pub(crate) shell: Shell,
 }
 
 ghost use Rattle.std.specs.Prelude.{◌≡◌, ◌≢◌, None, IfOk};
@@ -44,43 +42,32 @@ impl<'a, S: Space> MemberPlans<'a, S> {
         ensures answers { AnswersByMember S.view self.old self.new result }
         ensures most { member_most self.new ≡ member_most self.old }
     {
+        let most = self.shell.most();
         match walk(
             alloc,
             &mut self.space,
             &mut self.search,
             self.within,
-            self.most,
+            most,
             &mut self.front,
             steps,
         ) {
-            Err(stop) => {
-                self.ended = Some(Some(stop));
-                Err(stop)
-            }
-            Ok(found) => match self.space.tidy() {
-                Err(_) => {
-                    self.ended = Some(Some(Stop::Memory));
-                    Err(Stop::Memory)
-                }
-                Ok(()) => match found {
-                    None => {
-                        self.ended = Some(None);
-                        Ok(None)
-                    }
+            Err(stop) => self.shell.stop(stop),
+            Ok(due) => match self.space.tidy() {
+                Err(_) => self.shell.stop(Stop::Memory),
+                Ok(()) => match due {
+                    None => self.shell.hand_out(None, true),
                     Some(entry) => match give(
                         alloc,
                         &self.space,
                         &self.search,
-                        self.most,
+                        most,
                         &mut self.front,
                         entry,
                         steps,
                     ) {
-                        Err(_) => {
-                            self.ended = Some(Some(Stop::Memory));
-                            Err(Stop::Memory)
-                        }
-                        Ok(plan) => Ok(Some(plan)),
+                        Err(_) => self.shell.stop(Stop::Memory),
+                        Ok(plan) => self.shell.hand_out(Some(plan), true),
                     },
                 },
             },
@@ -119,10 +106,9 @@ impl<'a, S: Space> LazyMembers for MemberPlans<'a, S> {
         ensures keeps { KeepsAllMember S.view self.new }
         ensures tidy { IfOk result (λ o. HasMemberRoom S.view self.new) }
     {
-        match self.ended {
+        match self.shell.ended() {
             None => self.ask(alloc, steps),
-            Some(None) => Ok(None),
-            Some(Some(stop)) => Err(stop),
+            Some(ending) => ending.answer(),
         }
     }
 

@@ -18,9 +18,8 @@ returns-clause-lawful g c =
     let x = c.in_ok-front.front in
     let e = c.in_ok-front.ensures in
     let same = (kept_made c.in_ok-search.ensures.trades).system in
-    begun_sound v c.in_ok-search.search c.args.within c.args.most x e.ready
-    (subst (Serves x.moves) (sym (same ∙ c.requires.task)) e.serves) e.none e.keys e.first
-    (sym c.in_ok-search.ensures.within)
+    begun_sound v c.in_ok-search.search c.args.within x e.ready (subst (Serves x.moves) (sym (same ∙ c.requires.task)) e.serves)
+    e.none e.keys e.first c.args.most c.new-2.result c.new-2.ensures (sym c.in_ok-search.ensures.within)
 
 pub returns-clause-all : goal.returns-clause-all
 returns-clause-all g c =
@@ -28,6 +27,6 @@ returns-clause-all g c =
     let x = c.in_ok-front.front in
     let e = c.in_ok-front.ensures in
     let same = (kept_made c.in_ok-search.ensures.trades).system in
-    begun_all v c.in_ok-search.search c.args.within c.args.most x e.ready
+    begun_all v c.in_ok-search.search c.args.within x e.ready
     (subst (Serves x.moves) (sym (same ∙ c.requires.task)) e.serves) e.none e.keys e.first
     (g.S.Space.view c.args.space).system same

@@ -6,3 +6,5 @@ pub mod Replacing
 pub mod Entries
 pub mod Going
 pub mod First
+pub mod EmptyPrefix
+pub mod Shells

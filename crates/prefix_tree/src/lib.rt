@@ -7,10 +7,12 @@
 //! ends there goes on. The queue hands out the entry of the least bound, of equal bounds one of the greatest cost, and of
 //! those one in the earliest ring. The contracts say which operators a prefix has, whether it passes a state, which moves
 //! lead on from a state, and which entries the queue has, for all plans (a prefix runs) and for loopless ones (it passes
-//! no state twice besides). It stands on `lazy_plans` for what prefixes are, on `space_api` for steps from state to
-//! state, on `indexmap` for states by number, and on std's binary heap.
+//! no state twice besides). Before the first turn the empty prefix alone waits (`empty_prefix`). It stands on `lazy_plans`
+//! for what prefixes are, on `space_api` for steps from state to state, on `indexmap` for states by number, and on std's
+//! binary heap.
 #![tactic(auto)]
 
+mod beginning;
 mod ends;
 mod entry;
 mod moves;
@@ -18,6 +20,7 @@ mod queue;
 mod state_graph;
 mod tree;
 
+pub use beginning::empty_prefix;
 pub use ends::goal_after;
 pub use entry::Entry;
 pub use moves::{find_moves, number_of_start};

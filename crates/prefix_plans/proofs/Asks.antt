@@ -1,99 +1,57 @@
--- One call, by how it ends.
-use Rattle.std.proofs.Common.{◌≡◌, ℕ, List, Option, Some, None, Result, Ok, Err, refl, sym, subst}
+-- One call, by what its shell answers.
+use Rattle.std.proofs.Common.{◌≡◌, ℕ, Bool, List, Option, None, Result, Ok, Err, IsTrue, refl, sym, ◌∙◌, subst}
 use Rattle.task_system.specs.System.{System}
 use Rattle.symk_task.specs.declared.parts.Mode.TheVariants.{TopK}
 use Rattle.space_api.specs.View.{View}
-use Rattle.lazy_plans.specs.Law.{Turned, Ended, Last, last_of}
+use Rattle.lazy_plans.specs.Law.{Turned}
 use Rattle.lazy_plans.specs.declared.stop.Stop.{Stop}
-use Rattle.lazy_plans.specs.declared.stop.Stop.TheVariants.{Memory}
-use Rattle.lazy_plans.proofs.Given.{ended_by}
-use Rattle.cost_to_go.specs.Standing.{to_go_within}
-use Rattle.cost_to_go.specs.declared.search.CostToGo.{CostToGo}
 use Rattle.lazy_plans.specs.Queue.{Right, Pending}
-use Rattle.prefix_plans.specs.Owned.{IsTidyEndSpace}
-use Rattle.lazy_plans.specs.PrefixesOwe.{OwesByPrefix, IsHeld}
-use Rattle.lazy_plans.proofs.Owed.{owed_law, held_law, held_fine}
+use Rattle.lazy_plans.specs.Shell.{shell_held, shell_answer, shell_keeps, HandsOut, IsShellSound, ShellAnswers}
+use Rattle.lazy_plans.proofs.Shells.{answers_stop, answers_found}
+use Rattle.cost_to_go.specs.Standing.{to_go_within}
 use Rattle.prefix_plans.specs.Standing.{waiting_prefixes, PrefixFrontStands}
-use Rattle.prefix_plans.specs.Sound.{IsPrefixSound, AnsweredByPrefix}
-use Rattle.prefix_plans.specs.declared.front.Front.{Front}
+use Rattle.prefix_plans.specs.declared.engine.PrefixPlans.{PrefixPlans}
+use Rattle.prefix_plans.specs.Engine.{prefix_system, prefix_most, QueuesPrefix, HasPrefixRoom, AnswersByPrefix}
 
-none_left : (s : Stop) → Some (Some s) ≡ Some None → ⊥
-none_left s e = cc
-
-none_some : ◌≡◌ {A = Last} None (Some None) → ⊥
-none_some e = cc
-
--- after the turns of a call, and after the space was tidied
-module _ {Set : Type 0} (v w : View Set) (h : CostToGo Set) (within : Set) (most : Option ℕ) (old : List (List ℕ)) (x : Front)
-    (system : w.system ≡ v.system) (kept : within ≡ to_go_within h) (ready : PrefixFrontStands w h x)
-    (right : Right v.system TopK most (waiting_prefixes x)) where
-  abbrev Before : List ℕ → Type 0
-  Before = OwesByPrefix v.system TopK old None
+-- the turns of a call took the engine, which held no plan, from x to z
+module _ {S Set : Type 0} (view : S → View Set) (x z : PrefixPlans S Set) (most : Option ℕ) (none : shell_held x.shell ≡ None)
+    (system : prefix_system view z ≡ prefix_system view x) (ready : PrefixFrontStands (view z.space) z.search z.front)
+    (kept : z.within ≡ to_go_within z.search) (wanted : most ≡ prefix_most x)
+    (right : Right (prefix_system view x) TopK most (waiting_prefixes z.front)) where
+  abbrev After : System → List ℕ → Type 0
+  After y = Pending y TopK (waiting_prefixes z.front)
 
   abbrev Law : Result (Option (List ℕ)) Stop → Type 0
-  Law r = Turned v.system TopK most (Pending v.system TopK old) (Pending v.system TopK (waiting_prefixes x)) r
+  Law r = Turned (prefix_system view x) TopK most (QueuesPrefix view x) (After (prefix_system view x)) r
 
-  law_on : (r : Result (Option (List ℕ)) Stop) → Law r → Turned v.system TopK most Before (OwesByPrefix w.system TopK (waiting_prefixes x) None) r
-  law_on r h = subst (λ (y : System). Turned v.system TopK most Before (OwesByPrefix y TopK (waiting_prefixes x) None) r) (sym system)
-      (owed_law v.system TopK most old (waiting_prefixes x) r h)
+  law_of : (r : Result (Option (List ℕ)) Stop) → Law r
+      → Turned (prefix_system view x) TopK (prefix_most x) (QueuesPrefix view x) (After (prefix_system view x)) r
+  law_of r =
+      subst (λ (q : Option ℕ). Turned (prefix_system view x) TopK q (QueuesPrefix view x) (After (prefix_system view x)) r) wanted
 
-  sound : (held : Option (List ℕ)) (ended : Last) (r : Result (Option (List ℕ)) Stop)
-      → IsHeld w.system TopK held ended → Turned v.system TopK most Before (OwesByPrefix w.system TopK (waiting_prefixes x) held) r
-      → ended ≡ last_of r → (ended ≡ Some None → IsTidyEndSpace w) → IsPrefixSound w h within most x held ended
-  sound held ended r holds law last room = record {
-    ready = ready;
-    kept = kept;
-    right = subst (λ (y : System). Right y TopK most (waiting_prefixes x)) (sym system) right;
-    holds = holds;
-    said = subst (λ (y : System). Ended y most (OwesByPrefix w.system TopK (waiting_prefixes x) held) ended) (sym system)
-        (subst (λ (l : Last). Ended v.system most (OwesByPrefix w.system TopK (waiting_prefixes x) held) l) (sym last)
-        (ended_by v.system TopK most Before (OwesByPrefix w.system TopK (waiting_prefixes x) held) r law));
-    room = room;
+  answered : (r : Result (Option (List ℕ)) Stop) → prefix_most z ≡ prefix_most x
+      → ShellAnswers (prefix_system view x) TopK (QueuesPrefix view x) (After (prefix_system view x)) (HasPrefixRoom view z) x.shell z.shell r
+      → AnswersByPrefix view x z r
+  answered r same s = record {
+    engine = record {
+      ready = ready;
+      kept = kept;
+      right = rw (system, same ∙ sym wanted) right;
+      shell = subst (λ (y : System). IsShellSound y TopK (After y) (HasPrefixRoom view z) z.shell) (sym system) s.sound;
+    };
+    system = system;
+    most = same;
+    shell = subst (λ (y : System). ShellAnswers (prefix_system view x) TopK (QueuesPrefix view x) (After y) (HasPrefixRoom view z)
+        x.shell z.shell r) (sym system) s;
   }
 
-  pub stopped : (stop : Stop) → Law (Err stop) → AnsweredByPrefix v w most Before (OwesByPrefix w.system TopK (waiting_prefixes x) None)
-      (IsPrefixSound w h within most x None (Some (Some stop))) (Some (Some stop)) (Err stop)
-  stopped stop h =
-      let law = law_on (Err stop) h in
-      record {
-        engine = sound None (Some (Some stop)) (Err stop) tt law refl (λ e. absurd (none_left stop e));
-        system = system;
-        law = law;
-        last = refl;
-        room = tt;
-      }
+  pub stopped : (stop : Stop) → Law (Err stop) → HandsOut x.shell z.shell (Err stop) (shell_held x.shell)
+      → AnswersByPrefix view x z (Err stop)
+  stopped stop law hands = answered (Err stop) hands.wanted (answers_stop (prefix_system view x) TopK (QueuesPrefix view x)
+      (After (prefix_system view x)) (HasPrefixRoom view z) x.shell z.shell none stop (law_of (Err stop) law) hands)
 
-  pub tidied_none : IsTidyEndSpace w → Law (Ok None) → AnsweredByPrefix v w most Before (OwesByPrefix w.system TopK (waiting_prefixes x) None)
-      (IsPrefixSound w h within most x None (Some None)) (Some None) (Ok None)
-  tidied_none few h =
-      let law = law_on (Ok None) h in
-      record { engine = sound None (Some None) (Ok None) tt law refl (λ e. few); system = system; law = law; last = refl; room = few }
-
-  pub tidied_some : (p : List ℕ) → IsTidyEndSpace w → Law (Ok (Some p))
-      → AnsweredByPrefix v w most Before (OwesByPrefix w.system TopK (waiting_prefixes x) None)
-      (IsPrefixSound w h within most x None None) None (Ok (Some p))
-  tidied_some p few h =
-      let law = law_on (Ok (Some p)) h in
-      record { engine = sound None None (Ok (Some p)) tt law refl (λ e. absurd (none_some e)); system = system; law = law; last = refl; room = few }
-
-  -- what is owed, and the plan that is held, are what was owed
-  law_held : (found : Option (List ℕ)) → Law (Ok found) → Turned v.system TopK most Before (OwesByPrefix w.system TopK (waiting_prefixes x) found) (Err Memory)
-  law_held found h = subst (λ (y : System). Turned v.system TopK most Before (OwesByPrefix y TopK (waiting_prefixes x) found)
-      (Err Memory)) (sym system) (held_law v.system TopK most old (waiting_prefixes x) (λ p q. refl) found h)
-
-  fine : (found : Option (List ℕ)) → Law (Ok found) → IsHeld w.system TopK found (Some (Some Memory))
-  fine found h = subst (λ (y : System). IsHeld y TopK found (Some (Some Memory))) (sym system) (held_fine v.system TopK most old (waiting_prefixes x) found h)
-
-  pub untidied : (found : Option (List ℕ)) → Law (Ok found) → AnsweredByPrefix v w most Before
-      (OwesByPrefix w.system TopK (waiting_prefixes x) found) (IsPrefixSound w h within most x found (Some (Some Memory)))
-      (Some (Some Memory)) (Err Memory)
-  untidied found h =
-      let law = law_held found h in
-      record {
-        engine = sound found (Some (Some Memory)) (Err Memory) (fine found h) law refl
-            (λ e. absurd (none_left Memory e));
-        system = system;
-        law = law;
-        last = refl;
-        room = tt;
-      }
+  pub handed : (found : Option (List ℕ)) (tidied : Bool) → Law (Ok found) → HandsOut x.shell z.shell (shell_answer found tidied) (shell_keeps found tidied)
+      → (IsTrue tidied → HasPrefixRoom view z) → AnswersByPrefix view x z (shell_answer found tidied)
+  handed found tidied law hands tidy = answered (shell_answer found tidied) hands.wanted (answers_found (prefix_system view x) TopK
+      (QueuesPrefix view x) (After (prefix_system view x)) (HasPrefixRoom view z) x.shell z.shell none (λ p q. refl) (λ p h. h.0)
+      found tidied (law_of (Ok found) law) hands tidy)

@@ -9,10 +9,10 @@ use crate::engine::PrefixPlans;
 use crate::front::Front;
 use crate::ranks::Ranks;
 use cost_to_go::CostToGo;
-use prefix_tree::{Entry, Node, Queue, StateGraph, number_of_start};
-use space_api::{Space, goal_at};
+use lazy_plans::Shell;
+use prefix_tree::empty_prefix;
+use space_api::Space;
 use std::alloc::Global;
-use std::cmp::Reverse;
 use symk_task::Memory;
 
 impl<S: Space + Drop> PrefixPlans<S> {
@@ -37,24 +37,8 @@ impl<S: Space + Drop> PrefixPlans<S> {
     {
         let mut space = space;
         let search = CostToGo::new(alloc, &mut space, within)?;
-        let mut graph = StateGraph::new(alloc);
-        let start = number_of_start(alloc, &space, &mut graph)?;
-        let at_goal = goal_at(alloc, &space, graph.state(start))?;
-        let mut tree = Vec::new(alloc);
-        tree.push(Node {
-            parent: 0,
-            op: 0,
-            state: start,
-        })?;
-        let mut queue = Queue::new(alloc);
-        queue.push(Entry {
-            bound: Reverse(0),
-            cost: 0,
-            ring: Reverse(0),
-            node: 0,
-            settled: false,
-            at_goal,
-        })?;
+        let (graph, tree, queue) = empty_prefix(alloc, &space)?;
+        let shell = Shell::new(most);
         Ok(PrefixPlans {
             space,
             search,
@@ -65,9 +49,7 @@ impl<S: Space + Drop> PrefixPlans<S> {
                 tree,
                 queue,
             },
-            most,
-            held: None,
-            ended: None,
+            shell,
         })
     }
 

@@ -2,7 +2,7 @@
 
 use crate::front::Front;
 use cost_to_go::CostToGo;
-use lazy_plans::{LazyPlans, Steps, Stop};
+use lazy_plans::{LazyPlans, Shell, Steps, Stop};
 use space_api::Space;
 use symk_task::Plan;
 
@@ -16,17 +16,14 @@ pub struct PrefixPlans<S: Space> {
     pub(crate) within: S::Set,
     /// Prefixes, and those that wait.
     pub(crate) front: Front,
-    /// The greatest cost that is wanted, if there is one.
-    pub(crate) most: Option<u64>,
-    /// A plan that was found when the space could not be tidied.
-    pub(crate) held: Option<Plan>,
-    /// The answer that ended it: no plan is left, or why it stopped.
-    pub(crate) ended: Option<Option<Stop>>,
+    /// The greatest cost that is wanted, a plan that is held, and how it ended.
+    pub(crate) shell: Shell,
 }
 
 ghost use Rattle.std.specs.Prelude.{◌≡◌, ◌≢◌, None, IfOk};
 ghost use Rattle.symk_task.specs.declared.parts.Mode.TheVariants.{TopK};
 ghost use Rattle.lazy_plans.specs.Law.{Turned, last_of};
+ghost use Rattle.lazy_plans.specs.Shell.{shell_most, shell_held, shell_ended};
 ghost use Rattle.prefix_plans.specs.Standing.{waiting_prefixes};
 ghost use Rattle.prefix_plans.specs.Engine.{prefix_system, prefix_most, prefix_ended, PendsPrefix, prefix_tells, IsPrefixEngine, KeepsAllPrefix, HasPrefixRoom, AnswersByPrefix};
 ghost use Rattle.lazy_plans.proofs.Owed.{owed_fair, owed_told};
@@ -41,36 +38,19 @@ impl<S: Space> PrefixPlans<S> {
     fn ask<L: Ledger>(&mut self, alloc: Global, steps: &mut Steps<L>) -> Result<Option<Plan>, Stop>
         requires engine { IsPrefixEngine S.view self.old }
         requires goes_on { prefix_ended self.old ≡ None }
-        ensures answers { AnswersByPrefix S.view self.old self.new result }
-        ensures most { prefix_most self.new ≡ prefix_most self.old }
+        ensures { AnswersByPrefix S.view self.old self.new result }
     {
         match walk(
             alloc,
             &mut self.space,
             &mut self.search,
             self.within,
-            self.most,
+            self.shell.most(),
             &mut self.front,
             steps,
         ) {
-            Err(stop) => {
-                self.ended = Some(Some(stop));
-                Err(stop)
-            }
-            Ok(found) => match self.space.tidy() {
-                Err(_) => {
-                    self.held = found;
-                    self.ended = Some(Some(Stop::Memory));
-                    Err(Stop::Memory)
-                }
-                Ok(()) => match found {
-                    None => {
-                        self.ended = Some(None);
-                        Ok(None)
-                    }
-                    Some(plan) => Ok(Some(plan)),
-                },
-            },
+            Err(stop) => self.shell.stop(stop),
+            Ok(found) => self.shell.hand_out(found, self.space.tidy().is_ok()),
         }
     }
 }
@@ -109,16 +89,14 @@ impl<S: Space> LazyPlans for PrefixPlans<S> {
         ensures keeps { KeepsAllPrefix S.view self.new }
         ensures tidy { IfOk result (λ o. HasPrefixRoom S.view self.new) }
     {
-        match self.ended {
+        match self.shell.ended() {
             None => self.ask(alloc, steps),
-            Some(None) => Ok(None),
-            Some(Some(stop)) => Err(stop),
+            Some(ending) => ending.answer(),
         }
     }
 
-    ghost fair = { λ x l. owed_fair (S.view x.space).system TopK x.most
-        (waiting_prefixes x.front) x.held x.ended l.right
-        l.holds };
+    ghost fair = { λ x l. owed_fair (S.view x.space).system TopK (shell_most x.shell) (waiting_prefixes x.front)
+        (shell_held x.shell) (shell_ended x.shell) l.right l.shell.holds };
 
-    ghost told = { λ x l p. owed_told (S.view x.space).system TopK (waiting_prefixes x.front) x.held p };
+    ghost told = { λ x l p. owed_told (S.view x.space).system TopK (waiting_prefixes x.front) (shell_held x.shell) p };
 }

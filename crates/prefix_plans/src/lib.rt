@@ -17,7 +17,7 @@
 //!
 //! It stands on `cost_to_go` for ranks and bounds, on `prefix_tree` for prefixes, the states where they end and their
 //! queue, on `cost_layers` for the states that lead to the goal, on `space_api` for the goal and membership of one
-//! state, and on `lazy_plans` for the law that it keeps, for what pends and for bounds of prefixes.
+//! state, and on `lazy_plans` for the law that it keeps, for its shell, for what pends and for bounds of prefixes.
 //!
 //! The queue: best first by cost so far and exact cost to go, A* (P. E. Hart, N. J. Nilsson and B. Raphael, 1968), over
 //! prefixes in place of states, so that each plan comes.

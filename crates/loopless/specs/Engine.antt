@@ -9,30 +9,36 @@ use Rattle.lazy_plans.specs.declared.stop.Stop.{Stop}
 use Rattle.loopless.specs.declared.engine.LooplessPlans.{LooplessPlans}
 use Rattle.loopless.specs.Front.{prefixes_of}
 use Rattle.loopless.specs.Standing.{IsBeneathBackward}
+use Rattle.lazy_plans.specs.Shell.{shell_most, shell_held, shell_ended, ShellAnswers}
+use Rattle.lazy_plans.specs.Queue.{Pending}
 use Rattle.lazy_plans.specs.PrefixesOwe.{OwesByPrefix, tells_owed}
-use Rattle.loopless.specs.Sound.{IsTidyLooplessSpace, IsLooplessSound, AnsweredLoopless}
+use Rattle.loopless.specs.Sound.{IsTidyLooplessSpace, IsLooplessSound}
 
 abbrev pub loopless_system : {S Set : Type 0} → (S → View Set) → LooplessPlans S Set → System
 loopless_system view x = (view x.space).system
 
 -- the greatest cost that is wanted, or none
 abbrev pub loopless_most : {S Set : Type 0} → LooplessPlans S Set → Option ℕ
-loopless_most x = x.most
+loopless_most x = shell_most x.shell
 
 -- the answer that ended it, which every later call repeats; none, while it goes on
 abbrev pub loopless_ended : {S Set : Type 0} → LooplessPlans S Set → Last
-loopless_ended x = x.ended
+loopless_ended x = shell_ended x.shell
+
+-- what its queue owes
+abbrev pub QueuesLoopless : {S Set : Type 0} → (S → View Set) → LooplessPlans S Set → List ℕ → Type 0
+QueuesLoopless view x = Pending (view x.space).system Loopless (prefixes_of x.front)
 
 -- what is still owed, and the same computed
 abbrev pub PendsLoopless : {S Set : Type 0} → (S → View Set) → LooplessPlans S Set → List ℕ → Type 0
-PendsLoopless view x p = OwesByPrefix (view x.space).system Loopless (prefixes_of x.front) x.held p
+PendsLoopless view x p = OwesByPrefix (view x.space).system Loopless (prefixes_of x.front) (shell_held x.shell) p
 
 abbrev pub loopless_tells : {S Set : Type 0} → (S → View Set) → LooplessPlans S Set → List ℕ → Bool
-loopless_tells view x p = tells_owed (view x.space).system Loopless (prefixes_of x.front) x.held p
+loopless_tells view x p = tells_owed (view x.space).system Loopless (prefixes_of x.front) (shell_held x.shell) p
 
 -- what it meets between two calls
 abbrev pub IsLooplessEngine : {S Set : Type 0} → (S → View Set) → LooplessPlans S Set → Type 0
-IsLooplessEngine view x = IsLooplessSound (view x.space) x.backward x.front x.most x.held x.ended
+IsLooplessEngine view x = IsLooplessSound (view x.space) x.backward x.front x.shell
 
 -- every valid set is one of the search back, or the one that it is kept to
 abbrev pub KeepsAllLoopless : {S Set : Type 0} → (S → View Set) → LooplessPlans S Set → Type 0
@@ -43,9 +49,13 @@ abbrev pub HasLooplessRoom : {S Set : Type 0} → (S → View Set) → LooplessP
 HasLooplessRoom view x = IsTidyLooplessSpace (view x.space)
 
 -- one call of it
-abbrev pub AnswersLoopless : {S Set : Type 0} → (S → View Set) → LooplessPlans S Set → LooplessPlans S Set → Result (Option (List ℕ)) Stop → Type 0
-AnswersLoopless view x z result = AnsweredLoopless (view x.space) (view z.space) x.most (PendsLoopless view x)
-    (PendsLoopless view z) (IsLooplessEngine view z) z.ended result
+pub record AnswersLoopless {S Set : Type 0} (view : S → View Set) (x z : LooplessPlans S Set)
+    (result : Result (Option (List ℕ)) Stop) : Type 0 where
+  pub engine : IsLooplessEngine view z
+  pub system : loopless_system view z ≡ loopless_system view x
+  pub most : loopless_most z ≡ loopless_most x
+  pub shell : ShellAnswers (loopless_system view x) Loopless (QueuesLoopless view x) (QueuesLoopless view z)
+      (HasLooplessRoom view z) x.shell z.shell result
 
 -- no set is valid
 abbrev pub HasNone : {Set : Type 0} → View Set → Type 0

@@ -12,10 +12,10 @@ use crate::front::Front;
 use crate::racing::keep_to_reached;
 use crate::rests::Rests;
 use backward_search::{Backward, Kind};
-use prefix_tree::{Entry, Node, Queue, StateGraph, number_of_start};
-use space_api::{Space, goal_at};
+use lazy_plans::Shell;
+use prefix_tree::empty_prefix;
+use space_api::Space;
 use std::alloc::Global;
-use std::cmp::Reverse;
 use symk_task::Memory;
 
 /// What was found, or nothing.
@@ -50,29 +50,13 @@ impl<S: Space + Drop> LooplessPlans<S> {
         ensures last { IfOk result (λ x. loopless_ended x ≡ None) }
     {
         let mut space = space;
-        let mut graph = StateGraph::new(alloc);
-        let start = number_of_start(alloc, &space, &mut graph)?;
-        let at_goal = goal_at(alloc, &space, graph.state(start))?;
+        let (mut graph, tree, queue) = empty_prefix(alloc, &space)?;
         let found = find_rests(alloc, &space, &mut graph)?;
         let is_known = found.is_some();
         let rests = found_or_none(alloc, found);
         let backward = Backward::new(alloc, &mut space, within, Kind::Least)?;
         let backward = keep_to_reached(alloc, &mut space, backward, within, most, is_known)?;
-        let mut tree = Vec::new(alloc);
-        tree.push(Node {
-            parent: 0,
-            op: 0,
-            state: start,
-        })?;
-        let mut queue = Queue::new(alloc);
-        queue.push(Entry {
-            bound: Reverse(0),
-            cost: 0,
-            ring: Reverse(0),
-            node: 0,
-            settled: false,
-            at_goal,
-        })?;
+        let shell = Shell::new(most);
         Ok(LooplessPlans {
             space,
             backward,
@@ -82,9 +66,7 @@ impl<S: Space + Drop> LooplessPlans<S> {
                 tree,
                 queue,
             },
-            most,
-            held: None,
-            ended: None,
+            shell,
         })
     }
 

@@ -2,7 +2,7 @@
 
 use crate::front::Front;
 use backward_search::Backward;
-use lazy_plans::{LazyPlans, Steps, Stop};
+use lazy_plans::{LazyPlans, Shell, Steps, Stop};
 use space_api::Space;
 use symk_task::Plan;
 
@@ -13,17 +13,14 @@ pub struct LooplessPlans<S: Space> {
     pub(crate) backward: Backward<S::Set>,
     /// The prefixes, and what is left from where they end.
     pub(crate) front: Front,
-    /// The greatest cost that is wanted, if there is one.
-    pub(crate) most: Option<u64>,
-    /// A plan that was found when the space could not be tidied.
-    pub(crate) held: Option<Plan>,
-    /// The answer that ended it: no plan is left, or why it stopped.
-    pub(crate) ended: Option<Option<Stop>>,
+    /// The greatest cost that is wanted, a plan that is held, and how it ended.
+    pub(crate) shell: Shell,
 }
 
 ghost use Rattle.std.specs.Prelude.{◌≡◌, ◌≢◌, None, IfOk};
 ghost use Rattle.symk_task.specs.declared.parts.Mode.TheVariants.{Loopless};
 ghost use Rattle.lazy_plans.specs.Law.{Turned, last_of};
+ghost use Rattle.lazy_plans.specs.Shell.{shell_most, shell_held, shell_ended};
 ghost use Rattle.lazy_plans.proofs.Owed.{owed_fair, owed_told};
 ghost use Rattle.loopless.specs.Front.{prefixes_of};
 ghost use Rattle.loopless.specs.Engine.{loopless_system, loopless_most, loopless_ended, PendsLoopless, loopless_tells, IsLooplessEngine, KeepsAllLoopless, HasLooplessRoom, AnswersLoopless};
@@ -38,35 +35,18 @@ impl<S: Space> LooplessPlans<S> {
     fn ask<L: Ledger>(&mut self, alloc: Global, steps: &mut Steps<L>) -> Result<Option<Plan>, Stop>
         requires engine { IsLooplessEngine S.view self.old }
         requires goes_on { loopless_ended self.old ≡ None }
-        ensures answers { AnswersLoopless S.view self.old self.new result }
-        ensures most { loopless_most self.new ≡ loopless_most self.old }
+        ensures { AnswersLoopless S.view self.old self.new result }
     {
         match walk(
             alloc,
             &mut self.space,
             &mut self.backward,
-            self.most,
+            self.shell.most(),
             &mut self.front,
             steps,
         ) {
-            Err(stop) => {
-                self.ended = Some(Some(stop));
-                Err(stop)
-            }
-            Ok(found) => match self.space.tidy() {
-                Err(_) => {
-                    self.held = found;
-                    self.ended = Some(Some(Stop::Memory));
-                    Err(Stop::Memory)
-                }
-                Ok(()) => match found {
-                    None => {
-                        self.ended = Some(None);
-                        Ok(None)
-                    }
-                    Some(plan) => Ok(Some(plan)),
-                },
-            },
+            Err(stop) => self.shell.stop(stop),
+            Ok(found) => self.shell.hand_out(found, self.space.tidy().is_ok()),
         }
     }
 }
@@ -106,15 +86,14 @@ impl<S: Space> LazyPlans for LooplessPlans<S> {
         ensures keeps { KeepsAllLoopless S.view self.new }
         ensures tidy { IfOk result (λ o. HasLooplessRoom S.view self.new) }
     {
-        match self.ended {
+        match self.shell.ended() {
             None => self.ask(alloc, steps),
-            Some(None) => Ok(None),
-            Some(Some(stop)) => Err(stop),
+            Some(ending) => ending.answer(),
         }
     }
 
-    ghost fair = { λ x l. owed_fair (S.view x.space).system Loopless x.most (prefixes_of x.front) x.held x.ended
-        l.right l.holds };
+    ghost fair = { λ x l. owed_fair (S.view x.space).system Loopless (shell_most x.shell) (prefixes_of x.front)
+        (shell_held x.shell) (shell_ended x.shell) l.right l.shell.holds };
 
-    ghost told = { λ x l p. owed_told (S.view x.space).system Loopless (prefixes_of x.front) x.held p };
+    ghost told = { λ x l p. owed_told (S.view x.space).system Loopless (prefixes_of x.front) (shell_held x.shell) p };
 }

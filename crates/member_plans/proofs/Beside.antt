@@ -1,16 +1,14 @@
 -- Entries that wait in two queues.
-use Rattle.std.proofs.Common.{◌≡◌, ℕ, suc, ◌+◌, ◌<◌, ◌≤◌, inl, inr, List, [], ◌∷◌, ◌++◌, map, length, take, get_or, slice_index_or, refl, sym, ◌∙◌, ap, subst, arith}
+use Rattle.std.proofs.Common.{◌≡◌, ℕ, suc, ◌+◌, ◌<◌, ◌≤◌, inl, inr, List, [], ◌∷◌, ◌++◌, length, take, get_or, slice_index_or, sym, ◌∙◌, ap, subst, arith}
 use Rattle.std.specs.List.{AllByRecursion, sum_by}
 use Rattle.std.specs.List.Sorted.{IsPermutation}
 use Rattle.std.proofs.lemmas.List.{append-nil, append_assoc, take_more}
-use Rattle.std.proofs.lemmas.List.Elements.{recursion_from_All, All-from_recursion}
-use Rattle.std.proofs.lemmas.List.Sorted.{IsPermutation-refl, IsPermutation-sym, IsPermutation-trans, IsPermutation-cons, IsPermutation-middle, IsPermutation-append, IsPermutation-append_left, IsPermutation-append_comm, IsPermutation-map, All-permutation, sum_by-IsPermutation, length_permutation}
-use Rattle.std.proofs.lemmas.List.Sums.{sum_by-cons}
+use Rattle.std.proofs.lemmas.List.Sorted.{IsPermutation-refl, IsPermutation-sym, IsPermutation-trans, IsPermutation-cons, IsPermutation-middle}
+use Rattle.std.proofs.lemmas.List.Sorted.{IsPermutation-append, IsPermutation-append_left, IsPermutation-append_comm, sum_by-IsPermutation, length_permutation}
 use Rattle.task_system.specs.System.{System, Listed}
 use Rattle.space_api.specs.View.{View}
 use Rattle.cost_to_go.specs.declared.search.CostToGo.{CostToGo}
-use Rattle.lazy_plans.specs.Queue.{Replaced, Bounds}
-use Rattle.prefix_tree.specs.Tree.{path_at}
+use Rattle.lazy_plans.specs.Queue.{Bounds}
 use Rattle.prefix_tree.specs.Entries.{queued_entries, prefixes}
 use Rattle.prefix_tree.specs.declared.state_graph.StateGraph.{StateGraph}
 use Rattle.prefix_tree.specs.declared.tree.Node.{Node}
@@ -21,6 +19,7 @@ use Rattle.prefix_plans.specs.Left.{KnownToGo}
 use Rattle.prefix_plans.specs.EndChildren.{IsEndEntry, outdated}
 use Rattle.prefix_plans.specs.EndStanding.{IsEndReady, Learned, entry_alone, all_outdated}
 use Rattle.prefix_plans.proofs.Dating.{outdated_sum}
+use Rattle.prefix_plans.proofs.Permuting.{left_each, permuted_prefixes, replaced_same}
 use Rattle.member_laws.specs.Nodes.{CoversOpened}
 use Rattle.member_laws.proofs.Covering as covering
 
@@ -93,38 +92,7 @@ there_next es here there new i d lt sofar is =
     (subst (IsPermutation (take i es ++ k ∷ [])) (append_assoc here there (k ∷ []))
     (IsPermutation-append_left (k ∷ []) (take i es) (here ++ there) sofar)))
 
--- what holds of each
-pub join_each : {X : Type 0} (P : X → Type 0) (xs ys : List X) → AllByRecursion P xs → AllByRecursion P ys → AllByRecursion P (xs ++ ys)
-join_each P [] ys a b = b
-join_each P (x ∷ xs) ys a b = (a.0, join_each P xs ys a.1 b)
-
-pub left_each : {X : Type 0} (P : X → Type 0) (xs ys : List X) → AllByRecursion P (xs ++ ys) → AllByRecursion P xs
-left_each P [] ys a = tt
-left_each P (x ∷ xs) ys a = (a.0, left_each P xs ys a.1)
-
-pub right_each : {X : Type 0} (P : X → Type 0) (xs ys : List X) → AllByRecursion P (xs ++ ys) → AllByRecursion P ys
-right_each P [] ys a = a
-right_each P (x ∷ xs) ys a = right_each P xs ys a.1
-
-pub permuted_each : {X : Type 0} (P : X → Type 0) (xs ys : List X) → IsPermutation xs ys → AllByRecursion P xs → AllByRecursion P ys
-permuted_each P xs ys perm a = recursion_from_All P ys (All-permutation P xs ys perm (All-from_recursion P xs a))
-
--- their prefixes
-mapped : (nodes : List Node) (es : List Entry) → prefixes nodes es ≡ map (λ (e : Entry). path_at nodes e.node) es
-mapped nodes [] = refl
-mapped nodes (e ∷ es) = ap (λ (ps : List (List ℕ)). path_at nodes e.node ∷ ps) (mapped nodes es)
-
-pub permuted_prefixes : (nodes : List Node) (es new : List Entry) → IsPermutation es new → IsPermutation (prefixes nodes es) (prefixes nodes new)
-permuted_prefixes nodes es new perm = subst (λ (ps : List (List ℕ)). IsPermutation ps (prefixes nodes new))
-    (sym (mapped nodes es)) (subst (IsPermutation (map (λ (e : Entry). path_at nodes e.node) es))
-    (sym (mapped nodes new)) (IsPermutation-map (λ (e : Entry). path_at nodes e.node) es new perm))
-
-replaced_same : (old new : List (List ℕ)) (p : List ℕ) → IsPermutation old new → Replaced old (p ∷ []) p new
-replaced_same old new p perm f = numbers (sum_by f old) (sum_by f new) (f p) (sum_by f (p ∷ [])) (sum_by-IsPermutation f old new perm) (sum_by-cons f p [])
-  where
-    numbers : (a b c d : ℕ) → b ≡ a → d ≡ c + 0 → a + d ≡ c + b
-    numbers a b c d s t = omega (arith, s, t)
-
+-- what covers still does
 pub permuted_covers : (y : System) (nodes : List Node) (opened : List (List ℕ)) (es new : List Entry)
     → IsPermutation es new → CoversOpened y opened (prefixes nodes es) → CoversOpened y opened (prefixes nodes new)
 permuted_covers y nodes opened es new perm covers = covering.comes_back y [] opened (prefixes nodes es)

@@ -18,7 +18,8 @@ use Rattle.stubborn_sets.specs.Closing.{has_mark}
 use Rattle.member_laws.proofs.Reaching.{all_stubborn}
 use Rattle.prefix_plans.specs.EndChildren.{IsUpToDate, AddsPrefixChild}
 use Rattle.prefix_plans.proofs.EndsGrowing.{each_new_like}
-use Rattle.member_plans.proofs.Beside.{join_each, permuted_each, permuted_prefixes, permuted_listed}
+use Rattle.prefix_plans.proofs.Permuting.{join_each, permuted_each, permuted_prefixes}
+use Rattle.member_plans.proofs.Beside.{permuted_listed}
 use Rattle.member_plans.specs.Moves.{is_taken}
 use Rattle.member_plans.specs.Children.{AreChosenChildren, AreEnough}
 

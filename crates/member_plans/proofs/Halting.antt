@@ -1,29 +1,17 @@
 -- What one turn comes to.
-use Rattle.std.proofs.Common.{◌≡◌, ℕ, ◌<◌, ◌≤◌, Bool, true, false, IsTrue, All, List, length, slice_index_or, Option, None, sym, subst}
-use Rattle.task_system.specs.System.{System}
+use Rattle.std.proofs.Common.{◌≡◌, ℕ, ◌<◌, ◌≤◌, Bool, true, false, IsTrue, All, List, length, slice_index_or, Option, sym, subst}
 use Rattle.space_api.specs.View.{View}
-use Rattle.lazy_plans.specs.Law.{MayStop, NoneLeft, top}
-use Rattle.lazy_plans.specs.declared.stop.Stop.TheVariants.{CostRange}
+use Rattle.lazy_plans.specs.Law.{top}
 use Rattle.cost_to_go.specs.declared.search.CostToGo.{CostToGo}
 use Rattle.prefix_tree.specs.Tree.{path_at}
 use Rattle.prefix_tree.specs.Entries.{queued_entries}
 use Rattle.prefix_tree.specs.declared.entry.Entry.{Entry}
-use Rattle.member_laws.specs.Nodes.{IsJoinedAtNode, PendsNode}
-use Rattle.member_plans.specs.Left.{TellsMemberLeft}
+use Rattle.member_laws.specs.Nodes.{IsJoinedAtNode}
 use Rattle.member_plans.specs.Opened.{places_of_opened, keys_of, IsMet}
 use Rattle.member_plans.specs.Front.{waiting_members, opened_places, opened, IsSteady, IsDue}
 use Rattle.member_plans.specs.declared.front.Front.{Front}
 use Rattle.member_plans.specs.declared.opened.Opened.{Opened}
 use Rattle.member_plans.proofs.Opening.{retold, retold_opened}
-
--- what is told of the plans that are left
-pub told_out : (y : System) (most : Option ℕ) (os : List (List ℕ)) (b : Bool) → most ≡ None → b ≡ true
-    → TellsMemberLeft y os b → MayStop y most (PendsNode y os) CostRange
-told_out y most os b none on h = subst (λ (o : Option ℕ). MayStop y o (PendsNode y os) CostRange) (sym none) (subst (TellsMemberLeft y os) on h)
-
-pub told_none : (y : System) (most : Option ℕ) (os : List (List ℕ)) (b : Bool) → most ≡ None → b ≡ false
-    → TellsMemberLeft y os b → NoneLeft y most (PendsNode y os)
-told_none y most os b none off h = subst (λ (o : Option ℕ). NoneLeft y o (PendsNode y os)) (sym none) (subst (TellsMemberLeft y os) off h)
 
 -- whether the first entry meets what was opened
 module _ {Set : Type 0} (v : View Set) (f : CostToGo Set) (most : Option ℕ) (x : Front) (o : Opened)

@@ -15,16 +15,20 @@ use Rattle.prefix_tree.specs.declared.queue.Queue.{Queue}
 use Rattle.prefix_plans.specs.Left.{KnownToGo}
 use Rattle.prefix_plans.specs.EndChildren.{IsEndEntry}
 use Rattle.prefix_plans.specs.EndStanding.{IsEndReady}
+use Rattle.prefix_plans.specs.Leading.{DropsHopeless}
 use Rattle.prefix_plans.proofs.Moving.{ready_stays}
 use Rattle.prefix_plans.specs.declared.ranks.Ranks.{Ranks}
 use Rattle.prefix_plans.proofs.Dearest.{bounds_past}
+use Rattle.prefix_plans.proofs.Permuting.{permuted_each}
+use Rattle.prefix_plans.proofs.Dropping.{drops_each}
 use Rattle.member_laws.specs.Nodes.{CoversOpened, PendsNode}
 use Rattle.member_laws.proofs.Pending as pending
 use Rattle.member_plans.specs.Moves.{Serves}
 use Rattle.member_plans.specs.Opened.{keys_of, AreOpened}
 use Rattle.member_plans.specs.Front.{waiting_members, opened_places, opened, IsSteady, SamePends, FollowsTurns, Rearranged, MembersHaltAt, IsMemberTurn}
 use Rattle.member_plans.specs.declared.front.Front.{Front}
-use Rattle.member_plans.proofs.Beside.{beside_none, permuted_each, permuted_covers, permuted_work}
+use Rattle.member_plans.proofs.Ranging.{drops_cover}
+use Rattle.member_plans.proofs.Beside.{beside_none, permuted_covers, permuted_work}
 use Rattle.member_plans.specs.declared.walk.Halt.{Halt}
 use Rattle.member_plans.specs.declared.walk.Halt.TheVariants.{Due, Opens, Waits, Ends, OutOfRange}
 
@@ -121,14 +125,12 @@ module _ {Set : Type 0} (v : View Set) (f : CostToGo Set) (most : Option ℕ) (x
 
   -- first ones from which no plan goes on were taken out, by a space that is as before
   pub left_follows : (w : View Set) (r o : Queue) → SameSets v w → queued_entries o ≡ []
-      → (AllByRecursion (IsEndEntry v f x.tree.items) (queued_entries q)
-      → AllByRecursion (IsEndEntry v f x.tree.items) (queued_entries r))
-      → (CoversOpened v.system (opened x) (prefixes x.tree.items (queued_entries q))
-      → CoversOpened v.system (opened x) (prefixes x.tree.items (queued_entries r))) → FollowsTurns w f most x (requeued x r o)
-  left_follows w r o s none each covers =
+      → DropsHopeless v.system x.tree.items (queued_entries q) (queued_entries r) → FollowsTurns w f most x (requeued x r o)
+  left_follows w r o s none d =
       let all : queued_entries r ++ queued_entries o ≡ queued_entries r = beside_none (queued_entries r) (queued_entries o) none in
-      let here = subst (AllByRecursion (IsEndEntry v f x.tree.items)) (sym all) (each joined_each) in
-      let kept = subst (λ (es : List Entry). CoversOpened v.system (opened x) (prefixes x.tree.items es)) (sym all) (covers joined_covers) in
+      let here = subst (AllByRecursion (IsEndEntry v f x.tree.items)) (sym all) (drops_each (IsEndEntry v f x.tree.items) d joined_each) in
+      let kept = subst (λ (es : List Entry). CoversOpened v.system (opened x) (prefixes x.tree.items es)) (sym all)
+      (drops_cover v.system x.tree.items (opened x) (queued_entries q) (queued_entries r) d joined_covers) in
       record {
         steady = steady_stays v w f most (requeued x r o) s (follows_requeued v f most x r o z here kept).steady;
         same = same_self w.system x;

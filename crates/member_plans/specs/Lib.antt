@@ -4,6 +4,5 @@ pub mod Kept
 pub mod Moves
 pub mod Opened
 pub mod Children
-pub mod Left
 pub mod Front
 pub mod Engine

@@ -10,8 +10,7 @@
 //! leads to is often a rearrangement of that plan. What pends are the plans that join no prefix that was opened. Before
 //! memory is refused nothing of them is lost, so no plan is held. It stands on `prefix_plans` for what is known of
 //! prefixes by where they end, on `member_laws` for what pends, on `stubborn_sets` for the moves that are enough, on
-//! `prefix_tree` for prefixes and their queue, on `cost_layers` for the states that lead to the goal, and on
-//! `selectors` for the law that it keeps.
+//! `prefix_tree` for prefixes and their queue, and on `selectors` for the law that it keeps.
 //!
 //! Stubborn sets in search: A. Valmari (1989); M. Wehrle and M. Helmert (2012).
 #![tactic(auto)]
@@ -27,7 +26,6 @@ mod kept;
 mod keys;
 mod moves;
 mod opened;
-mod range;
 mod taking;
 mod turn;
 mod walk;

@@ -11,11 +11,10 @@ ghost use Rattle.prefix_plans.specs.Left.{known_to_go};
 ghost use Rattle.member_plans.specs.Front.{waiting_members, IsSteady, FollowsTurns, IsMemberTurn, MembersHaltAt, Stopped};
 
 use crate::front::Front;
-use crate::range::is_left;
 use crate::turn::{drop_joined, learn, pass};
 use cost_to_go::CostToGo;
 use lazy_plans::{Steps, Stop};
-use prefix_plans::{go_on, is_outdated, top_of};
+use prefix_plans::{go_on, is_left, is_outdated, top_of};
 use prefix_tree::Entry;
 use space_api::{Space, SpaceFault};
 use std::alloc::Global;

@@ -1,5 +1,5 @@
 -- Where each plan that is left is too dear, and whether one goes on from a prefix.
-use Rattle.std.proofs.Common.{◌≡◌, ℕ, ◌+◌, ◌<◌, ◌≤◌, ◌^◌, ◌↔◌, inl, inr, Bool, IsFalse, IsSome, List, [], ◌∷◌, Option, Some, None, refl, sym, ◌∙◌, subst, arith}
+use Rattle.std.proofs.Common.{◌≡◌, ℕ, ◌+◌, ◌<◌, ◌≤◌, ◌^◌, ◌↔◌, inl, inr, Bool, IsFalse, IsSome, List, [], ◌∷◌, length, Option, Some, None, refl, sym, ◌∙◌, subst, arith}
 use Rattle.std.specs.Bool.{Decides}
 use Rattle.std.specs.List.{AllByRecursion}
 use Rattle.task_system.specs.System.{State, System, RunsInSystem}
@@ -72,6 +72,11 @@ dear_each v f nodes (k ∷ es) a b = (
   record { inside = a.0.inside; bounds = λ p plan on. let le = a.0.bounds p plan on in omega (arith, le, b.0) },
   dear_each v f nodes es a.1 b.1,
 )
+
+pub inside_each : {Set : Type 0} (v : View Set) (f : CostToGo Set) (nodes : List Node) (es : List Entry)
+    → AllByRecursion (IsEndEntry v f nodes) es → AllByRecursion (λ (k : Entry). k.node < length nodes) es
+inside_each v f nodes [] a = tt
+inside_each v f nodes (k ∷ es) a = (a.0.inside, inside_each v f nodes es a.1)
 
 -- no plan of any entry costs m or less
 pub bounds_past : {Set : Type 0} (v : View Set) (f : CostToGo Set) (nodes : List Node) (m : ℕ) (es : List Entry)

@@ -2,6 +2,8 @@ pub mod Far
 pub mod Growing
 pub mod Descending
 pub mod Turning
+pub mod Permuting
+pub mod Dropping
 pub mod Ranging
 pub mod Walking
 pub mod Asks

@@ -1,5 +1,5 @@
 -- What turns do, and why they stop.
-use Rattle.std.specs.Prelude.{◌≡◌, ℕ, ◌+◌, ◌<◌, ◌≤◌, Bool, true, false, List, Option, Some, None, IsSome}
+use Rattle.std.specs.Prelude.{◌≡◌, ℕ, ◌+◌, ◌<◌, ◌≤◌, List, Option, Some, None, IsSome}
 use Rattle.symk_task.specs.declared.parts.Mode.TheVariants.{TopK}
 use Rattle.task_system.specs.System.{System}
 use Rattle.space_api.specs.View.{View}
@@ -36,11 +36,6 @@ abbrev pub IsPrefixTurn : System → KnownToGo → Option ℕ → Front → Fron
 IsPrefixTurn y known most old new None = KeepsPending y most (waiting_prefixes old) (waiting_prefixes new)
     × (prefix_work known (queued_entries new.queue) < prefix_work known (queued_entries old.queue))
 IsPrefixTurn y known most old new (Some halt) = HaltsAt y known most (waiting_prefixes old) (waiting_prefixes new) halt
-
--- whether a plan is left, where each that is left costs more than 64 bits hold
-abbrev pub TellsLeft : System → List (List ℕ) → Bool → Type 0
-TellsLeft y old true = MayStop y None (Pending y TopK old) CostRange
-TellsLeft y old false = NoneLeft y None (Pending y TopK old)
 
 -- how many steps a turn is
 abbrev pub CountsPrefixTurn : ℕ → ℕ → Option Halt → Type 0

@@ -43,4 +43,5 @@ pub use engine::PrefixPlans;
 pub use knowing::{go_on, is_outdated, top_of};
 pub use leading::goes_on;
 pub use left::Heuristic;
+pub use range::is_left;
 pub use ranks::Ranks;

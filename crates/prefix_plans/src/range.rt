@@ -1,20 +1,16 @@
-//! Whether a plan is left, where each that is left costs more than 64 bits hold.
+//! Whether a plan goes on from an entry of the queue at all.
 
-ghost use Rattle.std.specs.Prelude.{◌≤◌, None, IfOk};
+ghost use Rattle.std.specs.Prelude.{◌<◌, ◌≤◌, IfOk, length};
 ghost use Rattle.std.specs.List.{AllByRecursion};
 ghost use Rattle.symk_task.specs.declared.parts.Mode.TheVariants.{TopK};
 ghost use Rattle.space_api.specs.View.{View, Valid};
 ghost use Rattle.space_api.specs.Frames.{Stays};
-ghost use Rattle.cost_to_go.specs.declared.search.CostToGo.{CostToGo};
-ghost use Rattle.lazy_plans.specs.Queue.{Right};
-ghost use Rattle.prefix_tree.specs.Entries.{queued_entries, prefixes};
+ghost use Rattle.prefix_tree.specs.Entries.{queued_entries};
 ghost use Rattle.prefix_tree.specs.StateGraph.{states_of, IsStateGraph};
 ghost use Rattle.prefix_tree.specs.Tree.{IsTree};
-ghost use Rattle.prefix_plans.specs.EndChildren.{IsEndEntry};
+ghost use Rattle.prefix_tree.specs.declared.entry.Entry.{Entry};
 ghost use Rattle.prefix_plans.specs.Owned.{CoversUseful};
-ghost use Rattle.prefix_plans.specs.Leading.{TellsLeading, IsDear};
-ghost use Rattle.prefix_plans.specs.Standing.{KeepsPending};
-ghost use Rattle.prefix_plans.specs.Turned.{TellsLeft};
+ghost use Rattle.prefix_plans.specs.Leading.{TellsLeading, DropsHopeless, TellsGoingOn};
 
 use crate::leading::goes_on;
 use cost_layers::reach;
@@ -25,8 +21,7 @@ use space_api::{Space, SpaceFault};
 use std::alloc::{AllocError, Global};
 use std::sync::ledger::Ledger;
 
-/// Whether a plan goes on from some entry, each of which is too dear. The first ones from which none does are taken out,
-/// each by a turn.
+/// Whether a plan goes on from some entry. The first ones from which none does are taken out, each by a turn.
 fn some_goes_on<S: Space, L: Ledger>(
     alloc: Global,
     space: &S,
@@ -40,13 +35,10 @@ fn some_goes_on<S: Space, L: Ledger>(
     requires tells { TellsLeading (S.view space.now) leading }
     requires graph { IsStateGraph (S.view space.now).system graph.now }
     requires tree { IsTree (S.view space.now).system TopK (states_of graph.now) tree.now }
-    requires right { Right (S.view space.now).system TopK None (prefixes tree.now (queued_entries queue.old)) }
-    requires dear { AllByRecursion (IsDear (S.view space.now).system tree.now) (queued_entries queue.old) }
-    ensures each { (w : View S.Set) (f : CostToGo S.Set) → AllByRecursion (IsEndEntry w f tree.now)
-        (queued_entries queue.old) → AllByRecursion (IsEndEntry w f tree.now) (queued_entries queue.new) }
-    ensures keeps { KeepsPending (S.view space.now).system None (prefixes tree.now (queued_entries queue.old))
-        (prefixes tree.now (queued_entries queue.new)) }
-    ensures told { IfOk result (TellsLeft (S.view space.now).system (prefixes tree.now (queued_entries queue.old))) }
+    requires inside { AllByRecursion (λ (k : Entry). k.node < length tree.now) (queued_entries queue.old) }
+    ensures drops { DropsHopeless (S.view space.now).system tree.now (queued_entries queue.old)
+        (queued_entries queue.new) }
+    ensures told { IfOk result (TellsGoingOn (S.view space.now).system tree.now (queued_entries queue.new)) }
     ensures steps { steps.old ≤ steps.new }
 {
     'entries: loop {
@@ -63,9 +55,9 @@ fn some_goes_on<S: Space, L: Ledger>(
     }
 }
 
-/// Whether a plan is left, where each entry is too dear. The states that lead to the goal at all are found, whatever that
-/// costs, and given back. First entries from which no plan goes on are taken out, also when out of memory.
-pub(crate) fn is_left<S: Space, L: Ledger>(
+/// Whether a plan goes on from some entry. The states that lead to the goal at all are found, whatever that costs, and
+/// given back. First entries from which no plan goes on are taken out, also when out of memory.
+pub fn is_left<S: Space, L: Ledger>(
     alloc: Global,
     space: &mut S,
     within: S::Set,
@@ -78,14 +70,11 @@ pub(crate) fn is_left<S: Space, L: Ledger>(
     requires wide { CoversUseful (S.view space.old) within }
     requires graph { IsStateGraph (S.view space.old).system graph.now }
     requires tree { IsTree (S.view space.old).system TopK (states_of graph.now) tree.now }
-    requires right { Right (S.view space.old).system TopK None (prefixes tree.now (queued_entries queue.old)) }
-    requires dear { AllByRecursion (IsDear (S.view space.old).system tree.now) (queued_entries queue.old) }
+    requires inside { AllByRecursion (λ (k : Entry). k.node < length tree.now) (queued_entries queue.old) }
     ensures stays { Stays (S.view space.old) (S.view space.new) }
-    ensures each { (w : View S.Set) (f : CostToGo S.Set) → AllByRecursion (IsEndEntry w f tree.now)
-        (queued_entries queue.old) → AllByRecursion (IsEndEntry w f tree.now) (queued_entries queue.new) }
-    ensures keeps { KeepsPending (S.view space.old).system None (prefixes tree.now (queued_entries queue.old))
-        (prefixes tree.now (queued_entries queue.new)) }
-    ensures told { IfOk result (TellsLeft (S.view space.old).system (prefixes tree.now (queued_entries queue.old))) }
+    ensures drops { DropsHopeless (S.view space.old).system tree.now (queued_entries queue.old)
+        (queued_entries queue.new) }
+    ensures told { IfOk result (TellsGoingOn (S.view space.old).system tree.now (queued_entries queue.new)) }
     ensures steps { steps.old ≤ steps.new }
 {
     let leading = reach(space, Side::Back, within)?;

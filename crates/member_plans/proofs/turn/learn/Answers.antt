@@ -4,7 +4,8 @@ use Rattle.prefix_tree.specs.declared.entry.Entry.{Entry}
 use Rattle.prefix_plans.specs.EndChildren.{IsEndEntry}
 use Rattle.member_laws.specs.Nodes.{CoversOpened}
 use Rattle.member_plans.specs.Front.{opened, waiting_members}
-use Rattle.member_plans.proofs.Beside.{join_each, right_each, ready_left, learned_beside}
+use Rattle.prefix_plans.proofs.Permuting.{join_each, right_each}
+use Rattle.member_plans.proofs.Beside.{ready_left, learned_beside}
 use Rattle.member_plans.proofs.Turning.{learned_covers, learned_less}
 use Rattle.member_plans.proofs.Walking.{follows_requeued, requeued, reranked_follows}
 use Rattle.member_plans.proofs.turn.learn.Goals as goal

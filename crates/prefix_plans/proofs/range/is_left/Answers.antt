@@ -1,4 +1,6 @@
+use Rattle.prefix_tree.specs.Entries.{queued_entries}
 use Rattle.prefix_plans.proofs.Dearest.{tells_leading}
+use Rattle.prefix_plans.proofs.Dropping.{drops_none}
 use Rattle.prefix_plans.proofs.range.is_left.Goals as goal
 
 pub some_goes_on-left-requires-clause-tells : goal.some_goes_on-left-requires-clause-tells

@@ -1,5 +1,5 @@
 -- Which of the moves from a state are enough.
-use Rattle.std.specs.Prelude.{◌≡◌, ℕ, Bool, true, false, not, List}
+use Rattle.std.specs.Prelude.{◌≡◌, ℕ, Bool, List}
 use Rattle.task_run.specs.Counted.{AreRulesOf}
 use Rattle.task_system.specs.System.{State, System}
 use Rattle.task_system.specs.Computed.{system_of}
@@ -25,8 +25,3 @@ HasMarks m n s = HasMarksAt m.kept.items n s
 -- the moves by marked operators are enough in each state whose marks are kept at this number
 abbrev pub AreMarksAt : Moves → ℕ → List Bool → Type 0
 AreMarksAt m n marks = (y : System) (s : State) → Serves m y → HasMarks m n s → Stubborn y (has_mark marks) s
-
--- the operators whose mark is this one
-abbrev pub is_taken : List Bool → Bool → ℕ → Bool
-is_taken marks true op = has_mark marks op
-is_taken marks false op = not (has_mark marks op)

@@ -25,8 +25,8 @@ mod joining;
 mod kept;
 mod keys;
 mod moves;
+mod nearer;
 mod opened;
-mod taking;
 mod turn;
 mod walk;
 

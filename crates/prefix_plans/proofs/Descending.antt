@@ -92,7 +92,7 @@ module _ {Set : Type 0} (v : View Set) (f : CostToGo Set) (z : IsCostToGo v f) (
         ]) new.0.ring
 
     some : 0 < near (farness e) kids
-    some = elim (children.all c.op c.leads.number) [
+    some = elim (children.all c.op c.leads.number refl) [
       | inl lost ↦ absurd (hopeful lost)
       | inr l ↦ near_kid v f nodes (farness e) (path_at nodes e.node ++ c.op ∷ []) kids closer children.each l
     ]

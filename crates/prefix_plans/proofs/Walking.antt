@@ -12,7 +12,7 @@ use Rattle.lazy_plans.proofs.Given.{turned_from, stays_trans}
 use Rattle.cost_to_go.specs.Standing.{next_key_of}
 use Rattle.cost_to_go.specs.declared.search.CostToGo.{CostToGo}
 use Rattle.lazy_plans.specs.Queue.{Right, Pending}
-use Rattle.lazy_plans.proofs.Owed.{memory_stops}
+use Rattle.lazy_plans.proofs.Shells.{memory_stops}
 use Rattle.lazy_plans.proofs.Turns as turns
 use Rattle.prefix_tree.specs.Entries.{queued_entries}
 use Rattle.prefix_tree.specs.declared.entry.Entry.{Entry}

@@ -24,6 +24,13 @@ pub record IsCostToGoAlone {Set : Type 0} (v : View Set) (f : CostToGo Set) : Ty
   pub search : IsCostToGo v f
   pub keeps : (a : Set) → Valid v a → IsBeneathToGo f a
 
+-- the search, the graph of states, the tree and an entry stand
+pub record EndEntryStands {Set : Type 0} (v : View Set) (f : CostToGo Set) (m : StateGraph) (nodes : List Node) (e : Entry) : Type 0 where
+  pub search : IsCostToGo v f
+  pub graph : IsStateGraph v.system m
+  pub tree : IsTree v.system TopK (states_of m) nodes
+  pub entry : IsEndEntry v f nodes e
+
 -- no plan goes on from the prefix, or the entry says of it what is known now
 abbrev pub IsBetterEnd : {Set : Type 0} → View Set → CostToGo Set → List Node → Entry → Option Entry → Type 0
 IsBetterEnd v f nodes e None = Hopeless v.system TopK (path_at nodes e.node)

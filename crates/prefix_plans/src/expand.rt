@@ -1,51 +1,42 @@
 //! The children of a prefix.
 
-ghost use Rattle.std.specs.Prelude.{◌≡◌, IfOk, length};
+ghost use Rattle.std.specs.Prelude.{◌≡◌, ◌<◌, IfOk, OnOk, IsSome, length};
 ghost use Rattle.symk_task.specs.declared.parts.Mode.TheVariants.{TopK};
 ghost use Rattle.space_api.specs.View.{View};
-ghost use Rattle.prefix_tree.specs.Tree.{IsTree, GrowsTree, path_at, end_at};
-ghost use Rattle.prefix_tree.specs.StateGraph.{states_of, IsStateGraph, AreGraphMoves};
+ghost use Rattle.prefix_tree.specs.Tree.{IsTree, GrowsTree, path_at, state_number_at};
+ghost use Rattle.prefix_tree.specs.StateGraph.{states_of, moves_at, IsStateGraph};
 ghost use Rattle.prefix_tree.specs.Entries.{HasQueueRoom, queued_entries};
-ghost use Rattle.cost_to_go.specs.Standing.{IsCostToGo};
 ghost use Rattle.prefix_plans.specs.EndChildren.{IsEndEntry};
 ghost use Rattle.prefix_plans.specs.Children.{ArePrefixChildren};
 ghost use Rattle.prefix_plans.specs.Standing.{PrefixFrontStands};
 
 use crate::front::Front;
 use crate::left::Heuristic;
-use crate::ranks::Ranks;
+use crate::taking::Taken;
 use cost_to_go::CostToGo;
-use prefix_tree::{Entry, Move, Node, find_moves, node_at};
+use prefix_tree::{Entry, Node, StateGraph, find_moves, node_at};
 use space_api::{Space, SpaceFault};
 use std::alloc::Global;
 
-/// The children by all moves from the end of the entry's prefix, which stand in the tree then.
-fn add_all<S: Space>(
+/// Finds the moves from the state where the entry's prefix ends, if they weren't found before, and tells its number.
+pub fn find_moves_at<S: Space>(
     alloc: Global,
-    heuristic: &Heuristic<S>,
-    ranks: &mut Ranks,
-    tree: &mut Vec<Node>,
+    space: &S,
+    graph: &mut StateGraph,
+    tree: &[Node],
     entry: Entry,
-    moves: &[Move],
-) -> Result<Vec<Entry>, SpaceFault>
-    requires search { IsCostToGo (S.view heuristic.now.space.now) heuristic.now.search.now }
-    requires graph { IsStateGraph (S.view heuristic.now.space.now).system heuristic.now.graph.now }
-    requires tree { IsTree (S.view heuristic.now.space.now).system TopK (states_of heuristic.now.graph.now)
-        tree.old.items }
-    requires entry { IsEndEntry (S.view heuristic.now.space.now) heuristic.now.search.now tree.old.items entry }
-    requires moves { AreGraphMoves (S.view heuristic.now.space.now).system (states_of heuristic.now.graph.now)
-        (end_at (states_of heuristic.now.graph.now) tree.old.items entry.node) moves.now }
-    ensures grows { GrowsTree (S.view heuristic.now.space.now).system TopK (states_of heuristic.now.graph.now)
-        tree.old.items tree.new.items }
-    ensures children { IfOk result (λ kids. ArePrefixChildren (S.view heuristic.now.space.now) heuristic.now.search.now
-        tree.new.items (path_at tree.old.items entry.node) (S.view heuristic.now.space.now).system.operators
-        kids.items) }
+) -> Result<usize, SpaceFault>
+    requires graph { IsStateGraph (S.view space.now).system graph.old }
+    requires tree { IsTree (S.view space.now).system TopK (states_of graph.old) tree.now }
+    requires inside { entry.node < length tree.now }
+    ensures graph { IsStateGraph (S.view space.now).system graph.new }
+    ensures tree { IsTree (S.view space.now).system TopK (states_of graph.new) tree.now }
+    ensures number { IfOk result (λ number. number ≡ state_number_at tree.now entry.node) }
+    ensures found { OnOk result (IsSome (moves_at graph.new (state_number_at tree.now entry.node))) }
 {
-    let mut children = Vec::new(alloc);
-    'moves: for step in moves {
-        ranks.add_child(alloc, heuristic, tree, entry, *step, &mut children)?;
-    }
-    Ok(children)
+    let here = node_at(tree, entry.node);
+    find_moves(alloc, space, graph, here.state)?;
+    Ok(here.state)
 }
 
 /// The children of an entry, which stand in the tree then, and for which the queue has room.
@@ -66,26 +57,15 @@ pub(crate) fn expand<S: Space>(
     ensures children { IfOk result (λ kids. ArePrefixChildren (S.view space.now) search.now front.new.tree.items
         (path_at front.old.tree.items entry.node) (S.view space.now).system.operators kids.items) }
 {
-    let here = node_at(&front.tree, entry.node);
-    find_moves(alloc, space, &mut front.graph, here.state)?;
-    match front.graph.moves_of(here.state) {
-        None => unreachable!(),
-        Some(moves) => {
-            let heuristic = Heuristic {
-                space,
-                search,
-                graph: &front.graph,
-            };
-            let children = add_all(
-                alloc,
-                &heuristic,
-                &mut front.ranks,
-                &mut front.tree,
-                entry,
-                moves,
-            )?;
-            front.queue.make_room(children.len())?;
-            Ok(children)
-        }
-    }
+    find_moves_at(alloc, space, &mut front.graph, &front.tree, entry)?;
+    let heuristic = Heuristic {
+        space,
+        search,
+        graph: &front.graph,
+    };
+    let children = front
+        .ranks
+        .add_children(alloc, &heuristic, &mut front.tree, entry, Taken::All)?;
+    front.queue.make_room(children.len())?;
+    Ok(children)
 }

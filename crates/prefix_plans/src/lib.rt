@@ -35,13 +35,16 @@ mod left;
 mod range;
 mod ranks;
 mod reach;
+mod taking;
 mod turn;
 mod turns;
 mod walk;
 
 pub use engine::PrefixPlans;
+pub use expand::find_moves_at;
 pub use knowing::{go_on, is_outdated, top_of};
 pub use leading::goes_on;
 pub use left::Heuristic;
 pub use range::is_left;
 pub use ranks::Ranks;
+pub use taking::Taken;

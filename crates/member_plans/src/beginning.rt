@@ -19,10 +19,9 @@ use crate::opened::Opened;
 use cost_to_go::CostToGo;
 use lazy_plans::Shell;
 use prefix_plans::Ranks;
-use prefix_tree::{Entry, Node, Queue, StateGraph, number_of_start};
-use space_api::{Space, goal_at};
+use prefix_tree::{Queue, empty_prefix};
+use space_api::Space;
 use std::alloc::Global;
-use std::cmp::Reverse;
 use symk_task::{Memory, Task};
 
 /// The empty prefix alone, which waits.
@@ -40,24 +39,7 @@ fn first_front<'a, S: Space>(
     ensures none { IfOk result (λ x. opened_places x ≡ []) }
     ensures keys { IfOk result (λ x. keys_of x.opened ≡ []) }
 {
-    let mut graph = StateGraph::new(alloc);
-    let start = number_of_start(alloc, space, &mut graph)?;
-    let at_goal = goal_at(alloc, space, graph.state(start))?;
-    let mut tree = Vec::new(alloc);
-    tree.push(Node {
-        parent: 0,
-        op: 0,
-        state: start,
-    })?;
-    let mut queue = Queue::new(alloc);
-    queue.push(Entry {
-        bound: Reverse(0),
-        cost: 0,
-        ring: Reverse(0),
-        node: 0,
-        settled: false,
-        at_goal,
-    })?;
+    let (graph, tree, queue) = empty_prefix(alloc, space)?;
     Ok(Front {
         graph,
         moves: Moves::new(alloc, task)?,

@@ -2,11 +2,12 @@ use Rattle.std.proofs.Common.{◌<◌, false, [], ◌∷◌, ◌++◌, ◌∙◌
 use Rattle.std.proofs.lemmas.List.{get_or_default}
 use Rattle.bdd_table.specs.Diagram.{means}
 use Rattle.bdd_table.proofs.Collecting.{closed_marks}
-use Rattle.certificates.proofs.Rebuilding.{rebuilt_none, rebuilt_more, root_kept}
+use Rattle.bdd_ops.proofs.Rebuilding.{rebuilt_none, rebuilt_more, root_kept}
+use Rattle.certificates.specs.Levels.{spread}
 use Rattle.certificates.proofs.moving.rebuilt.Goals as goal
 
 pub ids-init : goal.ids-init
-ids-init c = rebuilt_none c.args.old.now c.in_ok-wanted.wanted.items c.args.indexes.now c.args.ops.now
+ids-init c = rebuilt_none c.args.old.now c.in_ok-wanted.wanted.items (spread c.args.indexes.now) c.args.ops.now
     c.push-2.new.self.items c.held-held.ensures.reduced c.table.ensures.reduced
     (c.in_ok-push-2.ensures.items ∙ ap (λ (xs : List ℕ). xs ++ 1 ∷ [])
     (c.in_ok-push.ensures.items ∙ ap (λ (xs : List ℕ). xs ++ 0 ∷ []) c.new-ids.ensures.items))
@@ -19,7 +20,7 @@ ids-preserved c =
     let marks = c.in_ok-wanted.wanted.items in
     let as_long = c.in_ok-wanted.ensures.as_long in
     let inside : c.ids.id < length c.args.old.now = omega (arith, below, known) in
-    rebuilt_more c.args.old.now marks c.args.indexes.now c.args.ops.now c.ids.ops c.ids.ids.items c.ids.id
+    rebuilt_more c.args.old.now marks (spread c.args.indexes.now) c.args.ops.now c.ids.ops c.ids.ids.items c.ids.id
     c.held-held.ensures.reduced (closed_marks c.args.old.now (c.args.root ∷ []) marks c.in_ok-wanted.ensures)
     c.ids.invariant
     c.in_ok-new.new

@@ -16,11 +16,11 @@ use Rattle.task_run.proofs.Stepping.{operator_at}
 use Rattle.task_system.specs.Computed.{system_of}
 use Rattle.task_system.proofs.StatesLaw.{states_law}
 use Rattle.task_system.proofs.RunsLaw.{leads_law}
+use Rattle.task_system.proofs.StepLaw.{leads_on}
 use Rattle.stubborn_sets.specs.Commuting.{Commute}
 use Rattle.stubborn_sets.specs.Reading.{AreLocal, Untouched, value_after}
 use Rattle.stubborn_sets.specs.Meeting.{MeetAt, MeetEach, Meet, MeetOnAll}
 use Rattle.stubborn_sets.proofs.Values.{Unwritten, at_written, unwritten}
-use Rattle.stubborn_sets.proofs.Applying.{leads_on}
 use Rattle.stubborn_sets.proofs.Pair.{Allowed, Leaves, Touch, local_value, allowed_after, quiet, meet_at}
 
 -- the two may change places
@@ -110,8 +110,8 @@ module _ (task : TaskParts) (a b : ℕ) (one other : Operator) (fits : Fits task
       let leaves_other = leaves_by task s b other u is_other by_other.1 in
       let then_other = allowed_after task s t one other state fit_other first second leaves_one touch_one in
       let then_one = allowed_after task s u other one state fit_one second first leaves_other touch_other in
-      let v = leads_on task t b other fits state_t is_other (applies_by task t b other is_other then_other) in
-      let w = leads_on task u a one fits state_u is_one (applies_by task u a one is_one then_one) in
+      let v = leads_on task t b fits state_t (applies_by task t b other is_other then_other) in
+      let w = leads_on task u a fits state_u (applies_by task u a one is_one then_one) in
       let leaves_v = leaves_by task t b other v.0 is_other v.1.1 in
       let leaves_w = leaves_by task u a one w.0 is_one w.1.1 in
       let square : Square task one other s t u v.0 w.0 = record {

@@ -12,6 +12,5 @@ pub mod StubbornLaw
 pub mod Moving
 pub mod Agreeing
 pub mod Values
-pub mod Applying
 pub mod Pair
 pub mod CommuteLaw

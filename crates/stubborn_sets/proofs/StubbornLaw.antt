@@ -14,10 +14,9 @@ use Rattle.task_run.proofs.Applying.{applies_law}
 use Rattle.task_system.specs.System.{State, System, RunsInSystem}
 use Rattle.task_system.specs.Computed.{system_of}
 use Rattle.task_system.proofs.RunsLaw.{leads_law}
-use Rattle.task_system.proofs.StepLaw.{goal_law}
+use Rattle.task_system.proofs.StepLaw.{leads_on, goal_law}
 use Rattle.space_api.proofs.Runs.{run_split}
 use Rattle.stubborn_sets.specs.Commuting.{Commute}
-use Rattle.stubborn_sets.proofs.Applying.{leads_on}
 use Rattle.stubborn_sets.proofs.Pair.{Allowed}
 use Rattle.stubborn_sets.proofs.CommuteLaw.{allowed_by}
 use Rattle.stubborn_sets.specs.Stubborn.{IsApplicable, FirstOf, Stubborn}
@@ -118,7 +117,7 @@ module _ (task : TaskParts) (s values : List ℕ) (marks : List Bool) (fits : Fi
       → IsApplicable (system_of task) a s × AllByRecursion (Commute (system_of task) a) before
   first_needs a operator before later m t is (inl (applies, conflicts)) none runs rest =
       let fit = fits_operator task a operator fits is in
-      let to = leads_on task s a operator fits state is ((applies_law task s values a operator valued is fit).0 applies) in (
+      let to = leads_on task s a fits state ((applies_law task s values a operator valued is fit).0 applies) in (
         (to.0, (leads_law task s a to.0 fits state).1 to.1),
         both (λ b. b < length task.operators) (λ b. ¬ IsTrue (has_mark marks b)) (Commute (system_of task) a) before
             (λ b lt off. elim (conflicts b lt) [ inl it_is ↦ absurd (off it_is) | inr commute ↦ commute ])

@@ -135,6 +135,12 @@ made task s a fits state (Some operator) is = by (have_all values operator.preva
     by true t = record { leads = λ u e. (decides.0 t, (let same : target ≡ u = cc in subst (After task s a) same after)); applies = λ h. (target, refl) }
     by false t = record { leads = λ u e. (cc); applies = λ h. absurd (not_from_Decides _ decides t h) }
 
+-- an operator that applies leads from a state to another
+pub leads_on : (task : TaskParts) (s : List ℕ) (a : ℕ) → Fits task → IsState task s → Applies task s a → (t : List ℕ) × Step task s a t
+leads_on task s a fits state applies =
+    let m = made task s a fits state (slice_get task.operators a) refl in
+    let t = m.applies applies in (t.0, m.leads t.0 t.1)
+
 -- the step law: the operator leads to the state that the meaning of the task says, and nowhere else
 pub step_law : (task : TaskParts) (s : List ℕ) (a : ℕ) (t : List ℕ) → Fits task → IsState task s → (step task a s ≡ Some t) ↔ Step task s a t
 unfolding step

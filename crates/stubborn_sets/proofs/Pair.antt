@@ -13,10 +13,11 @@ use Rattle.symk_task.specs.Steps.{Holds, Fires, Allows, ValueAfter}
 use Rattle.symk_task.specs.Fits.{FitsOperator, InRange}
 use Rattle.symk_task.proofs.Layers.{base_derived, which}
 use Rattle.symk_task.proofs.OneState.{value_one}
+use Rattle.task_run.proofs.Effects.{after_like}
 use Rattle.stubborn_sets.specs.Reading.{ReadsBaseAlone, AllowsValue, AreLocal, Ignores, Untouched, value_after}
 use Rattle.stubborn_sets.specs.Meeting.{MeetAt, MeetEach}
 use Rattle.stubborn_sets.proofs.Agreeing.{Agree, RulesAgree, holds_to, holds_same}
-use Rattle.stubborn_sets.proofs.Values.{Unwritten, unwritten, after_like, FiresAt, computed}
+use Rattle.stubborn_sets.proofs.Values.{Unwritten, unwritten, FiresAt, computed}
 
 -- what the operator asks for holds
 pub record Allowed (task : TaskParts) (s : List ℕ) (operator : Operator) : Type 0 where

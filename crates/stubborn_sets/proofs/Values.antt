@@ -1,12 +1,13 @@
 -- What a variable has after effects.
-use Rattle.std.proofs.Common.{◌≡◌, ◌≢◌, ℕ, ◌⊎◌, ◌↔◌, inl, inr, Bool, true, false, cond, ◌==◌, List, [], ◌∷◌, ◌++◌, fold, refl, subst}
+use Rattle.std.proofs.Common.{◌≡◌, ◌≢◌, ℕ, ◌⊎◌, inl, inr, Bool, true, false, cond, ◌==◌, List, [], ◌∷◌, ◌++◌, fold, refl, subst}
 use Rattle.std.specs.Bool.{Decides}
 use Rattle.std.specs.List.{All, AllByRecursion, list_all}
 use Rattle.std.proofs.lemmas.Bool.{cases_eq}
 use Rattle.std.proofs.lemmas.Bool.Decides.{Decides-eqb, Decides-and, Decides-by_and, not_from_Decides}
 use Rattle.symk_task.specs.declared.parts.Fact.{Fact}
 use Rattle.symk_task.specs.declared.parts.Effect.{Effect}
-use Rattle.symk_task.specs.Steps.{NoneOn, LastOn, ValueAfter}
+use Rattle.symk_task.specs.Steps.{LastOn, ValueAfter}
+use Rattle.task_run.proofs.Effects.{parts}
 use Rattle.stubborn_sets.specs.Reading.{fires_at, value_after}
 
 -- no effect is on var
@@ -30,41 +31,9 @@ pub unwritten : (F : Effect → Type 0) (effects : List Effect) (var old new : �
 unwritten F effects var old new none (inl (last, l, e)) = absurd (on_none var l.before l.later last (subst (Unwritten var) l.here none) l.on)
 unwritten F effects var old new none (inr h) = h.1
 
-parts : (P : Effect → Type 0) (before later : List Effect) (last : Effect) → AllByRecursion P (before ++ last ∷ later) → P last × AllByRecursion P later
-parts P [] later last h = h
-parts P (e ∷ before) later last h = parts P before later last h.1
-
 -- what holds of each holds of one
 pub at_last : (P : Effect → Type 0) (before later : List Effect) (last : Effect) → AllByRecursion P (before ++ last ∷ later) → P last
 at_last P before later last h = (parts P before later last h).0
-
-none_like : (F G : Effect → Type 0) (effects : List Effect) (var : ℕ)
-    → AllByRecursion (λ effect. effect.var ≡ var → F effect ↔ G effect) effects
-    → NoneOn F var effects → NoneOn G var effects
-none_like F G [] var like h = tt
-none_like F G (e ∷ effects) var like h = ((λ on g. h.0 on ((like.0 on).1 g)), none_like F G effects var like.1 h.1)
-
--- where the effects on var fire alike, it has the same
-pub after_like : (F G : Effect → Type 0) (effects : List Effect) (var old new : ℕ)
-    → AllByRecursion (λ effect. effect.var ≡ var → F effect ↔ G effect) effects → ValueAfter F effects var old new
-    → ValueAfter G effects var old new
-after_like F G effects var old new like (inl (last, l, e)) =
-    let both = parts (λ (effect : Effect). effect.var ≡ var → F effect ↔ G effect) l.before l.later last
-    (subst (AllByRecursion (λ (effect : Effect). effect.var ≡ var → F effect ↔ G effect)) l.here like) in
-    inl (
-      last,
-      record {
-        before = l.before;
-        later = l.later;
-        here = l.here;
-        on = l.on;
-        fires =
-            (both.0 l.on).0 l.fires;
-        none = none_like F G l.later var both.1 l.none;
-      },
-      e,
-    )
-after_like F G effects var old new like (inr h) = inr (none_like F G effects var like h.0, h.1)
 
 -- Effects by one value.
 

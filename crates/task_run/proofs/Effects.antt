@@ -1,5 +1,5 @@
 -- What effects do, one after the other.
-use Rattle.std.proofs.Common.{◌≡◌, ℕ, ◌+◌, ◌<◌, ◌≢◌, inl, inr, List, [], ◌∷◌, ◌++◌, length, take, get_or, refl, sym, ap, subst, ◌∙◌, append_assoc}
+use Rattle.std.proofs.Common.{◌≡◌, ℕ, ◌+◌, ◌<◌, ◌≢◌, ◌↔◌, inl, inr, List, [], ◌∷◌, ◌++◌, length, take, get_or, refl, sym, ap, subst, ◌∙◌, append_assoc}
 use Rattle.std.proofs.Math.ListN.{set}
 use Rattle.std.proofs.lemmas.Bool.{cases_eq}
 use Rattle.std.proofs.lemmas.List.{get_or-set_same, get_or-set_other, take_more}
@@ -53,34 +53,36 @@ one_more F es i e var old new within is h =
     let t : take (i + 1) es ≡ take i es ++ e ∷ [] = take_more es i e within ∙ ap (λ (z : Effect). take i es ++ z ∷ []) (sym is) in
     subst (λ (z : List Effect). ValueAfter F z var old new) (sym t) h
 
--- The same, where the effects of the list fire under both facts alike.
+-- The same, where effects fire under both facts alike.
 
-all_parts : {X : Type 0} (P : X → Type 0) (xs ys : List X) → AllByRecursion P (xs ++ ys) → AllByRecursion P xs × AllByRecursion P ys
-all_parts P [] ys h = (tt, h)
-all_parts P (x ∷ xs) ys h = (let r = all_parts P xs ys h.1 in ((h.0, r.0), r.1))
+pub parts : (P : Effect → Type 0) (before later : List Effect) (last : Effect) → AllByRecursion P (before ++ last ∷ later) → P last × AllByRecursion P later
+parts P [] later last h = h
+parts P (e ∷ before) later last h = parts P before later last h.1
 
-none_as : (F G Fit : Effect → Type 0) (var : ℕ) (es : List Effect) → AllByRecursion Fit es
-    → ((e : Effect) → Fit e → G e → F e) → NoneOn F var es → NoneOn G var es
-none_as F G Fit var [] fit back h = tt
-none_as F G Fit var (e ∷ es) fit back h = (λ on g. h.0 on (back e fit.0 g), none_as F G Fit var es fit.1 back h.1)
+none_like : (F G : Effect → Type 0) (effects : List Effect) (var : ℕ)
+    → AllByRecursion (λ effect. effect.var ≡ var → F effect ↔ G effect) effects
+    → NoneOn F var effects → NoneOn G var effects
+none_like F G [] var like h = tt
+none_like F G (e ∷ effects) var like h = ((λ on g. h.0 on ((like.0 on).1 g)), none_like F G effects var like.1 h.1)
 
-pub after_as : (F G Fit : Effect → Type 0) (es : List Effect) (var old new : ℕ) → AllByRecursion Fit es
-    → ((e : Effect) → Fit e → F e → G e) → ((e : Effect) → Fit e → G e → F e) → ValueAfter F es var old new
-    → ValueAfter G es var old new
-after_as F G Fit es var old new fit to back (inl p) =
-    let l = p.1 in
-    let parts = all_parts Fit l.before (p.0 ∷ l.later) (subst (AllByRecursion Fit) l.here fit) in
+-- where the effects on var fire alike, it has the same
+pub after_like : (F G : Effect → Type 0) (effects : List Effect) (var old new : ℕ)
+    → AllByRecursion (λ effect. effect.var ≡ var → F effect ↔ G effect) effects → ValueAfter F effects var old new
+    → ValueAfter G effects var old new
+after_like F G effects var old new like (inl (last, l, e)) =
+    let both = parts (λ (effect : Effect). effect.var ≡ var → F effect ↔ G effect) l.before l.later last
+    (subst (AllByRecursion (λ (effect : Effect). effect.var ≡ var → F effect ↔ G effect)) l.here like) in
     inl (
-      p.0,
+      last,
       record {
         before = l.before;
         later = l.later;
         here = l.here;
         on = l.on;
         fires =
-            to p.0 parts.1.0 l.fires;
-        none = none_as F G Fit var l.later parts.1.1 back l.none;
+            (both.0 l.on).0 l.fires;
+        none = none_like F G l.later var both.1 l.none;
       },
-      p.2,
+      e,
     )
-after_as F G Fit es var old new fit to back (inr p) = inr (none_as F G Fit var es fit back p.0, p.1)
+after_like F G effects var old new like (inr h) = inr (none_like F G effects var like h.0, h.1)

@@ -1,5 +1,5 @@
 -- The state after an operator.
-use Rattle.std.proofs.Common.{◌≡◌, ℕ, ◌<◌, inl, List, length, get_or, Option, Some, None, Result, Ok, Err, IfOk, IsSomeAnd, IfSome, slice_get, refl, sym, ap, subst, ◌∙◌, arith}
+use Rattle.std.proofs.Common.{◌≡◌, ℕ, ◌<◌, ◌↔◌, inl, List, length, get_or, Option, Some, None, Result, Ok, Err, IfOk, IsSomeAnd, IfSome, slice_get, refl, sym, ap, subst, ◌∙◌, arith}
 use Rattle.std.proofs.lemmas.Option.{slice_get_read}
 use Rattle.std.specs.List.{All}
 use Rattle.std.proofs.lemmas.List.Elements.{recursion_from_All}
@@ -12,7 +12,7 @@ use Rattle.symk_task.specs.Fits.{FitsEffect, FitsOperator, Fits}
 use Rattle.symk_task.specs.Steps.{Fires, ValueAfter, After}
 use Rattle.symk_task.specs.Variables.{base_values}
 use Rattle.task_run.specs.Values.{Valued, FiresBy, IsOn}
-use Rattle.task_run.proofs.Effects.{after_as}
+use Rattle.task_run.proofs.Effects.{after_like}
 use Rattle.symk_task.proofs.Places.{within_some, base_length, value_at}
 
 both : {X : Type 0} (P Q : X → Type 0) (o : Option X) → IsSomeAnd o P → IfSome o (λ x. P x → Q x) → IsSomeAnd o Q
@@ -38,11 +38,14 @@ step_after {task} {s} a {operator} {values} next state is fit valued after same 
           (valued.holds (record { var = var; val = get_or s (place task var) 0 }) within).0
           (inl (base, refl)) in
           let new : get_or (base_values task.variables next) (place task var) 0 ≡ get_or next var 0 = value_at task.variables next var far base in
-          let moved = after_as (FiresBy values) (Fires task s) (FitsEffect task.variables) operator.effects var
-          (get_or values var 0) (get_or next var 0) (recursion_from_All (FitsEffect task.variables)
-          operator.effects fit)
-          (λ e f h. λ k d lt. (valued.holds (get_or e.conds k d) (f.conds.1 k d lt)).1 (h k d lt))
-          (λ e f h. λ k d lt. (valued.holds (get_or e.conds k d) (f.conds.1 k d lt)).0 (h k d lt)) (after var) in
+          let like = recursion_from_All (λ (e : Effect). e.var ≡ var → FiresBy values e ↔ Fires task s e) operator.effects
+          (λ n x less on.
+          let e = get_or operator.effects n x in
+          let f = fit n x less in (
+            (λ h. λ k d lt. (valued.holds (get_or e.conds k d) (f.conds.1 k d lt)).1 (h k d lt)),
+            (λ h. λ k d lt. (valued.holds (get_or e.conds k d) (f.conds.1 k d lt)).0 (h k d lt)),
+          )) in
+          let moved = after_like (FiresBy values) (Fires task s) operator.effects var (get_or values var 0) (get_or next var 0) like (after var) in
           subst (λ (z : ℕ). ValueAfter (Fires task s) operator.effects var z (get_or (base_values task.variables next) (place task var) 0)) old
           (subst (λ (z : ℕ). ValueAfter (Fires task s) operator.effects var (get_or values var 0) z) (sym new) moved));
     }

@@ -9,7 +9,7 @@ use Rattle.symk_task.specs.declared.parts.Operator.{Operator}
 use Rattle.symk_task.specs.Variables.{range, width, doublings}
 use Rattle.symk_task.specs.Fits.{IsName, InRange, AreFacts, bits_of, FitsVariable, FitsEffect, FitsOperator, FitsRule, MayStand, Fits}
 use Rattle.small_tasks.specs.Tasks.{base, fact, change, idle, plain, lamp, either, any_of_three, a_or_b, done_at, swap, made, two_effects, one_switch, switch_and_back, two_switches, axioms, goal_at_start, no_operator, no_plan, zero_costs, conditional_effects, later_effect_undoes, later_effect_reaches, past_64_bits, near_and_far, same_name_twice}
-use Rattle.small_tasks.proofs.Names.{goes_on, literal}
+use Rattle.symk_task.proofs.Names.{goes_on, literal}
 
 facts : (variables : List Variable) (fs : List Fact) → length fs ≤ 65536 → AllByRecursion (InRange variables) fs → AreFacts variables fs
 facts variables fs few each = (few, All-from_recursion (InRange variables) fs each)

@@ -6,3 +6,4 @@ pub mod Starting
 pub mod Running
 pub mod Layers
 pub mod Closing
+pub mod Names

@@ -1,8 +1,7 @@
 -- The task of the switches fits.
-use Rattle.std.proofs.Common.{◌≡◌, ◌≢◌, ℕ, zero, suc, ◌+◌, ◌*◌, ◌^◌, ◌<◌, ◌≤◌, ◌%◌, inl, List, [], ◌∷◌, ◌++◌, length, get_or, replicate, Option, Some, None, refl, sym, ap, ◌∙◌, subst, arith, lit<, lit≤}
-use Rattle.std.specs.Prelude.{Bool, true, false, cond, All, Contains, slice_get, slice_index, IfSome, IsSomeAnd, sum_by, codes, decimal, not, ◌==◌}
+use Rattle.std.proofs.Common.{◌≡◌, ℕ, zero, suc, ◌+◌, ◌*◌, ◌^◌, ◌<◌, ◌≤◌, ◌%◌, inl, List, [], ◌∷◌, ◌++◌, length, get_or, replicate, Option, Some, None, refl, sym, ap, ◌∙◌, subst, arith, lit<, lit≤}
+use Rattle.std.specs.Prelude.{true, All, Contains, slice_get, slice_index, IfSome, IsSomeAnd, sum_by, codes, decimal}
 use Rattle.std.specs.List.{AllByRecursion}
-use Rattle.std.proofs.lemmas.Bool.{false≢true, eqb-false}
 use Rattle.std.proofs.lemmas.Option.{slice_get-get_or}
 use Rattle.std.proofs.lemmas.List.{get_or_append_left, get_or_push, length_push, length-replicate}
 use Rattle.std.proofs.lemmas.List.Elements.{All-nil, All-cons, All-push, All-append, All-head, All-tail, All-from_recursion}
@@ -15,11 +14,9 @@ use Rattle.symk_task.specs.declared.parts.Operator.{Operator}
 use Rattle.symk_task.specs.declared.parts.Rule.{Rule}
 use Rattle.symk_task.specs.Variables.{range, width, doublings, IsBase, HasLayer}
 use Rattle.symk_task.specs.Fits.{IsName, InRange, AreFacts, bits_of, FitsRange, FitsVariable, FitsEffect, FitsOperator, FitsRule, MayStand, Fits}
+use Rattle.symk_task.proofs.Names.{NotEnd, goes_on, by_test, literal}
 use Rattle.task_gen.specs.Switches.{up_to, switch_fact, switched_on, switch, all_on, variables, effect, flip, rule, switches}
 use Rattle.task_gen.proofs.Counting.{length_up_to, get_up_to, All_up_to, sum_up_to}
-
-abbrev NotEnd : ℕ → Type 0
-NotEnd b = b ≢ 10
 
 name_of : (name : List ℕ) → All NotEnd name → IsName name
 name_of name each = record { line = (λ (k, lt, e). each k 10 lt e) }
@@ -29,23 +26,6 @@ digits_go_on n fits = decimal_by_steps (λ _ ds. All NotEnd ds)
     (λ d h. All-cons NotEnd (48 + d) [] (λ e. absurd (omega arith)) (All-nil NotEnd))
     (λ m ds h each. All-push NotEnd ds (48 + m % 10) each (λ e. absurd (omega arith)))
     n fits
-
--- no byte of the list is LF
-goes_on : List ℕ → Bool
-goes_on [] = true
-goes_on (b ∷ bs) = cond (b == 10) false (goes_on bs)
-
-line_more : (t : Bool) (b : ℕ) (bs : List ℕ) → (b == 10) ≡ t → cond t false (goes_on bs) ≡ true → (goes_on bs ≡ true → All NotEnd bs) → All NotEnd (b ∷ bs)
-line_more true b bs e h rest = absurd (false≢true h)
-line_more false b bs e h rest = All-cons NotEnd b bs (eqb-false b 10 e) (rest h)
-
-by_test : (name : List ℕ) → goes_on name ≡ true → All NotEnd name
-unfolding goes_on
-by_test [] h = All-nil NotEnd
-by_test (b ∷ bs) h = line_more (b == 10) b bs refl h (by_test bs)
-
-literal : (name : List ℕ) → goes_on name ≡ true → IsName name
-literal name h = name_of name (by_test name h)
 
 numbered : (front : List ℕ) (i : ℕ) → goes_on front ≡ true → i < 64 → IsName (front ++ decimal i)
 numbered front i h lt = name_of _ (All-append NotEnd front (decimal i) (by_test front h) (digits_go_on i (omega arith)))

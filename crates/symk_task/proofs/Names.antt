@@ -5,7 +5,7 @@ use Rattle.std.proofs.lemmas.Bool.{false≢true, eqb-false}
 use Rattle.std.proofs.lemmas.List.Elements.{All-nil, All-cons}
 use Rattle.symk_task.specs.Fits.{IsName}
 
-abbrev NotEnd : ℕ → Type 0
+abbrev pub NotEnd : ℕ → Type 0
 NotEnd b = b ≢ 10
 
 -- no byte of the list is LF
@@ -17,7 +17,7 @@ line_more : (t : Bool) (b : ℕ) (bs : List ℕ) → (b == 10) ≡ t → cond t 
 line_more true b bs e h rest = absurd (false≢true h)
 line_more false b bs e h rest = All-cons NotEnd b bs (eqb-false b 10 e) (rest h)
 
-by_test : (name : List ℕ) → goes_on name ≡ true → All NotEnd name
+pub by_test : (name : List ℕ) → goes_on name ≡ true → All NotEnd name
 unfolding goes_on
 by_test [] h = All-nil NotEnd
 by_test (b ∷ bs) h = line_more (b == 10) b bs refl h (by_test bs)

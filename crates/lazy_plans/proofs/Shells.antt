@@ -1,6 +1,8 @@
--- What is owed with the plan that a shell holds is fair and computed; what a shell hands out.
+-- The shell of an engine before its first call, at one, and after its last: what is owed with the plan that it holds is fair
+-- and computed, and so is what it hands out.
 use Rattle.std.proofs.Common.{◌≡◌, ℕ, ◌⊎◌, inl, inr, Bool, true, false, ◌||◌, IsTrue, List, Option, Some, None, Result, Ok, Err, refl, sym, ◌∙◌, ap, subst}
-use Rattle.std.specs.Prelude.{IfOk}
+use Rattle.std.specs.Prelude.{IfOk, OnOk}
+use Rattle.std.specs.Result.{is_ok}
 use Rattle.std.specs.Bool.{Decides}
 use Rattle.std.proofs.lemmas.Bool.Decides.{Decides-or, Decides-like}
 use Rattle.symk_task.specs.declared.parts.Mode.{Mode}
@@ -8,11 +10,12 @@ use Rattle.task_system.specs.System.{System, IsSystemPlanOf, are_equal}
 use Rattle.lazy_plans.specs.Law.{Gave, PendsAlike, MayStop, Turned, Fair, Last, last_of}
 use Rattle.lazy_plans.specs.declared.stop.Stop.{Stop}
 use Rattle.lazy_plans.specs.declared.stop.Stop.TheVariants.{Memory}
+use Rattle.lazy_plans.specs.declared.stop.Ending.{Ending}
 use Rattle.lazy_plans.specs.declared.stop.Ending.TheVariants.{Exhausted, StoppedBy}
 use Rattle.lazy_plans.specs.declared.shell.Shell.{Shell}
 use Rattle.lazy_plans.specs.Queue.{IsByList}
-use Rattle.lazy_plans.specs.Shell.{OwesHeld, tells_held, IsHeld, shell_answer, shell_keeps, HandsOut, ShellAnswers}
-use Rattle.lazy_plans.proofs.Given.{turned_from, ended_by}
+use Rattle.lazy_plans.specs.Shell.{OwesHeld, tells_held, IsHeld, IsNewShell, IsShellSound, shell_answer, shell_keeps, HandsOut, ShellAnswers}
+use Rattle.lazy_plans.proofs.Given.{turned_from, ended_by, again}
 use Rattle.lazy_plans.proofs.Told.{equal_is, equal_self}
 
 equal_told : (p q : List ℕ) → Decides (are_equal p q) (p ≡ q)
@@ -164,3 +167,40 @@ module _ (y : System) (m : Mode) (a b : List ℕ → Type 0) (tidy : Type 0) (x 
   answers_found by_list plans found tidied law hands t = sound (shell_answer found tidied) (shell_keeps found tidied) hands
       (found_law y m x.most a b by_list found tidied law) (found_fine y m x.most a b plans found tidied law)
       (found_room tidy found tidied t)
+
+-- what a call promises where it isn't refused
+pub on_done : {T E P : Type 0} (r : Result T E) → OnOk r P → is_ok r ≡ true → P
+on_done (Ok x) p e = p
+on_done (Err x) p e = absurd (never e)
+  where
+    never : false ≡ true → ⊥
+    never e = cc
+
+none_some : (e : Ending) → None ≡ Some e → ⊥
+none_some e is = cc
+
+-- the space is tidy yet where None is answered again
+room_again : (tidy : Type 0) (r : Result (Option (List ℕ)) Stop) (e : Ending) → last_of r ≡ Some e → (Some e ≡ Some Exhausted → tidy)
+    → IfOk r (λ o. tidy)
+room_again tidy (Ok None) e is room = room (sym is)
+room_again tidy (Ok (Some p)) e is room = absurd (none_some e is)
+room_again tidy (Err s) e is room = tt
+
+module _ (y : System) (m : Mode) (owed : List ℕ → Type 0) (tidy : Type 0) (x : Shell) where
+  -- nothing was asked of it yet
+  pub new_sound : (most : Option ℕ) → IsNewShell most x → IsShellSound y m owed tidy x
+  new_sound most new = record {
+    holds = rw new.free tt;
+    said = rw new.goes_on tt;
+    room = λ e. absurd (none_some Exhausted (sym new.goes_on ∙ e));
+  }
+
+  -- the answer that ended it is given again
+  pub answers_again : IsShellSound y m owed tidy x → (r : Result (Option (List ℕ)) Stop) (e : Ending)
+      → x.ended ≡ Some e → last_of r ≡ Some e → ShellAnswers y m owed owed tidy x x r
+  answers_again s r e at is = record {
+    sound = s;
+    law = again y m x.most (OwesHeld owed x.held) r e is (rw at at s.said);
+    last = at ∙ sym is;
+    room = room_again tidy r e is (λ same. s.room (at ∙ same));
+  }

@@ -13,7 +13,7 @@ use Rattle.lazy_plans.proofs.Turns.{first_right, first_pends}
 use Rattle.prefix_tree.specs.StateGraph.{states_of}
 use Rattle.prefix_tree.specs.EmptyPrefix.{EmptyWaits}
 use Rattle.prefix_tree.proofs.EmptyPrefix.{inside_first, path_first, plan_first, prefixes_first, tree_first}
-use Rattle.prefix_tree.proofs.Shells.{new_sound}
+use Rattle.lazy_plans.proofs.Shells.{new_sound}
 use Rattle.loopless.specs.declared.front.Front.{Front}
 use Rattle.loopless.specs.Rests.{AreKeptRests}
 use Rattle.loopless.specs.Children.{IsEntry}

@@ -10,7 +10,7 @@ use Rattle.lazy_plans.specs.Shell.{shell_most, shell_held, IsNewShell}
 use Rattle.lazy_plans.specs.Queue.{Right, Pending}
 use Rattle.lazy_plans.specs.PrefixesOwe.{OwesByPrefix}
 use Rattle.lazy_plans.proofs.Turns.{first_right, first_pends}
-use Rattle.prefix_tree.proofs.Shells.{new_sound}
+use Rattle.lazy_plans.proofs.Shells.{new_sound}
 use Rattle.prefix_plans.specs.Owned.{IsTidyEndSpace}
 use Rattle.prefix_plans.specs.Standing.{waiting_prefixes, PrefixFrontStands}
 use Rattle.prefix_plans.specs.declared.front.Front.{Front}

@@ -7,4 +7,3 @@ pub mod Entries
 pub mod Going
 pub mod First
 pub mod EmptyPrefix
-pub mod Shells

@@ -13,8 +13,7 @@ use Rattle.lazy_plans.specs.Shell.{OwesHeld, IsShellSound, IsNewShell, HandsOut,
 use Rattle.lazy_plans.specs.declared.shell.Shell.{Shell}
 use Rattle.lazy_plans.specs.declared.stop.Stop.{Stop}
 use Rattle.lazy_plans.specs.declared.stop.Ending.{Ending}
-use Rattle.lazy_plans.specs.declared.stop.Ending.TheVariants.{Exhausted}
-use Rattle.lazy_plans.proofs.Shells.{owes_pends, turned_to, answers_stop, answers_found}
+use Rattle.lazy_plans.proofs.Shells.{owes_pends, turned_to, answers_stop, answers_found, new_sound}
 use Rattle.reconstruct.specs.Expansions.{RemembersNone}
 use Rattle.reconstruct.proofs.Remembering.{right_empty}
 use Rattle.reconstruct.proofs.Staying.{right_kept}
@@ -120,22 +119,15 @@ turns_again now (Err s) e is = tt
 pub engine_begins : {Set P : Type 0} {most : Option ℕ} {within : Option Set} {u v : View Set} {both : Both Set P} {x : Shell}
     (agenda : Agenda Set) → IsReadyFor u within → Trades u v (λ a. ⊥) (IsOwnOf both) → IsBoth v both
     → agenda.listed ≡ None → agenda.queue ≡ [] → RemembersNone agenda.memo → IsNewShell most x → IsSound v both within agenda x
-engine_begins {Set = Set} {within = within} {u = u} {v = v} {both = both} agenda start t stands first empty none new = record {
+engine_begins {Set = Set} {most = most} {within = within} {u = u} {v = v} {both = both} {x = x} agenda start t stands first empty none new = record {
   ready = record {
     working = record { stands = stands; at = rw first empty; moves = right_empty v (back_layers both) agenda.memo none };
     range = rw first tt;
     keeps = λ a h. elim (t.only a h) [ inl o ↦ inl (inl o) | inr k ↦ kept_first within start a k ];
   };
-  shell = record {
-    holds = rw new.free tt;
-    said = rw new.goes_on tt;
-    room = λ e. absurd (none_some (sym new.goes_on ∙ e));
-  };
+  shell = new_sound v.system TopK (OwedBy v both agenda) (IsTidyCutSpace v) x most new;
 }
   where
-    none_some : None ≡ Some Exhausted → ⊥
-    none_some e = cc
-
     kept_first : (o : Option Set) → IsReadyFor u o → (a : Set) → Valid u a → IsKeptByCuts both o agenda.queue a
     kept_first None r a k = absurd (valid_clash k (r a))
     kept_first (Some b) r a k = inr (some_is (r.1 a k))

@@ -1,8 +1,7 @@
 use Rattle.std.proofs.Common.{sym, ◌∙◌}
 use Rattle.symk_task.specs.declared.parts.Mode.TheVariants.{Loopless}
 use Rattle.lazy_plans.specs.Shell.{shell_held}
-use Rattle.lazy_plans.proofs.Shells.{none_held}
-use Rattle.prefix_tree.proofs.Shells.{on_done}
+use Rattle.lazy_plans.proofs.Shells.{none_held, on_done}
 use Rattle.loopless.specs.Engine.{loopless_system}
 use Rattle.loopless.proofs.Asks.{ready_stays, stopped, handed}
 use Rattle.loopless.proofs.engine.LooplessPlans.ask.Goals as goal

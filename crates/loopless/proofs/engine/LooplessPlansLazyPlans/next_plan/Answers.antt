@@ -1,6 +1,6 @@
 use Rattle.std.proofs.Common.{sym, ◌∙◌}
 use Rattle.symk_task.specs.declared.parts.Mode.TheVariants.{Loopless}
-use Rattle.prefix_tree.proofs.Shells.{answers_again}
+use Rattle.lazy_plans.proofs.Shells.{answers_again}
 use Rattle.loopless.specs.Engine.{loopless_system, QueuesLoopless, HasLooplessRoom}
 use Rattle.loopless.proofs.engine.LooplessPlansLazyPlans.next_plan.Goals as goal
 

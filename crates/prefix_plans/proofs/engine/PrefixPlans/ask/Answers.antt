@@ -1,9 +1,8 @@
 use Rattle.std.proofs.Common.{sym, ◌∙◌}
 use Rattle.symk_task.specs.declared.parts.Mode.TheVariants.{TopK}
 use Rattle.lazy_plans.specs.Shell.{shell_held}
-use Rattle.lazy_plans.proofs.Shells.{none_held}
+use Rattle.lazy_plans.proofs.Shells.{none_held, on_done}
 use Rattle.prefix_tree.specs.Entries.{queued_entries}
-use Rattle.prefix_tree.proofs.Shells.{on_done}
 use Rattle.prefix_plans.specs.Engine.{prefix_system}
 use Rattle.prefix_plans.proofs.Moving.{ready_stays}
 use Rattle.prefix_plans.proofs.Asks.{stopped, handed}

@@ -1,6 +1,6 @@
 use Rattle.std.proofs.Common.{sym, ◌∙◌}
 use Rattle.symk_task.specs.declared.parts.Mode.TheVariants.{TopK}
-use Rattle.prefix_tree.proofs.Shells.{answers_again}
+use Rattle.lazy_plans.proofs.Shells.{answers_again}
 use Rattle.prefix_plans.specs.Engine.{prefix_system, QueuesPrefix, HasPrefixRoom}
 use Rattle.prefix_plans.proofs.engine.PrefixPlansLazyPlans.next_plan.Goals as goal
 

@@ -15,14 +15,14 @@ use Rattle.loopless.specs.Rests.{AreKeptRests}
 use Rattle.prefix_tree.specs.Tree.{IsTree, path_at}
 use Rattle.prefix_tree.specs.declared.tree.Node.{Node}
 use Rattle.prefix_tree.specs.declared.entry.Entry.{Entry}
-use Rattle.prefix_tree.specs.Entries.{queued_entries}
+use Rattle.prefix_tree.specs.Entries.{queued_entries, entry_alone}
 use Rattle.prefix_tree.specs.declared.queue.Queue.{Queue}
 use Rattle.symk_task.specs.declared.parts.Mode.TheVariants.{Loopless}
 use Rattle.prefix_tree.proofs.Entries.{first_is, replaced_by, each_new}
 use Rattle.loopless.specs.Children.{IsEntry}
 use Rattle.loopless.specs.Front.{waiting, prefixes_of, IsLooplessFirst}
 use Rattle.loopless.specs.Told.{IsInformed}
-use Rattle.loopless.specs.Standing.{MovedBackward, IsBetter, IsLooplessReady, GoesOnLoopless, listed_of}
+use Rattle.loopless.specs.Standing.{MovedBackward, IsBetter, IsLooplessReady, GoesOnLoopless}
 use Rattle.loopless.proofs.Inside.{alone_moved}
 use Rattle.loopless.proofs.Turning.{stale_new, goes}
 
@@ -66,22 +66,22 @@ module _ {Set : Type 0} (v : View Set) (b : Backward Set) (f : Front) (q : Queue
   good : Good v.system Loopless (path_at f.tree.items e.node)
   good = good_at v.system (states_of f.graph) f.tree.items e z.tree (first_is (IsEntry v.system f.tree.items) (waiting f) e first.some first.at z.each)
 
-  each_of : (k : Option Entry) → IsBetter v.system f.tree.items e k → AllByRecursion (IsEntry v.system f.tree.items) (listed_of k)
+  each_of : (k : Option Entry) → IsBetter v.system f.tree.items e k → AllByRecursion (IsEntry v.system f.tree.items) (entry_alone k)
   each_of None h = tt
   each_of (Some k) h = (h.1, tt)
 
   pub learned_ready : (o : Option Entry) → IsBetter v.system f.tree.items e o →
-      IsPermutation (waiting f ++ listed_of o) (e ∷ queued_entries q) → IsLooplessReady v b new
+      IsPermutation (waiting f ++ entry_alone o) (e ∷ queued_entries q) → IsLooplessReady v b new
   learned_ready o better perm = record {
     alone = z.alone;
     graph = z.graph;
     kept = z.kept;
     tree = z.tree;
-    each = each_new (waiting f) (listed_of o) (queued_entries q) e perm (IsEntry v.system f.tree.items) z.each (each_of o better);
+    each = each_new (waiting f) (entry_alone o) (queued_entries q) e perm (IsEntry v.system f.tree.items) z.each (each_of o better);
   }
 
   pub learned_goes : (o : Option Entry) → IsBetter v.system f.tree.items e o →
-      IsPermutation (waiting f ++ listed_of o) (e ∷ queued_entries q) → GoesOnLoopless v.system f new
+      IsPermutation (waiting f ++ entry_alone o) (e ∷ queued_entries q) → GoesOnLoopless v.system f new
   learned_goes None lost perm most right =
       let path = path_at f.tree.items e.node in
       goes v.system f new [] e refl perm first good (turns.none_come v.system Loopless path lost)

@@ -79,11 +79,6 @@ pub record IsGrown (y : System) (f h : Front) : Type 0 where
   pub tree : GrowsTree y Loopless (states_of h.graph) f.tree.items h.tree.items
   pub queue : waiting h ≡ waiting f
 
--- the entry alone, or none
-abbrev pub listed_of : Option Entry → List Entry
-listed_of None = []
-listed_of (Some e) = e ∷ []
-
 -- the queue goes on: what pends is the same, and there is less to do
 abbrev pub GoesOnLoopless : System → Front → Front → Type 0
 GoesOnLoopless y f h = (most : Option ℕ) → Right y Loopless most (prefixes_of f)

@@ -4,32 +4,18 @@ ghost use Rattle.std.specs.Prelude.{◌≡◌, ◌+◌, ◌<◌, IsFalse, IfOk, 
 ghost use Rattle.space_api.specs.View.{View};
 ghost use Rattle.prefix_tree.specs.Tree.{AreLinked};
 ghost use Rattle.loopless.specs.Front.{prefixes_of, IsLooplessFirst};
-ghost use Rattle.loopless.specs.Standing.{IsLooplessReady, GoesOnLoopless, OpensLoopless, IsLooplessEntryPlan, listed_of};
+ghost use Rattle.loopless.specs.Standing.{IsLooplessReady, GoesOnLoopless, OpensLoopless, IsLooplessEntryPlan};
 
 use crate::expand::expand;
 use crate::front::Front;
 use crate::refresh::refresh;
 use backward_search::Backward;
 use lazy_plans::Steps;
-use prefix_tree::{Entry, Node, operators_to};
+use prefix_tree::{Entry, Node, one_or_none, operators_to};
 use space_api::{Space, SpaceFault};
 use std::alloc::{AllocError, Global};
 use std::sync::ledger::Ledger;
 use symk_task::Plan;
-
-/// The entry alone, or none.
-fn one_or_none(alloc: Global, entry: Option<Entry>) -> Result<Vec<Entry>, AllocError>
-    ensures { IfOk result (λ entries. entries.items ≡ listed_of entry) }
-{
-    let mut entries = Vec::new(alloc);
-    match entry {
-        None => Ok(entries),
-        Some(entry) => {
-            entries.push(entry)?;
-            Ok(entries)
-        }
-    }
-}
 
 /// A turn that learns more of the first entry's bound, which puts it where it then belongs, or takes it out where no
 /// plan goes on from it. Out of memory, it leaves the entries.

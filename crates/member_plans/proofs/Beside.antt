@@ -9,7 +9,7 @@ use Rattle.task_system.specs.System.{System, Listed}
 use Rattle.space_api.specs.View.{View}
 use Rattle.cost_to_go.specs.declared.search.CostToGo.{CostToGo}
 use Rattle.lazy_plans.specs.Queue.{Bounds}
-use Rattle.prefix_tree.specs.Entries.{queued_entries, prefixes}
+use Rattle.prefix_tree.specs.Entries.{queued_entries, prefixes, entry_alone}
 use Rattle.prefix_tree.specs.declared.state_graph.StateGraph.{StateGraph}
 use Rattle.prefix_tree.specs.declared.tree.Node.{Node}
 use Rattle.prefix_tree.specs.declared.entry.Entry.{Entry}
@@ -17,7 +17,7 @@ use Rattle.prefix_tree.specs.declared.queue.Queue.{Queue}
 use Rattle.prefix_tree.proofs.Entries.{first_is}
 use Rattle.prefix_plans.specs.Left.{KnownToGo}
 use Rattle.prefix_plans.specs.EndChildren.{IsEndEntry, outdated}
-use Rattle.prefix_plans.specs.EndStanding.{IsEndReady, Learned, entry_alone, all_outdated}
+use Rattle.prefix_plans.specs.EndStanding.{IsEndReady, Learned, all_outdated}
 use Rattle.prefix_plans.proofs.Dating.{outdated_sum}
 use Rattle.prefix_plans.proofs.Permuting.{left_each, permuted_prefixes, replaced_same}
 use Rattle.member_laws.specs.Nodes.{CoversOpened}

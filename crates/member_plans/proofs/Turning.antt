@@ -13,7 +13,7 @@ use Rattle.cost_to_go.specs.declared.search.CostToGo.{CostToGo}
 use Rattle.lazy_plans.specs.Queue.{Replaced}
 use Rattle.prefix_tree.specs.StateGraph.{states_of, numbered_state, IsStateGraph}
 use Rattle.prefix_tree.specs.Tree.{GrowsTree, path_at, end_at}
-use Rattle.prefix_tree.specs.Entries.{queued_entries, prefixes}
+use Rattle.prefix_tree.specs.Entries.{queued_entries, prefixes, entry_alone}
 use Rattle.prefix_tree.specs.declared.state_graph.StateGraph.{StateGraph}
 use Rattle.prefix_tree.specs.declared.tree.Node.{Node}
 use Rattle.prefix_tree.specs.declared.entry.Entry.{Entry}
@@ -22,7 +22,7 @@ use Rattle.stubborn_sets.specs.Stubborn.{Stubborn}
 use Rattle.selectors.specs.Members.{GaveMember}
 use Rattle.prefix_plans.specs.Left.{KnownToGo, known_to_go}
 use Rattle.prefix_plans.specs.EndChildren.{IsEndEntry, IsOutdated, outdated}
-use Rattle.prefix_plans.specs.EndStanding.{IsEndReady, Learned, entry_alone, all_outdated}
+use Rattle.prefix_plans.specs.EndStanding.{IsEndReady, Learned, all_outdated}
 use Rattle.prefix_plans.proofs.Dating.{outdated_replaced, unranked_dated}
 use Rattle.prefix_plans.proofs.EndsGrowing.{each_like}
 use Rattle.prefix_plans.proofs.Replacing.{each_of_new, ready_grown, fresh_of}

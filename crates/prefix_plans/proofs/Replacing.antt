@@ -10,13 +10,13 @@ use Rattle.prefix_tree.specs.Order.{IsNoLater}
 use Rattle.prefix_tree.specs.StateGraph.{states_of, IsStateGraph}
 use Rattle.prefix_tree.specs.declared.state_graph.StateGraph.{StateGraph}
 use Rattle.prefix_tree.specs.Tree.{GrowsTree, path_at}
-use Rattle.prefix_tree.specs.Entries.{prefixes}
+use Rattle.prefix_tree.specs.Entries.{prefixes, entry_alone}
 use Rattle.prefix_tree.specs.declared.tree.Node.{Node}
 use Rattle.prefix_tree.specs.declared.entry.Entry.{Entry}
 use Rattle.prefix_tree.proofs.Entries.{each_new}
 use Rattle.prefix_plans.specs.Left.{known_to_go}
 use Rattle.prefix_plans.specs.EndChildren.{IsEndEntry, IsUpToDate, outdated}
-use Rattle.prefix_plans.specs.EndStanding.{IsBetterEnd, IsEndReady, entry_alone, all_outdated}
+use Rattle.prefix_plans.specs.EndStanding.{IsBetterEnd, IsEndReady, all_outdated}
 use Rattle.prefix_plans.proofs.EndsGrowing.{each_like}
 
 pub on_err : {X E P : Type 0} (r : Result X E) → P → OnErr r P

@@ -14,14 +14,14 @@ use Rattle.lazy_plans.proofs.Turns as turns
 use Rattle.prefix_tree.specs.Order.{IsNoLater}
 use Rattle.prefix_tree.specs.StateGraph.{states_of, IsStateGraph}
 use Rattle.prefix_tree.specs.Tree.{GrowsTree, path_at}
-use Rattle.prefix_tree.specs.Entries.{queued_entries, prefixes}
+use Rattle.prefix_tree.specs.Entries.{queued_entries, prefixes, entry_alone}
 use Rattle.prefix_tree.specs.declared.tree.Node.{Node}
 use Rattle.prefix_tree.specs.declared.entry.Entry.{Entry}
 use Rattle.prefix_tree.specs.declared.queue.Queue.{Queue}
 use Rattle.prefix_tree.proofs.Entries.{prefixes_like, first_is, first_in, entries_replaced, replaced_by, each_new}
 use Rattle.prefix_plans.specs.Left.{known_to_go}
 use Rattle.prefix_plans.specs.EndChildren.{IsEndEntry, IsOutdated}
-use Rattle.prefix_plans.specs.EndStanding.{IsBetterEnd, Learned, IsEndEntryPlan, entry_alone}
+use Rattle.prefix_plans.specs.EndStanding.{IsBetterEnd, Learned, IsEndEntryPlan}
 use Rattle.prefix_plans.proofs.Dating.{ranked_dated, unranked_dated}
 use Rattle.prefix_plans.proofs.EndsGrowing.{each_like, entry_like}
 use Rattle.prefix_plans.proofs.Replacing.{each_of_new, bounds_first, good_at, fresh_of}

@@ -9,6 +9,7 @@ use Rattle.symk_task.specs.declared.parts.Mode.TheVariants.{TopK}
 use Rattle.lazy_plans.specs.Queue.{Hopeless}
 use Rattle.prefix_tree.specs.StateGraph.{states_of, IsStateGraph}
 use Rattle.prefix_tree.specs.declared.state_graph.StateGraph.{StateGraph}
+use Rattle.prefix_tree.specs.Entries.{entry_alone}
 use Rattle.prefix_tree.specs.Tree.{IsTree, path_at}
 use Rattle.prefix_tree.specs.declared.tree.Node.{Node}
 use Rattle.prefix_tree.specs.declared.entry.Entry.{Entry}
@@ -48,11 +49,6 @@ pub record IsEndReady {Set : Type 0} (v : View Set) (f : CostToGo Set) (m : Stat
   pub graph : IsStateGraph v.system m
   pub tree : IsTree v.system TopK (states_of m) nodes
   pub each : AllByRecursion (IsEndEntry v f nodes) es
-
--- the entry alone, or none
-abbrev pub entry_alone : Option Entry → List Entry
-entry_alone None = []
-entry_alone (Some e) = e ∷ []
 
 -- the entry gave way to what is known of it now
 abbrev pub Learned : {Set : Type 0} → View Set → CostToGo Set → List Node → Entry → List Entry → List Entry → Type 0

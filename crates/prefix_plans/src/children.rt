@@ -42,7 +42,7 @@ pub(crate) fn entry_of(cost: u128, left: Left, node: usize, at_goal: bool) -> En
 impl Ranks {
     /// Adds the child by this move to the tree and to the children, where a plan may go on so. Out of memory, it leaves
     /// the children as they were.
-    pub fn add_child<S: Space>(
+    pub(crate) fn add_child<S: Space>(
         &mut self,
         alloc: Global,
         heuristic: &Heuristic<S>,

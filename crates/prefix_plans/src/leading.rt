@@ -12,7 +12,7 @@ use prefix_tree::{Entry, Node, StateGraph, node_at};
 use space_api::{Space, has_state};
 
 /// Whether a plan goes on from the entry's prefix: its last state is one of those that lead to the goal.
-pub fn goes_on<S: Space>(
+pub(crate) fn goes_on<S: Space>(
     space: &S,
     leading: S::Set,
     graph: &StateGraph,

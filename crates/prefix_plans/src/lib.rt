@@ -43,7 +43,6 @@ mod walk;
 pub use engine::PrefixPlans;
 pub use expand::find_moves_at;
 pub use knowing::{go_on, is_outdated, top_of};
-pub use leading::goes_on;
 pub use left::Heuristic;
 pub use range::is_left;
 pub use ranks::Ranks;

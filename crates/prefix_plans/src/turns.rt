@@ -4,31 +4,17 @@ ghost use Rattle.std.specs.Prelude.{◌≡◌, ◌+◌, ◌<◌, IfOk, OnOk, OnE
 ghost use Rattle.space_api.specs.View.{View};
 ghost use Rattle.prefix_tree.specs.Tree.{AreLinked};
 ghost use Rattle.prefix_tree.specs.Entries.{queued_entries};
-ghost use Rattle.prefix_plans.specs.EndStanding.{IsEndReady, Learned, IsEndEntryPlan, entry_alone};
+ghost use Rattle.prefix_plans.specs.EndStanding.{IsEndReady, Learned, IsEndEntryPlan};
 
 use crate::improving::improve;
 use crate::left::Heuristic;
 use crate::ranks::Ranks;
 use lazy_plans::Steps;
-use prefix_tree::{Entry, Node, Queue, operators_to};
+use prefix_tree::{Entry, Node, Queue, one_or_none, operators_to};
 use space_api::Space;
 use std::alloc::{AllocError, Global};
 use std::sync::ledger::Ledger;
 use symk_task::Plan;
-
-/// The entry alone, or none.
-fn one_or_none(alloc: Global, entry: Option<Entry>) -> Result<Vec<Entry>, AllocError>
-    ensures { IfOk result (λ entries. entries.items ≡ entry_alone entry) }
-{
-    let mut entries = Vec::new(alloc);
-    match entry {
-        None => Ok(entries),
-        Some(entry) => {
-            entries.push(entry)?;
-            Ok(entries)
-        }
-    }
-}
 
 impl Ranks {
     /// A turn that learns more of the first entry's bound, which puts it where it then belongs, or takes it out where no

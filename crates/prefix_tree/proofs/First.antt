@@ -1,5 +1,5 @@
 -- The tree and the queue of the empty prefix alone.
-use Rattle.std.proofs.Common.{◌≡◌, ℕ, ◌<◌, Bool, IsTrue, inl, List, [], ◌∷◌, length, refl, sym, ◌∙◌, ap, subst, arith}
+use Rattle.std.proofs.Common.{◌≡◌, ℕ, ◌<◌, Bool, IsTrue, inl, List, [], ◌∷◌, length, refl, sym, ap, subst, arith}
 use Rattle.std.specs.Bool.{Decides}
 use Rattle.std.specs.List.{AllByRecursion}
 use Rattle.std.specs.List.Sorted.{IsPermutation}
@@ -14,7 +14,6 @@ use Rattle.prefix_tree.specs.declared.state_graph.StateGraph.{StateGraph}
 use Rattle.prefix_tree.specs.Tree.{IsTree, IsNode, path_at, state_number_at}
 use Rattle.prefix_tree.specs.declared.tree.Node.{Node}
 use Rattle.prefix_tree.specs.declared.entry.Entry.{Entry}
-use Rattle.prefix_tree.specs.Entries.{prefixes}
 
 -- a permutation of one element is it
 pub only : (e : Entry) (es : List Entry) → IsPermutation (e ∷ []) es → es ≡ e ∷ []
@@ -29,10 +28,6 @@ only e (x ∷ y ∷ es) p = absurd (omega (arith, length_permutation (e ∷ []) 
 
 pub first_path : (n : Node) (i : ℕ) → i ≡ 0 → path_at (n ∷ []) i ≡ []
 first_path n i z = ap (path_at (n ∷ [])) z
-
--- an entry of it alone waits
-pub first_prefixes : (n : Node) (e : Entry) (es : List Entry) → IsPermutation (e ∷ []) es → e.node ≡ 0 → prefixes (n ∷ []) es ≡ [] ∷ []
-first_prefixes n e es put place = ap (prefixes (n ∷ [])) (only e es put) ∙ ap (λ (p : List ℕ). p ∷ []) (first_path n e.node place)
 
 -- its node ends in the initial state
 module _ (y : System) (mode : Mode) (m : StateGraph) (n : Node) (graph : IsStateGraph y m) (within : n.state < length (states_of m))

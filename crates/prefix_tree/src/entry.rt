@@ -1,5 +1,9 @@
 //! Entries of a queue of prefixes.
 
+ghost use Rattle.std.specs.Prelude.{◌≡◌, IfOk};
+ghost use Rattle.prefix_tree.specs.Entries.{entry_alone};
+
+use std::alloc::{AllocError, Global};
 use std::cmp::Reverse;
 
 /// A prefix in the queue. The greatest entry is handed out first.
@@ -17,4 +21,18 @@ pub struct Entry {
     pub settled: bool,
     /// Its last state is a goal state.
     pub at_goal: bool,
+}
+
+/// The entry alone, or none.
+pub fn one_or_none(alloc: Global, entry: Option<Entry>) -> Result<Vec<Entry>, AllocError>
+    ensures { IfOk result (λ entries. entries.items ≡ entry_alone entry) }
+{
+    let mut entries = Vec::new(alloc);
+    match entry {
+        None => Ok(entries),
+        Some(entry) => {
+            entries.push(entry)?;
+            Ok(entries)
+        }
+    }
 }

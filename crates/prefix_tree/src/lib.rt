@@ -22,7 +22,7 @@ mod tree;
 
 pub use beginning::empty_prefix;
 pub use ends::goal_after;
-pub use entry::Entry;
+pub use entry::{Entry, one_or_none};
 pub use moves::{find_moves, number_of_start};
 pub use queue::Queue;
 pub use state_graph::{Move, StateGraph};

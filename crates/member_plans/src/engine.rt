@@ -26,8 +26,6 @@ ghost use Rattle.member_laws.proofs.Telling.{pends_told};
 ghost use Rattle.member_plans.specs.Front.{opened};
 ghost use Rattle.member_plans.specs.Engine.{member_system, member_most, member_ended, PendsMember, member_tells, IsMemberEngine, KeepsAllMember, HasMemberRoom, AnswersByMember};
 
-use crate::turn::give;
-use crate::walk::walk;
 use selectors::LazyMembers;
 use std::alloc::Global;
 use std::sync::ledger::Ledger;
@@ -43,13 +41,12 @@ impl<'a, S: Space> MemberPlans<'a, S> {
         ensures most { member_most self.new ≡ member_most self.old }
     {
         let most = self.shell.most();
-        match walk(
+        match self.front.walk(
             alloc,
             &mut self.space,
             &mut self.search,
             self.within,
             most,
-            &mut self.front,
             steps,
         ) {
             Err(stop) => self.shell.stop(stop),
@@ -57,15 +54,10 @@ impl<'a, S: Space> MemberPlans<'a, S> {
                 Err(_) => self.shell.stop(Stop::Memory),
                 Ok(()) => match due {
                     None => self.shell.hand_out(None, true),
-                    Some(entry) => match give(
-                        alloc,
-                        &self.space,
-                        &self.search,
-                        most,
-                        &mut self.front,
-                        entry,
-                        steps,
-                    ) {
+                    Some(entry) => match self
+                        .front
+                        .give(alloc, &self.space, &self.search, most, entry, steps)
+                    {
                         Err(_) => self.shell.stop(Stop::Memory),
                         Ok(plan) => self.shell.hand_out(Some(plan), true),
                     },

@@ -22,8 +22,8 @@ use prefix_tree::{Entry, Node};
 use space_api::{Space, SpaceFault};
 use std::alloc::Global;
 
-/// The children by the moves whose operators are marked; and by the others too where none of these is nearer to a plan, so
-/// that circles that cost nothing don't put off what is nearer for ever.
+/// The children by the moves whose operators are marked; and by the others too where none of these is nearer to a plan,
+/// so that circles that cost nothing don't put off what is nearer for ever.
 fn add_enough<S: Space>(
     alloc: Global,
     heuristic: &Heuristic<S>,
@@ -52,81 +52,83 @@ fn add_enough<S: Space>(
     Ok(children)
 }
 
-/// The children of an entry that are enough, which stand in the tree then.
-fn children_of<S: Space>(
-    alloc: Global,
-    space: &S,
-    search: &CostToGo<S::Set>,
-    front: &mut Front,
-    entry: Entry,
-) -> Result<Vec<Entry>, SpaceFault>
-    requires search { IsCostToGo (S.view space.now) search.now }
-    requires graph { IsStateGraph (S.view space.now).system front.old.graph }
-    requires serves { Serves front.old.moves (S.view space.now).system }
-    requires tree { IsTree (S.view space.now).system TopK (states_of front.old.graph) front.old.tree.items }
-    requires entry { IsEndEntry (S.view space.now) search.now front.old.tree.items entry }
-    ensures graph { IsStateGraph (S.view space.now).system front.new.graph }
-    ensures serves { Serves front.new.moves (S.view space.now).system }
-    ensures queue { queued_entries front.new.queue ≡ queued_entries front.old.queue }
-    ensures other { queued_entries front.new.other ≡ queued_entries front.old.other }
-    ensures opened { front.new.opened ≡ front.old.opened }
-    ensures grows { GrowsTree (S.view space.now).system TopK (states_of front.new.graph) front.old.tree.items
-        front.new.tree.items }
-    ensures children { IfOk result (λ kids. AreEnough (S.view space.now) search.now front.new.tree.items
-        (path_at front.old.tree.items entry.node)
-        (end_at (states_of front.new.graph) front.old.tree.items entry.node) kids.items) }
-{
-    let number = find_moves_at(alloc, space, &mut front.graph, &front.tree, entry)?;
-    let state = front.graph.state(number);
-    front.moves.find_marks(alloc, number, state)?;
-    let marks = front.moves.marks_of(number);
-    let heuristic = Heuristic {
-        space,
-        search,
-        graph: &front.graph,
-    };
-    add_enough(
-        alloc,
-        &heuristic,
-        &mut front.ranks,
-        &mut front.tree,
-        entry,
-        marks,
-    )
-}
+impl<'a> Front<'a> {
+    /// The children of an entry that are enough, which stand in the tree then.
+    fn children_of<S: Space>(
+        &mut self,
+        alloc: Global,
+        space: &S,
+        search: &CostToGo<S::Set>,
+        entry: Entry,
+    ) -> Result<Vec<Entry>, SpaceFault>
+        requires search { IsCostToGo (S.view space.now) search.now }
+        requires graph { IsStateGraph (S.view space.now).system self.old.graph }
+        requires serves { Serves self.old.moves (S.view space.now).system }
+        requires tree { IsTree (S.view space.now).system TopK (states_of self.old.graph) self.old.tree.items }
+        requires entry { IsEndEntry (S.view space.now) search.now self.old.tree.items entry }
+        ensures graph { IsStateGraph (S.view space.now).system self.new.graph }
+        ensures serves { Serves self.new.moves (S.view space.now).system }
+        ensures queue { queued_entries self.new.queue ≡ queued_entries self.old.queue }
+        ensures other { queued_entries self.new.other ≡ queued_entries self.old.other }
+        ensures opened { self.new.opened ≡ self.old.opened }
+        ensures grows { GrowsTree (S.view space.now).system TopK (states_of self.new.graph) self.old.tree.items
+            self.new.tree.items }
+        ensures children { IfOk result (λ kids. AreEnough (S.view space.now) search.now self.new.tree.items
+            (path_at self.old.tree.items entry.node)
+            (end_at (states_of self.new.graph) self.old.tree.items entry.node) kids.items) }
+    {
+        let number = find_moves_at(alloc, space, &mut self.graph, &self.tree, entry)?;
+        let state = self.graph.state(number);
+        self.moves.find_marks(alloc, number, state)?;
+        let marks = self.moves.marks_of(number);
+        let heuristic = Heuristic {
+            space,
+            search,
+            graph: &self.graph,
+        };
+        add_enough(
+            alloc,
+            &heuristic,
+            &mut self.ranks,
+            &mut self.tree,
+            entry,
+            marks,
+        )
+    }
 
-/// The children of an entry that are enough, which stand in the tree then: those of the kind of the queue at work, for which
-/// that queue has room, and those for which the other has.
-pub(crate) fn expand<S: Space>(
-    alloc: Global,
-    space: &S,
-    search: &CostToGo<S::Set>,
-    front: &mut Front,
-    entry: Entry,
-) -> Result<(Vec<Entry>, Vec<Entry>), SpaceFault>
-    requires search { IsCostToGo (S.view space.now) search.now }
-    requires graph { IsStateGraph (S.view space.now).system front.old.graph }
-    requires serves { Serves front.old.moves (S.view space.now).system }
-    requires tree { IsTree (S.view space.now).system TopK (states_of front.old.graph) front.old.tree.items }
-    requires entry { IsEndEntry (S.view space.now) search.now front.old.tree.items entry }
-    ensures graph { IsStateGraph (S.view space.now).system front.new.graph }
-    ensures serves { Serves front.new.moves (S.view space.now).system }
-    ensures queue { queued_entries front.new.queue ≡ queued_entries front.old.queue }
-    ensures other { queued_entries front.new.other ≡ queued_entries front.old.other }
-    ensures opened { front.new.opened ≡ front.old.opened }
-    ensures grows { GrowsTree (S.view space.now).system TopK (states_of front.new.graph) front.old.tree.items
-        front.new.tree.items }
-    ensures here { IfOk result (λ kids. HasQueueRoom front.new.queue (length kids.0.items)) }
-    ensures there { IfOk result (λ kids. HasQueueRoom front.new.other (length kids.1.items)) }
-    ensures children { IfOk result (λ kids. AreEnough (S.view space.now) search.now front.new.tree.items
-        (path_at front.old.tree.items entry.node)
-        (end_at (states_of front.new.graph) front.old.tree.items entry.node) (kids.0.items ++ kids.1.items)) }
-{
-    let children = children_of(alloc, space, search, front, entry)?;
-    let (here, there) = front
-        .given
-        .part(alloc, &front.tree, entry.node, &children, front.is_late)?;
-    front.queue.make_room(here.len())?;
-    front.other.make_room(there.len())?;
-    Ok((here, there))
+    /// The children of an entry that are enough, which stand in the tree then: those of the kind of the queue at work,
+    /// for which that queue has room, and those for which the other has.
+    pub(crate) fn expand<S: Space>(
+        &mut self,
+        alloc: Global,
+        space: &S,
+        search: &CostToGo<S::Set>,
+        entry: Entry,
+    ) -> Result<(Vec<Entry>, Vec<Entry>), SpaceFault>
+        requires search { IsCostToGo (S.view space.now) search.now }
+        requires graph { IsStateGraph (S.view space.now).system self.old.graph }
+        requires serves { Serves self.old.moves (S.view space.now).system }
+        requires tree { IsTree (S.view space.now).system TopK (states_of self.old.graph) self.old.tree.items }
+        requires entry { IsEndEntry (S.view space.now) search.now self.old.tree.items entry }
+        ensures graph { IsStateGraph (S.view space.now).system self.new.graph }
+        ensures serves { Serves self.new.moves (S.view space.now).system }
+        ensures queue { queued_entries self.new.queue ≡ queued_entries self.old.queue }
+        ensures other { queued_entries self.new.other ≡ queued_entries self.old.other }
+        ensures opened { self.new.opened ≡ self.old.opened }
+        ensures grows { GrowsTree (S.view space.now).system TopK (states_of self.new.graph) self.old.tree.items
+            self.new.tree.items }
+        ensures here { IfOk result (λ kids. HasQueueRoom self.new.queue (length kids.0.items)) }
+        ensures there { IfOk result (λ kids. HasQueueRoom self.new.other (length kids.1.items)) }
+        ensures children { IfOk result (λ kids. AreEnough (S.view space.now) search.now self.new.tree.items
+            (path_at self.old.tree.items entry.node)
+            (end_at (states_of self.new.graph) self.old.tree.items entry.node) (kids.0.items ++ kids.1.items)) }
+    {
+        let children = self.children_of(alloc, space, search, entry)?;
+        let (here, there) = self
+            .given
+            .part(alloc, &self.tree, entry.node, &children, self.is_late)?;
+        self.queue.make_room(here.len())?;
+        self.other.make_room(there.len())?;
+        Ok((here, there))
+    }
 }

@@ -3,12 +3,12 @@ use Rattle.task_system.specs.System.{System}
 use Rattle.prefix_plans.specs.Left.{known_to_go}
 use Rattle.member_plans.specs.Front.{MembersHaltAt}
 use Rattle.member_plans.proofs.Walking.{follows_self, follows_then, halts_after}
-use Rattle.member_plans.proofs.walk.take_turns.Goals as goal
+use Rattle.member_plans.proofs.front.Front.take_turns.Goals as goal
 
 pub turns-init : goal.turns-init
 turns-init g c = record {
   system = refl;
-  follows = follows_self (g.S.Space.view c.args.space.now) c.args.search.now c.args.most c.args.front.now c.requires.steady;
+  follows = follows_self (g.S.Space.view c.args.space.now) c.args.search.now c.args.most c.args.self.now c.requires.steady;
   steps = omega arith;
 }
 
@@ -32,9 +32,9 @@ returns-in-Some-clause-ok g c =
     let u = g.S.Space.view c.args.space.now in
     let f = c.args.search.now in
     let i = c.turns.invariant in
-    let t = subst (λ (y : System). MembersHaltAt y (known_to_go f) c.args.most c.turns.front c.take_turn.new.front
+    let t = subst (λ (y : System). MembersHaltAt y (known_to_go f) c.args.most c.turns.self c.take_turn.new.self
     c.in-Some.halt) i.system (rw c.in-Some.is at c.in_ok-halt.ensures.ok) in
-    halts_after u.system (known_to_go f) c.args.most c.args.front.now c.turns.front c.take_turn.new.front i.follows.more c.in-Some.halt t
+    halts_after u.system (known_to_go f) c.args.most c.args.self.now c.turns.self c.take_turn.new.self i.follows.more c.in-Some.halt t
 
 pub returns-in_err-halt-clause-follows : goal.returns-in_err-halt-clause-follows
 returns-in_err-halt-clause-follows g c = follows_then c.take_turn.ensures.system c.turns.invariant.follows c.take_turn.ensures.follows

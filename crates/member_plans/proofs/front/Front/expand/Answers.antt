@@ -4,12 +4,12 @@ use Rattle.prefix_tree.specs.StateGraph.{states_of}
 use Rattle.prefix_tree.specs.Tree.{path_at, end_at}
 use Rattle.prefix_tree.specs.declared.entry.Entry.{Entry}
 use Rattle.member_plans.proofs.Choosing.{enough_permuted}
-use Rattle.member_plans.proofs.expand.expand.Goals as goal
+use Rattle.member_plans.proofs.front.Front.expand.Goals as goal
 
 pub returns-clause-children : goal.returns-clause-children
 returns-clause-children g c =
-    let x = c.args.front.now in
-    let w = c.children_of.new.front in
+    let x = c.args.self.now in
+    let w = c.children_of.new.self in
     let i = c.args.entry.node in
     let kids = c.in_ok-children.children.items in
     let new = c.in_ok-here.here.items ++ c.in_ok-here.there.items in

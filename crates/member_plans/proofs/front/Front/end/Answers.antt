@@ -10,11 +10,11 @@ use Rattle.member_plans.proofs.Beside.{both_same}
 use Rattle.member_plans.proofs.Table.{table_cheap}
 use Rattle.member_plans.proofs.Ranging.{ends_so, stops_so}
 use Rattle.member_plans.proofs.Walking.{joined_each, joined_covers, kept_follows, left_follows, past_ends}
-use Rattle.member_plans.proofs.walk.end.Goals as goal
+use Rattle.member_plans.proofs.front.Front.end.Goals as goal
 
 pub returns-in_err-join-in-None-clause-follows : goal.returns-in_err-join-in-None-clause-follows
 returns-in_err-join-in-None-clause-follows g c =
-    let x = c.args.front.now in
+    let x = c.args.self.now in
     let q = c.join.new.self in
     let o = c.join.new.other in
     kept_follows (g.S.Space.view c.args.space.now) c.args.search.now c.args.most x q o c.requires.steady
@@ -25,7 +25,7 @@ pub is_left-requires-clause-inside : goal.is_left-requires-clause-inside
 is_left-requires-clause-inside g c =
     let v = g.S.Space.view c.args.space.now in
     let f = c.args.search.now in
-    let x = c.args.front.now in
+    let x = c.args.self.now in
     let q = c.join.new.self in
     rw c.deref.ensures.value (inside_each v f x.tree.items (queued_entries q)
     (joined_each v f c.args.most x q c.in_ok-join-in-None.ensures.ok c.requires.steady))
@@ -33,7 +33,7 @@ is_left-requires-clause-inside g c =
 pub returns-in_err-is_left-in-None-clause-follows : goal.returns-in_err-is_left-in-None-clause-follows
 returns-in_err-is_left-in-None-clause-follows g c =
     let v = g.S.Space.view c.args.space.now in
-    let x = c.args.front.now in
+    let x = c.args.self.now in
     let j = c.in_ok-join-in-None.ensures in
     left_follows v c.args.search.now c.args.most x c.join.new.self j.ok c.requires.steady
     (g.S.Space.view c.is_left.new.space) c.is_left.new.queue c.join.new.other c.is_left.ensures.stays j.none
@@ -42,7 +42,7 @@ returns-in_err-is_left-in-None-clause-follows g c =
 pub returns-then-branch-clause-follows : goal.returns-then-branch-clause-follows
 returns-then-branch-clause-follows g c =
     let v = g.S.Space.view c.args.space.now in
-    let x = c.args.front.now in
+    let x = c.args.self.now in
     let j = c.in_ok-join-in-None.ensures in
     left_follows v c.args.search.now c.args.most x c.join.new.self j.ok c.requires.steady
     (g.S.Space.view c.is_left.new.space) c.is_left.new.queue c.join.new.other c.is_left.ensures.stays j.none
@@ -51,7 +51,7 @@ returns-then-branch-clause-follows g c =
 pub returns-else-branch-clause-follows : goal.returns-else-branch-clause-follows
 returns-else-branch-clause-follows g c =
     let v = g.S.Space.view c.args.space.now in
-    let x = c.args.front.now in
+    let x = c.args.self.now in
     let j = c.in_ok-join-in-None.ensures in
     left_follows v c.args.search.now c.args.most x c.join.new.self j.ok c.requires.steady
     (g.S.Space.view c.is_left.new.space) c.is_left.new.queue c.join.new.other c.is_left.ensures.stays j.none
@@ -59,14 +59,14 @@ returns-else-branch-clause-follows g c =
 
 pub returns-in-Some-clause-ok : goal.returns-in-Some-clause-ok
 returns-in-Some-clause-ok g c = past_ends (g.S.Space.view c.args.space.now) c.args.search.now c.args.most
-    c.in-Some.field-0 c.args.front.now c.in-Some.is c.requires.steady c.requires.dear
+    c.in-Some.field-0 c.args.self.now c.in-Some.is c.requires.steady c.requires.dear
 
 pub returns-then-branch-clause-ok : goal.returns-then-branch-clause-ok
 returns-then-branch-clause-ok g c =
     let v = g.S.Space.view c.args.space.now in
     let f = c.args.search.now in
     let most = c.args.most in
-    let x = c.args.front.now in
+    let x = c.args.self.now in
     let z = c.requires.steady in
     let q = c.join.new.self in
     let es = queued_entries q in
@@ -83,7 +83,7 @@ pub returns-else-branch-clause-ok : goal.returns-else-branch-clause-ok
 returns-else-branch-clause-ok g c =
     let v = g.S.Space.view c.args.space.now in
     let most = c.args.most in
-    let x = c.args.front.now in
+    let x = c.args.self.now in
     let z = c.requires.steady in
     let q = c.join.new.self in
     ends_so v.system x.tree.items (opened x) (queued_entries q) (queued_entries c.is_left.new.queue)

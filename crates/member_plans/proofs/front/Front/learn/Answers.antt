@@ -8,7 +8,7 @@ use Rattle.prefix_plans.proofs.Permuting.{join_each, right_each}
 use Rattle.member_plans.proofs.Beside.{ready_left, learned_beside}
 use Rattle.member_plans.proofs.Turning.{learned_covers, learned_less}
 use Rattle.member_plans.proofs.Walking.{follows_requeued, requeued, reranked_follows}
-use Rattle.member_plans.proofs.turn.learn.Goals as goal
+use Rattle.member_plans.proofs.front.Front.learn.Goals as goal
 
 -- what covers covers, refused or not
 either : {X E : Type 0} (P : List Entry → Type 0) (q new : List Entry) (L : Type 0) (r : Result X E) → OnOk r L → OnErr r (new ≡ q) → (L → P new) → P q → P new
@@ -21,7 +21,7 @@ on_ok A B (Err e) f h = tt
 
 pub learn-requires-clause-ready : goal.learn-requires-clause-ready
 learn-requires-clause-ready g c =
-    let x = c.args.front.now in
+    let x = c.args.self.now in
     rw c.deref.ensures.value (ready_left (g.S.Space.view c.args.space.now) c.args.search.now x.graph x.tree.items
     (queued_entries x.queue) (queued_entries x.other) c.requires.steady.ready)
 
@@ -29,7 +29,7 @@ pub returns-clause-follows : goal.returns-clause-follows
 returns-clause-follows g c =
     let v = g.S.Space.view c.args.space.now in
     let f = c.args.search.now in
-    let x = c.args.front.now in
+    let x = c.args.self.now in
     let z = c.requires.steady in
     let e = c.args.entry in
     let q = queued_entries x.queue in
@@ -48,7 +48,7 @@ pub returns-clause-less : goal.returns-clause-less
 returns-clause-less g c =
     let v = g.S.Space.view c.args.space.now in
     let f = c.args.search.now in
-    let x = c.args.front.now in
+    let x = c.args.self.now in
     let z = c.requires.steady in
     let e = c.args.entry in
     let q = queued_entries x.queue in

@@ -4,7 +4,7 @@ use Rattle.prefix_tree.specs.StateGraph.{states_of, numbered_state}
 use Rattle.prefix_tree.specs.Tree.{path_at}
 use Rattle.stubborn_sets.specs.Stubborn.{Stubborn}
 use Rattle.stubborn_sets.specs.Closing.{has_mark}
-use Rattle.member_plans.proofs.expand.children_of.Goals as goal
+use Rattle.member_plans.proofs.front.Front.children_of.Goals as goal
 
 pub state-state-requires : goal.state-state-requires
 state-state-requires g c =
@@ -17,7 +17,7 @@ pub find_marks-requires : goal.find_marks-requires
 find_marks-requires g c =
     let y = (g.S.Space.view c.args.space.now).system in
     let i = c.args.entry.node in
-    let path = path_at c.args.front.now.tree.items i in
+    let path = path_at c.args.self.now.tree.items i in
     let tree = rw c.deref.ensures.value at c.find_moves_at.ensures.tree in
     let number = rw c.deref.ensures.value at c.in_ok-number.ensures.number in
     let is = c.state-state.ensures ∙ ap (numbered_state (states_of c.find_moves_at.new.graph)) number in

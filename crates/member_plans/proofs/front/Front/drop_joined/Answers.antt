@@ -8,13 +8,13 @@ use Rattle.member_plans.specs.Front.{opened, waiting_members}
 use Rattle.member_plans.proofs.Beside.{perm_beside}
 use Rattle.member_plans.proofs.Turning.{dropped_covers, dropped_each, less_dropped}
 use Rattle.member_plans.proofs.Walking.{follows_requeued}
-use Rattle.member_plans.proofs.turn.drop_joined.Goals as goal
+use Rattle.member_plans.proofs.front.Front.drop_joined.Goals as goal
 
 pub returns-clause-follows : goal.returns-clause-follows
 returns-clause-follows g c =
     let v = g.S.Space.view c.args.space.now in
     let f = c.args.search.now in
-    let x = c.args.front.now in
+    let x = c.args.self.now in
     let z = c.requires.steady in
     let e = c.args.entry in
     let q = queued_entries x.queue in
@@ -29,7 +29,7 @@ returns-clause-follows g c =
 
 pub returns-clause-less : goal.returns-clause-less
 returns-clause-less g c =
-    let x = c.args.front.now in
+    let x = c.args.self.now in
     let e = c.args.entry in
     let q = queued_entries x.queue in
     let o = queued_entries x.other in

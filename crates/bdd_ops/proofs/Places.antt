@@ -51,11 +51,14 @@ module _ (xs : List Node) (r : IsReduced xs) where
   right_no_preimages = record { f_known = known; g_known = known; set_known = known; gives = preimage_false xs r 0 0 0 known known (inl refl) }
 
   pub no_places_right : (recent : Recent) → recent.pairs.items ≡ [] → recent.some.items ≡ [] → recent.both.items ≡ []
-      → recent.images.items ≡ [] → recent.preimages.items ≡ [] → AreRightPlaces xs recent
-  no_places_right recent p s b m n = record {
+      → recent.images.items ≡ [] → recent.preimages.items ≡ [] → recent.whole_images.items ≡ []
+      → recent.whole_preimages.items ≡ [] → AreRightPlaces xs recent
+  no_places_right recent p s b m n i j = record {
     pairs = λ place. subst (λ (l : List PairSlot). IsRightPair xs (slice_index_or l place no_pair)) (sym p) right_no_pair;
     some = λ place. subst (λ (l : List BoundSlot). IsRightBound Quantify xs (slice_index_or l place no_bound)) (sym s) right_no_some;
     both = λ place. subst (λ (l : List BoundSlot). IsRightBound ConjQuantify xs (slice_index_or l place no_bound)) (sym b) right_no_both;
     images = λ place. subst (λ (l : List BoundSlot). IsRightBound Image xs (slice_index_or l place no_bound)) (sym m) right_no_images;
     preimages = λ place. subst (λ (l : List BoundSlot). IsRightBound Preimage xs (slice_index_or l place no_bound)) (sym n) right_no_preimages;
+    whole_images = λ place. subst (λ (l : List BoundSlot). IsRightBound Image xs (slice_index_or l place no_bound)) (sym i) right_no_images;
+    whole_preimages = λ place. subst (λ (l : List BoundSlot). IsRightBound Preimage xs (slice_index_or l place no_bound)) (sym j) right_no_preimages;
   }

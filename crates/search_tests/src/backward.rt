@@ -162,12 +162,21 @@ fn keep_none<S: Space>(
     backward.narrow(alloc, space, none)
 }
 
+/// Whether the search is kept to no state.
+#[tactic(auto, using(crate::proofs::Standing::within_valid))]
+fn is_kept_to_none<S: Space>(space: &S, backward: &Backward<S::Set>) -> bool
+    requires { IsBackward (S.view space.now) backward.now }
+{
+    space.is_empty(*backward.within())
+}
+
 /// On a lamp that is no goal: each layer has the goal states, until all are cut.
 fn each_time<S: Space>(rt: &impl Abort, alloc: Global, space: &mut S) -> Result<(), SpaceFault> {
     let mut backward = begin(alloc, space, Kind::Every)?;
     assert!(rt; settles(alloc, space, &mut backward, 3)?);
     assert!(rt; layer_is_goal(space, &backward, 2)?);
     keep_none(alloc, space, &mut backward)?;
+    assert!(rt; is_kept_to_none(space, &backward));
     assert!(rt; goes(alloc, space, &mut backward)? == Some(3));
     assert!(rt; goes(alloc, space, &mut backward)?.is_none());
     Ok(())

@@ -3,14 +3,17 @@
 use cost_layers::Layers;
 use run_graph::Side;
 
-/// The two sides where they meet: the forward layers, the backward ones, and what these are known below; and by which
-/// side's steps it is found where they do.
+/// The two sides where they meet: the forward layers, the backward ones, what these are known below, and the set that
+/// their states are kept to; by which side's steps it is found where they meet, and whether a step back is made inside
+/// that set, as the backward side makes it when it goes on, or inside a forward layer.
 #[derive(Clone, Copy)]
 pub(crate) struct Meeting<'a, T> {
     pub(crate) front: &'a Layers<T>,
     pub(crate) back: &'a Layers<T>,
     pub(crate) b: u128,
+    pub(crate) room: &'a T,
     pub(crate) by: Side,
+    pub(crate) whole: bool,
 }
 
 ghost use Rattle.std.specs.Prelude.{◌≡◌, ◌+◌, ◌<◌, ◌≤◌, ◌^◌, ◌↔◌, ℕ, None, IsTrue, IfOk, MatchOption};
@@ -19,7 +22,7 @@ ghost use Rattle.space_api.specs.View.{View, Valid, Has, CostPreimage};
 ghost use Rattle.space_api.specs.Frames.{Stays};
 ghost use Rattle.run_graph.specs.Layering.{InLayer};
 ghost use Rattle.cost_layers.specs.Layers.{union_at, Held, Stands};
-ghost use Rattle.bidirectional.specs.Crossing.{AreHeld, MeetsBy, CrossAt, CrossBy, CrossIn, IsLeastOf, IsLeastWhole};
+ghost use Rattle.bidirectional.specs.Crossing.{AreHeld, LeadsOnlyFrom, MeetsBy, CrossAt, CrossBy, CrossIn, IsLeastOf, IsLeastWhole};
 
 use cost_search::cost_after;
 use space_api::{Space, SpaceFault, meets};
@@ -36,17 +39,26 @@ pub(crate) fn cost_from<T: Copy>(layers: &Layers<T>, bound: u128) -> Option<u64>
     }
 }
 
-/// Whether an operator of cost `w` leads from one set into the other, by what leads into it.
-fn meets_back<S: Space>(space: &mut S, from: S::Set, w: u64, to: S::Set) -> Result<bool, SpaceFault>
+/// Whether an operator of cost `w` leads from one set into the other, by what leads into it from a set that has each
+/// such state.
+fn meets_back<S: Space>(
+    space: &mut S,
+    from: S::Set,
+    w: u64,
+    to: S::Set,
+    room: S::Set,
+) -> Result<bool, SpaceFault>
     requires from { Valid (S.view space.old) from }
     requires to { Valid (S.view space.old) to }
+    requires room { Valid (S.view space.old) room }
+    requires inside { (s : State) → CostPreimage (S.view space.old) w to from s → Has (S.view space.old) room s }
     ensures stays { Stays (S.view space.old) (S.view space.new) }
     ensures ok { IfOk result (λ r. IsTrue r ↔ ((s : State) × CostPreimage (S.view space.old) w to from s)) }
 {
-    let before = space.pre_cost(w, to, from)?;
-    let empty = space.is_empty(before);
+    let before = space.pre_cost(w, to, room)?;
+    let some = meets(space, before, from);
     space.forget(before);
-    Ok(!empty)
+    some
 }
 
 /// Whether an operator of cost `w` leads from one set into the other, by what it leads to.
@@ -67,33 +79,61 @@ fn meets_ahead<S: Space>(
     some
 }
 
-/// Whether an operator of cost `w` leads from one set into the other, by a step of this side.
+/// Whether an operator of cost `w` leads from one set into the other, by a step of this side; a step back is made inside
+/// a set that has each state from which one does.
 fn meets_by<S: Space>(
     space: &mut S,
     from: S::Set,
     w: u64,
     to: S::Set,
+    room: S::Set,
     by: Side,
 ) -> Result<bool, SpaceFault>
     requires from { Valid (S.view space.old) from }
     requires to { Valid (S.view space.old) to }
+    requires room { Valid (S.view space.old) room }
+    requires inside { (s : State) → CostPreimage (S.view space.old) w to from s → Has (S.view space.old) room s }
     ensures stays { Stays (S.view space.old) (S.view space.new) }
     ensures ok { IfOk result (λ r. IsTrue r ↔ ((s : State) × CostPreimage (S.view space.old) w to from s)) }
 {
     match by {
         Side::Ahead => meets_ahead(space, from, w, to),
-        Side::Back => meets_back(space, from, w, to),
+        Side::Back => meets_back(space, from, w, to, room),
     }
 }
 
-/// Whether an operator of cost `w` leads from layer `x` into the set, by a step of this side.
-pub(crate) fn layer_meets<S: Space>(
+/// Whether an operator of cost `w` leads from forward layer `x` into the set, as it is to be found where sides meet.
+fn layer_meets<S: Space>(
+    space: &mut S,
+    meeting: Meeting<'_, S::Set>,
+    x: u64,
+    w: u64,
+    to: S::Set,
+) -> Result<bool, SpaceFault>
+    requires layers { AreHeld (S.view space.old) meeting }
+    requires to { Valid (S.view space.old) to }
+    requires inside { LeadsOnlyFrom (S.view space.old).system (Stands (S.view space.old) meeting.front.now)
+        (Has (S.view space.old) to) (Has (S.view space.old) meeting.room.now) }
+    ensures stays { Stays (S.view space.old) (S.view space.new) }
+    ensures ok { IfOk result (λ r. IsTrue r ↔ MeetsBy (S.view space.old).system
+        (Stands (S.view space.old) meeting.entry.front.now) (Has (S.view space.old) to) x w) }
+{
+    match meeting.front.layer(x) {
+        Some(layer) if meeting.whole => {
+            Ok(meets_by(space, layer, w, to, *meeting.room, meeting.by)?)
+        }
+        Some(layer) => Ok(meets_by(space, layer, w, to, layer, meeting.by)?),
+        None => Ok(false),
+    }
+}
+
+/// The same, by what leads into the set from the layer.
+pub(crate) fn layer_leads_by<S: Space>(
     space: &mut S,
     front: &Layers<S::Set>,
     x: u64,
     w: u64,
     to: S::Set,
-    by: Side,
 ) -> Result<bool, SpaceFault>
     requires front { Held (S.view space.old) front.now }
     requires to { Valid (S.view space.old) to }
@@ -102,7 +142,7 @@ pub(crate) fn layer_meets<S: Space>(
         (Stands (S.view space.old) front.now) (Has (S.view space.old) to) x w) }
 {
     match front.layer(x) {
-        Some(whole) => Ok(meets_by(space, whole, w, to, by)?),
+        Some(layer) => Ok(meets_back(space, layer, w, to, layer)?),
         None => Ok(false),
     }
 }
@@ -120,6 +160,8 @@ fn least_by<S: Space>(
 ) -> Result<u128, SpaceFault>
     requires layers { AreHeld (S.view space.old) meeting }
     requires to { Valid (S.view space.old) to }
+    requires inside { LeadsOnlyFrom (S.view space.old).system (Stands (S.view space.old) meeting.front.now)
+        (Has (S.view space.old) to) (Has (S.view space.old) meeting.room.now) }
     requires range { high ≤ 2 ^ 64 }
     ensures stays { Stays (S.view space.old) (S.view space.new) }
     ensures ok { IfOk result (IsLeastOf (CrossAt (S.view space.old).system
@@ -135,7 +177,7 @@ fn least_by<S: Space>(
         if high <= cost {
             return Ok(high);
         }
-        if layer_meets(space, meeting.front, x, w, to, meeting.by)? {
+        if layer_meets(space, meeting, x, w, to)? {
             return Ok(cost);
         }
         next = cost_after(meeting.front, x);
@@ -154,6 +196,8 @@ fn least_into<S: Space>(
 ) -> Result<u128, SpaceFault>
     requires layers { AreHeld (S.view space.old) meeting }
     requires to { Valid (S.view space.old) to }
+    requires inside { LeadsOnlyFrom (S.view space.old).system (Stands (S.view space.old) meeting.front.now)
+        (Has (S.view space.old) to) (Has (S.view space.old) meeting.room.now) }
     requires range { high ≤ 2 ^ 64 }
     ensures stays { Stays (S.view space.old) (S.view space.new) }
     ensures ok { IfOk result (IsLeastOf (CrossBy (S.view space.old).system

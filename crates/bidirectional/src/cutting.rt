@@ -30,12 +30,11 @@ ghost use Rattle.cost_layers.specs.Layers.{union_at, Held, Stands};
 ghost use Rattle.bidirectional.specs.Crossing.{AreHeld};
 ghost use Rattle.bidirectional.specs.Cutting.{LeadsFromLayer, CutsBy, IsFirstOp, HasEach, Begin, AreFirstCuts, cross_at};
 
-use crate::crossing::{Meeting, cost_from, layer_meets};
+use crate::crossing::{Meeting, cost_from, layer_leads_by};
 use crate::landing::landing;
 use cost_layers::Layers;
 use cost_search::cost_after;
 use plan_cuts::Cut;
-use run_graph::Side;
 use space_api::{Space, SpaceFault};
 use std::alloc::Global;
 
@@ -107,7 +106,7 @@ fn cost_meets<S: Space>(
         cost meeting.entry.b z op → IsTrue r) }
 {
     match cost_before(cost, meeting.b, w, z) {
-        Some(x) => layer_meets(space, meeting.front, x, w, to, Side::Back),
+        Some(x) => layer_leads_by(space, meeting.front, x, w, to),
         None => Ok(false),
     }
 }

@@ -1,5 +1,7 @@
-use Rattle.space_api.proofs.Keeping.{given_back}
+use Rattle.bidirectional.proofs.Least.{met_back}
 use Rattle.bidirectional.proofs.crossing.meets_back.Goals as goal
 
-pub returns-clause-stays : goal.returns-clause-stays
-returns-clause-stays g c = given_back c.pre_cost.ensures.kept c.in_ok-before.ensures.ok c.forget.ensures
+pub returns-clause-ok : goal.returns-clause-ok
+returns-clause-ok g c = met_back (g.S.Space.view c.args.space.now) (g.S.Space.view c.pre_cost.new.self) c.args.w
+    c.args.from c.in_ok-before.before c.args.to c.args.room c.meets-some.result c.requires.from c.in_ok-before.ensures.kept
+    c.in_ok-before.ensures.ok c.requires.inside c.meets-some.ensures.ok

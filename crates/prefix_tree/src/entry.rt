@@ -23,7 +23,7 @@ pub struct Entry {
     pub at_goal: bool,
 }
 
-/// The entry alone, or none.
+/// The entry alone, or none. It fails only out of memory.
 pub fn one_or_none(alloc: Global, entry: Option<Entry>) -> Result<Vec<Entry>, AllocError>
     ensures { IfOk result (λ entries. entries.items ≡ entry_alone entry) }
 {

@@ -16,7 +16,7 @@ ghost use Rattle.symk_words.specs.Texts.{PlanTexts, plan_texts, is_set, check_te
 ghost use Rattle.symk_words.specs.Lawful.{Plain, PlainIfSome, ArePlain, plan_words, check_words, demo_words, prove_words, refute_words};
 ghost use Rattle.clap.specs.Walk.{Text};
 ghost use Rattle.std.specs.declared.option.Option.{Option};
-ghost use Rattle.clap.specs.Simple.{app_of};
+ghost use Rattle.clap.specs.Simple.{App, app_of, with_rule, with_subcommand};
 ghost use Rattle.clap.specs.declared.builder.command.Command.TheViews.{out-Command};
 ghost use Rattle.symk_words.specs.App.{symk_app, found_app, reach_app, plan_app, check_app, demo_app, prove_app, refute_app, positional_rule as place_rule, wanted as wanted_rule, wished as wished_rule, flag as flag_rule};
 
@@ -56,16 +56,38 @@ fn flag<'a>(alloc: Global, name: &'a str) -> Arg<'a>
     Arg::new(alloc, name).long(name).action(ArgAction::SetTrue)
 }
 
+/// The command with an argument more, which is its own.
+fn with_arg<'a>(command: Command<'a>, arg: Arg<'a>) -> Result<Command<'a>, AllocError>
+    requires own { arg.global ≡ false }
+    requires local { (out-Command command).has_globals ≡ false }
+    ensures app { IfOk result (λ c. app_of c ≡ with_rule (app_of command.entry) (rule_of arg.entry)) }
+    ensures local { IfOk result (λ c. (out-Command c).has_globals ≡ false) }
+{
+    command.arg(arg)
+}
+
+/// The command with a subcommand more, where there was memory for that one.
+fn with_command<'a>(
+    command: Command<'a>,
+    added: Result<Command<'a>, AllocError>,
+) -> Result<Command<'a>, AllocError>
+    requires local { IfOk added (λ c. (out-Command c).has_globals ≡ false) }
+    ensures { (a : App) → IfOk added.entry (λ c. app_of c ≡ a)
+        → IfOk result (λ c. app_of c ≡ with_subcommand (app_of command.entry) a.top) }
+{
+    command.subcommand(added?)
+}
+
 /// `plan` with what says which plans are listed, and how they are found.
 fn found_command<'a>(alloc: Global) -> Result<Command<'a>, AllocError>
     ensures app { IfOk result (λ c. app_of c ≡ found_app) }
     ensures local { IfOk result (λ c. (out-Command c).has_globals ≡ false) }
 {
     let command = Command::new(alloc, "plan");
-    let command = command.arg(place(alloc, "file"))?;
-    let command = command.arg(wanted(alloc, "k"))?;
-    let command = command.arg(wished(alloc, "mode"))?;
-    command.arg(wished(alloc, "search"))
+    let command = with_arg(command, place(alloc, "file"))?;
+    let command = with_arg(command, wanted(alloc, "k"))?;
+    let command = with_arg(command, wished(alloc, "mode"))?;
+    with_arg(command, wished(alloc, "search"))
 }
 
 /// And with what says how far the list goes.
@@ -74,9 +96,9 @@ fn reach_command<'a>(alloc: Global) -> Result<Command<'a>, AllocError>
     ensures local { IfOk result (λ c. (out-Command c).has_globals ≡ false) }
 {
     let command = found_command(alloc)?;
-    let command = command.arg(flag(alloc, "more"))?;
-    let command = command.arg(wished(alloc, "bound"))?;
-    command.arg(wished(alloc, "quality"))
+    let command = with_arg(command, flag(alloc, "more"))?;
+    let command = with_arg(command, wished(alloc, "bound"))?;
+    with_arg(command, wished(alloc, "quality"))
 }
 
 /// And with what says from where on, and whether groups may cut the search.
@@ -85,8 +107,8 @@ fn plan_command<'a>(alloc: Global) -> Result<Command<'a>, AllocError>
     ensures local { IfOk result (λ c. (out-Command c).has_globals ≡ false) }
 {
     let command = reach_command(alloc)?;
-    let command = command.arg(wished(alloc, "after"))?;
-    command.arg(flag(alloc, "mutex"))
+    let command = with_arg(command, wished(alloc, "after"))?;
+    with_arg(command, flag(alloc, "mutex"))
 }
 
 fn check_command<'a>(alloc: Global) -> Result<Command<'a>, AllocError>
@@ -94,23 +116,23 @@ fn check_command<'a>(alloc: Global) -> Result<Command<'a>, AllocError>
     ensures local { IfOk result (λ c. (out-Command c).has_globals ≡ false) }
 {
     let command = Command::new(alloc, "check");
-    let command = command.arg(place(alloc, "file"))?;
-    let command = command.arg(place(alloc, "plans"))?;
-    command.arg(wished(alloc, "mode"))
+    let command = with_arg(command, place(alloc, "file"))?;
+    let command = with_arg(command, place(alloc, "plans"))?;
+    with_arg(command, wished(alloc, "mode"))
 }
 
 fn demo_command<'a>(alloc: Global) -> Result<Command<'a>, AllocError>
     ensures app { IfOk result (λ c. app_of c ≡ demo_app) }
     ensures local { IfOk result (λ c. (out-Command c).has_globals ≡ false) }
 {
-    Command::new(alloc, "demo").arg(place(alloc, "n"))
+    with_arg(Command::new(alloc, "demo"), place(alloc, "n"))
 }
 
 fn prove_command<'a>(alloc: Global) -> Result<Command<'a>, AllocError>
     ensures app { IfOk result (λ c. app_of c ≡ prove_app) }
     ensures local { IfOk result (λ c. (out-Command c).has_globals ≡ false) }
 {
-    Command::new(alloc, "prove").arg(place(alloc, "file"))
+    with_arg(Command::new(alloc, "prove"), place(alloc, "file"))
 }
 
 fn refute_command<'a>(alloc: Global) -> Result<Command<'a>, AllocError>
@@ -118,8 +140,8 @@ fn refute_command<'a>(alloc: Global) -> Result<Command<'a>, AllocError>
     ensures local { IfOk result (λ c. (out-Command c).has_globals ≡ false) }
 {
     let command = Command::new(alloc, "refute");
-    let command = command.arg(place(alloc, "file"))?;
-    command.arg(place(alloc, "cert"))
+    let command = with_arg(command, place(alloc, "file"))?;
+    with_arg(command, place(alloc, "cert"))
 }
 
 /// The command of the program.
@@ -130,11 +152,11 @@ fn symk_command<'a>(alloc: Global) -> Result<Command<'a>, AllocError>
         .subcommand_required(true)
         .disable_help_flag(true)
         .disable_help_subcommand(true);
-    let command = command.subcommand(plan_command(alloc)?)?;
-    let command = command.subcommand(check_command(alloc)?)?;
-    let command = command.subcommand(demo_command(alloc)?)?;
-    let command = command.subcommand(prove_command(alloc)?)?;
-    command.subcommand(refute_command(alloc)?)
+    let command = with_command(command, plan_command(alloc))?;
+    let command = with_command(command, check_command(alloc))?;
+    let command = with_command(command, demo_command(alloc))?;
+    let command = with_command(command, prove_command(alloc))?;
+    with_command(command, refute_command(alloc))
 }
 
 /// What the words ask for. Each text is a part of a word, as it stands there: it may be empty, and no number or name.

@@ -1,0 +1,11 @@
+use Rattle.std.proofs.Common.{ap₂, ◌∙◌}
+use Rattle.std.proofs.lemmas.Result.{IfOk-weaker}
+use Rattle.clap.specs.Simple.{with_rule}
+use Rattle.symk_words.proofs.found_command.Goals as goal
+
+pub returns-clause-app : goal.returns-clause-app
+returns-clause-app c =
+    let one = c.in_ok-command.ensures.app ∙ ap₂ with_rule c.new-command.ensures.app c.place.ensures.rule in
+    let two = c.in_ok-command-2.ensures.app ∙ ap₂ with_rule one c.wanted.ensures.rule in
+    let three = c.in_ok-command-3.ensures.app ∙ ap₂ with_rule two c.wished.ensures.rule in
+    IfOk-weaker c.with_arg-4.result _ _ (λ r h. h ∙ ap₂ with_rule three c.wished-2.ensures.rule) c.with_arg-4.ensures.app

@@ -54,12 +54,13 @@ fn place_of(
 }
 
 /// Sweep of a collection: a table with the marked nodes, and the place of each Id in it. Children come first, so one
-/// rising pass is enough.
+/// rising pass is enough. The new table has room for the nodes that are kept, so that it doesn't grow as they come.
 pub fn rebuild(alloc: Global, old: &Table, marks: &[bool]) -> Result<(Table, Vec<Id>), TableFault>
     requires { IsClosed old.now marks.now }
     ensures { IfOk result (λ r. AreMoved old.now marks.now (r.0) (r.1.items) (length old.now)) }
 {
-    let mut new = Table::new(alloc)?;
+    let kept = marks.iter().filter(|mark| **mark).count();
+    let mut new = Table::with_room(alloc, kept)?;
     let mut places: Vec<Id> = Vec::new(alloc);
     places.push(0)?;
     places.push(1)?;

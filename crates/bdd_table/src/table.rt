@@ -56,7 +56,19 @@ impl Table {
         ensures empty { IfOk result (λ t. t ≡ node_of bottom 0 0 ∷ node_of bottom 1 1 ∷ []) }
         ensures reduced { IfOk result IsReduced }
     {
-        let mut nodes = IndexSet::with_hasher(alloc, BuildHasherDefault::new());
+        Table::with_room(alloc, 0)
+    }
+
+    /// The same, with room for this number of nodes, the constants among them.
+    pub(crate) fn with_room(alloc: Global, count: usize) -> Result<Table, TableFault>
+        ensures empty { IfOk result (λ t. t ≡ node_of bottom 0 0 ∷ node_of bottom 1 1 ∷ []) }
+        ensures reduced { IfOk result IsReduced }
+    {
+        let mut nodes = IndexSet::with_capacity_and_hasher(
+            alloc,
+            count,
+            BuildHasherDefault::new(),
+        )?;
         nodes.insert_full(constant(0))?;
         nodes.insert_full(constant(1))?;
         Ok(Table { nodes })

@@ -1,6 +1,6 @@
 -- From one state of an engine to the next.
 use Rattle.std.proofs.Common.{◌≡◌, ℕ, ◌<◌, ◌≤◌, ◌⊎◌, ◌↔◌, inl, inr, Bool, true, false, List, [], length, Option, Some, None, Result, Ok, Err, IfOk, OnErr, refl, sym, ◌∙◌, ap, subst, arith}
-use Rattle.task_system.specs.System.{System, IsSystemPlan}
+use Rattle.task_system.specs.System.{State, System, IsSystemPlan}
 use Rattle.space_api.specs.View.{View, Valid}
 use Rattle.space_api.specs.Owned.{Trades}
 use Rattle.space_api.proofs.Trading.{trades_trans, trades_beside, trades_stays}
@@ -9,7 +9,8 @@ use Rattle.cost_layers.specs.Layers.{known_of}
 use Rattle.cost_layers.specs.declared.layers.Layers.{Layers}
 use Rattle.plan_cuts.specs.declared.Cut.{Cut}
 use Rattle.plan_cuts.specs.Entries.{places}
-use Rattle.reconstruct.specs.Entries.{SetIn, plains}
+use Rattle.reconstruct.specs.Entries.{SetIn, plains, member_in}
+use Rattle.reconstruct.specs.Turned.{HasSingle}
 use Rattle.reconstruct.specs.declared.entries.Entry.{Entry}
 use Rattle.reconstruct.proofs.Sets.{in_valid}
 use Rattle.plan_cuts.specs.Drawing.{undrawn, Above}
@@ -44,19 +45,19 @@ same_way A = ((λ h. h), (λ h. h))
 -- nothing was done
 pub moved_not : {Set : Type 0} (v : View Set) (Owns Uses : Set → Type 0) (front back : Layers Set)
     (listed : Option Place) (queue : List (Entry Set)) → ((a : Set) → Owns a → Valid v a)
-    → IsAt v Uses front back listed queue → Moved v v Owns Owns Uses back front back listed listed queue queue
+    → IsAt v Uses front back listed queue → Moved v v Owns Owns Uses front back front back listed listed queue queue
 moved_not v Owns Uses front back listed queue valid at = record {
   at = at;
   trades = trades_stays v v (Keeping Owns queue) (stays_refl v)
       (λ a h. elim h [ inl u ↦ valid a u | inr s ↦ queue_valid v Uses front back listed queue at a s ]);
-  owes = λ p. same_way (OwesByCuts v back listed queue p);
+  owes = λ p. same_way (OwesByCuts v front back listed queue p);
 }
 
 pub moved_trans : {Set : Type 0} {v w x : View Set} {Owns Owns2 Owns3 Uses2 Uses3 : Set → Type 0}
-    {back front2 back2 front3 back3 : Layers Set} {l l2 l3 : Option Place} {q q2 q3 : List (Entry Set)}
-    → Moved v w Owns Owns2 Uses2 back front2 back2 l l2 q q2
-    → Moved w x Owns2 Owns3 Uses3 back2 front3 back3 l2 l3 q2 q3
-    → Moved v x Owns Owns3 Uses3 back front3 back3 l l3 q q3
+    {front back front2 back2 front3 back3 : Layers Set} {l l2 l3 : Option Place} {q q2 q3 : List (Entry Set)}
+    → Moved v w Owns Owns2 Uses2 front back front2 back2 l l2 q q2
+    → Moved w x Owns2 Owns3 Uses3 front2 back2 front3 back3 l2 l3 q2 q3
+    → Moved v x Owns Owns3 Uses3 front back front3 back3 l l3 q q3
 moved_trans m n = record {
   at = n.at;
   trades = trades_trans m.trades n.trades;
@@ -69,7 +70,7 @@ pub moved_drawn : {Set : Type 0} {v w : View Set} (Owns : Set → Type 0) {Uses 
     → ((a : Set) → Uses a → Valid v a)
     → ((a : Set) → Owns a → Uses a) → IsListing v Uses front back place queue
     → Drew v w Uses front back place place2 queue queue2
-    → Moved v w Owns Owns Uses back front back (Some place) (Some place2) queue queue2
+    → Moved v w Owns Owns Uses front back front back (Some place) (Some place2) queue queue2
 moved_drawn Owns valid owned l d = record {
   at = inr d.listing;
   trades = trades_beside Owns d.trades (λ a u. (valid a (owned a u), λ s. l.apart a s (owned a u)));
@@ -91,15 +92,15 @@ listing_some v Uses front back place queue some (inl at) = absurd (omega (arith,
 listing_some v Uses front back place queue some (inr l) = l
 
 -- what is owed where nothing is left of the cost that is listed
-no_places : {Set : Type 0} (v : View Set) (b : ℕ) (after : Option Cut) (left : Bool) (queue : List (Entry Set))
-    (p : List ℕ) → left ≡ false → queue ≡ [] → places v.system b (plains v queue) (undrawn left after) p ≡ 0
-no_places v b after left queue p e empty = rw (e, empty) refl
+no_places : {Set : Type 0} (v : View Set) (fr : ℕ → State → Bool) (b : ℕ) (after : Option Cut) (left : Bool) (queue : List (Entry Set))
+    (p : List ℕ) → left ≡ false → queue ≡ [] → places v.system b (plains v fr queue) (undrawn left after) p ≡ 0
+no_places v fr b after left queue p e empty = rw (e, empty) refl
 
-pub rests_owes : {Set : Type 0} (v : View Set) (back : Layers Set) (listed : Option Place) (queue : List (Entry Set))
-    → Rests listed → queue ≡ [] → (p : List ℕ) → OwesByCuts v back listed queue p ↔ Above v.system (place_cost listed) p
-rests_owes v back None queue rests empty p = same_way (IsSystemPlan v.system p)
-rests_owes v back (Some place) queue rests empty p = (
-  (λ h. (h.0, elim h.1 [ inl a ↦ a | inr k ↦ absurd (omega (arith, k.1, no_places v (known_of back) place.after place.left queue p rests empty)) ])),
+pub rests_owes : {Set : Type 0} (v : View Set) (front back : Layers Set) (listed : Option Place) (queue : List (Entry Set))
+    → Rests listed → queue ≡ [] → (p : List ℕ) → OwesByCuts v front back listed queue p ↔ Above v.system (place_cost listed) p
+rests_owes v front back None queue rests empty p = same_way (IsSystemPlan v.system p)
+rests_owes v front back (Some place) queue rests empty p = (
+  (λ h. (h.0, elim h.1 [ inl a ↦ a | inr k ↦ absurd (omega (arith, k.1, no_places v (member_in v front) (known_of back) place.after place.left queue p rests empty)) ])),
   (λ h. (h.0, inl h.1)),
 )
 
@@ -128,10 +129,10 @@ module _ {Set P : Type 0} {v w : View Set} (both both2 : Both Set P) (most : Opt
     (queue queue2 : List (Entry Set)) (rests : Rests old) (empty : queue ≡ [])
     (t : Trades v w (IsOwnOf both) (λ a. IsOwnOf both2 a ⊎ SetIn queue2 a)) where
   abbrev GoneTo : Option Place → Type 0
-  GoneTo l = Moved v w (IsOwnOf both) (IsOwnOf both2) (IsBeneath both2) (back_layers both) (front_layers both2) (back_layers both2) old l queue queue2
+  GoneTo l = Moved v w (IsOwnOf both) (IsOwnOf both2) (IsBeneath both2) (front_layers both) (back_layers both) (front_layers both2) (back_layers both2) old l queue queue2
 
   abbrev Owing : List ℕ → Type 0
-  Owing p = OwesByCuts v (back_layers both) old queue p
+  Owing p = OwesByCuts v (front_layers both) (back_layers both) old queue p
 
   trades_all : Trades v w (Keeping (IsOwnOf both) queue) (Keeping (IsOwnOf both2) queue2)
   trades_all = record {
@@ -149,7 +150,7 @@ module _ {Set P : Type 0} {v w : View Set} (both both2 : Both Set P) (most : Opt
       (same_way (Above v.system (place_cost old) p))
 
   old_owes : (p : List ℕ) → Owing p ↔ Above v.system (place_cost old) p
-  old_owes = rests_owes v (back_layers both) old queue rests empty
+  old_owes = rests_owes v (front_layers both) (back_layers both) old queue rests empty
 
   back_owes : (p : List ℕ) → Above v.system (place_cost old) p ↔ Owing p
   back_owes p = ((old_owes p).1, (old_owes p).0)
@@ -162,8 +163,8 @@ module _ {Set P : Type 0} {v w : View Set} (both both2 : Both Set P) (most : Opt
         at = rests_at w (IsBeneath both2) (front_layers both2) (back_layers both2) new queue2 rests2 none;
         trades = trades_all;
         owes = λ p.
-            let o = subst (λ (l : Option Place). OwesByCuts w (back_layers both2) new queue2 p
-            ↔ Above w.system (place_cost l) p) same (rests_owes w (back_layers both2) new queue2 rests2 none p) in
+            let o = subst (λ (l : Option Place). OwesByCuts w (front_layers both2) (back_layers both2) new queue2 p
+            ↔ Above w.system (place_cost l) p) same (rests_owes w (front_layers both2) (back_layers both2) new queue2 rests2 none p) in
             ((λ h. (old_owes p).1 ((above_on p).0 (o.0 h))), (λ h. o.1 ((above_on p).1 ((old_owes p).0 h))));
       }
 
@@ -175,7 +176,7 @@ module _ {Set P : Type 0} {v w : View Set} (both both2 : Both Set P) (most : Opt
   }
 
   listed_moved : (l : Option Place) → IsCostListed v w (IsBeneath both2) (front_layers both2)
-      (back_layers both2) most old l queue2 → GoneTo l × (0 < length queue2)
+      (back_layers both2) most old l queue2 → GoneTo l × HasSingle queue2
   listed_moved None h = absurd h
   listed_moved (Some place) f = (filled_moved place f, f.some)
 
@@ -203,7 +204,7 @@ module _ {Set P : Type 0} {v w : View Set} (both both2 : Both Set P) (most : Opt
 
 -- nothing is left
 pub rest_of : {Set : Type 0} (listed : Option Place) (queue : List (Entry Set)) → queue ≡ [] → HasMore queue listed → Rests listed
-rest_of listed queue empty h = elim h [ inl lt ↦ absurd (omega (arith, lt, ap length empty)) | inr r ↦ r.1 ]
+rest_of listed queue empty h = elim h [ inl lt ↦ absurd (omega (arith, lt.0, ap length empty)) | inr r ↦ r.1 ]
 
 -- a refused call leaves the cost that is listed
 pub gone_fits : {Set P E : Type 0} (v w : View Set) (both : Both Set P) (most : Option ℕ) (old new : Option Place)

@@ -88,7 +88,7 @@ module _ {Set P : Type 0} {within : Option Set} {v w : View Set} {both both2 : B
         → AnsweredByCuts v u both both2 within old new x z (shell_answer found tidied)
     handed_out z found tidied law hands few = answered u z (shell_answer found tidied) (s.kept.system ∙ t.system) ready_tidied hands.wanted
         (answers_found v.system TopK (OwedBy v both old) (OwedBy u both2 new) (IsTidyCutSpace u) x z none (λ p q. refl)
-        (λ p o. owed_plan v (back_layers both) old.listed old.queue p o) found tidied
+        (λ p o. owed_plan v (front_layers both) (back_layers both) old.listed old.queue p o) found tidied
         (turned_to v.system TopK (shell_most x) (OwedBy v both old) (OwedBy w both2 new) (OwedBy u both2 new) (Ok found) law owes_tidied)
         hands few)
 
@@ -136,11 +136,11 @@ engine_begins {Set = Set} {most = most} {within = within} {u = u} {v = v} {both 
         some_is e = sym (ap (λ (z : Set). Some z) e)
 
 -- at first every plan pends
-pub pends_all : {Set : Type 0} (u v : View Set) (back : Layers Set) (queue : List (Entry Set)) (held : Option (List ℕ))
+pub pends_all : {Set : Type 0} (u v : View Set) (front back : Layers Set) (queue : List (Entry Set)) (held : Option (List ℕ))
     → held ≡ None → v.system ≡ u.system → (p : List ℕ)
-    → OwesHeld (OwesByCuts v back None queue) held p ↔ IsSystemPlan u.system p
-pends_all u v back queue held free e p = rw free (
-    let k = owes_pends (OwesByCuts v back None queue) p in (
+    → OwesHeld (OwesByCuts v front back None queue) held p ↔ IsSystemPlan u.system p
+pends_all u v front back queue held free e p = rw free (
+    let k = owes_pends (OwesByCuts v front back None queue) p in (
       (λ h. subst (λ (y : System). IsSystemPlan y p) e (k.0 h)),
       (λ h. k.1 (subst (λ (y : System). IsSystemPlan y p) (sym e) h)),
     ))

@@ -12,8 +12,9 @@ use Rattle.plan_cuts.proofs.Paths.{both, either, le_of, led, reach_run}
 use Rattle.plan_cuts.proofs.Adding.{hits_none}
 use Rattle.reconstruct.specs.Entries.{entry_cost, as_plain_entry, EntryOk, in_some, member_in, Ready}
 use Rattle.reconstruct.specs.Ways.{JoinsEntry, side_for}
+use Rattle.reconstruct.specs.declared.entries.Prefix.{Prefix}
 use Rattle.reconstruct.specs.declared.entries.Entry.{Entry}
-use Rattle.reconstruct.specs.declared.entries.Entry.TheVariants.{Before, After}
+use Rattle.reconstruct.specs.declared.entries.Entry.TheVariants.{Before, After, Partial}
 
 pub in_layer : {Set : Type 0} (v : View Set) (o : Option Set) (s : State) → in_some v o s ≡ true → (a : Set) × (o ≡ Some a) × Has v a s
 in_layer v None s h = absurd (falsum h)
@@ -25,12 +26,11 @@ LeadsNowhere {Set} v front back e op = (a : Set) (s t : State) → v.system.cost
     → union_at (side_for front back e) (entry_cost e - v.system.cost op) ≡ Some a → ¬ JoinsEntry v e op a s t
 
 module _ {Set : Type 0} (v : View Set) (front back : Layers Set) (op : ℕ) (number : op < v.system.operators) where
-  pub no_child : (f b listed : ℕ) (e : Entry Set) → EntryOk v e → Ready v.system v front back f b listed (as_plain_entry v e)
-      → LeadsNowhere v front back e op → NoChild v.system (member_in v front) (member_in v back) (as_plain_entry v e) op
-  no_child f b listed (Before e) ok ready none =
+  pub off_by : (e : Prefix Set) → LeadsNowhere v front back (Before e) op
+      → (s : State) → into v.system (member_in v front) (v.has e.set) e.cost op s ≡ false
+  off_by e none s =
       let y = v.system in
-      let off : (s : State) → into y (member_in v front) (v.has e.set) e.cost op s ≡ false =
-      λ s. elim (either (into y (member_in v front) (v.has e.set) e.cost op s)) [
+      elim (either (into y (member_in v front) (v.has e.set) e.cost op s)) [
         | inl h ↦ absurd (
             let p = both (leb (y.cost op) e.cost) (member_in v front (e.cost - y.cost op) s && at_some (y.step op s) (v.has e.set)) h in
             let q = both (member_in v front (e.cost - y.cost op) s) (at_some (y.step op s) (v.has e.set)) p.1 in
@@ -38,11 +38,22 @@ module _ {Set : Type 0} (v : View Set) (front back : Layers Set) (op : ℕ) (num
             let t = led y op s (v.has e.set) (y.step op s) number refl q.1 in
             none l.0 s t.0 (le_of _ _ p.0) l.1 (t.2, l.2, t.1))
         | inr h ↦ h
-      ] in (
+      ]
+
+  before_none : (e : Prefix Set) → LeadsNowhere v front back (Before e) op
+      → NoChild v.system (member_in v front) (member_in v back) (as_plain_entry v (Before e)) op
+  before_none e none =
+      let y = v.system in
+      let off = off_by e none in (
         (λ p. hits_none y (into y (member_in v front) (v.has e.set) e.cost op) (e.cost - y.cost op)
             (begins y (op ∷ e.operators.items) e.after) 0 y.initial p off),
         (λ x. falsum (sym (off x.1) ∙ x.2)),
       )
+
+  pub no_child : (f b listed : ℕ) (e : Entry Set) → EntryOk v e → Ready v.system v front back f b listed (as_plain_entry v e)
+      → LeadsNowhere v front back e op → NoChild v.system (member_in v front) (member_in v back) (as_plain_entry v e) op
+  no_child f b listed (Before e) ok ready none = before_none e none
+  no_child f b listed (Partial e) ok ready none = before_none e.prefix none
   no_child f b listed (After e) ok ready none =
       let y = v.system in
       let at = e.state in

@@ -11,13 +11,13 @@ use Rattle.plan_cuts.specs.Entries.{PlainEntry, BwdIn, zeros, Goes, IsBegun, hei
 use Rattle.plan_cuts.specs.Growing.{Gathered}
 use Rattle.plan_cuts.proofs.Paths.{both, either, run_one}
 use Rattle.plan_cuts.proofs.Assembling.{goes_plain, goes_begun, gives_plain, head_some, tail_some, begins_same, not_begun}
-use Rattle.reconstruct.specs.Entries.{as_plain_entry, plains, EntryOk, MakesEntries, member_in, Ready}
+use Rattle.reconstruct.specs.Entries.{as_plain_entry, plains, IsSingle, EntryOk, MakesEntries, member_in, Ready}
 use Rattle.reconstruct.specs.Grown.{Expands}
 use Rattle.reconstruct.specs.Turned.{IsDone, IsWholePrefix, Begun, BeginsToo, begun_entries, GoesOrGives, given_plan, MakesFollowers}
 use Rattle.reconstruct.specs.declared.entries.Prefix.{Prefix}
 use Rattle.reconstruct.specs.declared.entries.Suffix.{Suffix}
 use Rattle.reconstruct.specs.declared.entries.Entry.{Entry}
-use Rattle.reconstruct.specs.declared.entries.Entry.TheVariants.{Before, After}
+use Rattle.reconstruct.specs.declared.entries.Entry.TheVariants.{Before, After, Partial}
 use Rattle.reconstruct.proofs.Kept.{plains_append}
 use Rattle.reconstruct.proofs.Sets.{makes_last, new_after}
 
@@ -48,34 +48,34 @@ module _ {Set : Type 0} (u v : View Set) (front back : Layers Set) (f b listed :
   -- a suffix
   pub suffix_turn : (e : Suffix) (done : Bool) → EntryOk u (After e) → (IsTrue done ↔ IsDone u (After e))
       → Ready y u front back f b listed (as_plain_entry u (After e))
-      → Gathered y fr bk (as_plain_entry u (After e)) (plains v level) (plains v falling)
-      → GoesOrGives y fr bk (others ++ as_plain_entry u (After e) ∷ []) (others ++ (plains v level ++ plains v falling))
+      → Gathered y fr bk (as_plain_entry u (After e)) (plains v fr level) (plains v fr falling)
+      → GoesOrGives y fr bk (others ++ as_plain_entry u (After e) ∷ []) (others ++ (plains v fr level ++ plains v fr falling))
       (given_plan {Set = Set} done (After e))
   suffix_turn e true ok says ready g =
       let d = says.0 refl in
-      gives_plain y fr bk (as_plain_entry u (After e)) others (plains v level) (plains v falling) g e.operators.items (d.0, refl, (e.state, ok, d.1))
+      gives_plain y fr bk (as_plain_entry u (After e)) others (plains v fr level) (plains v fr falling) g e.operators.items (d.0, refl, (e.state, ok, d.1))
   suffix_turn e false ok says ready g =
       let open_ : e.cost ≡ 0 → IsSystemPlan y e.operators.items → ⊥ = λ z p.
       let at : p.0 ≡ e.state = run_one y y.initial e.operators.items p.0 e.state p.1 ok in
       clash false (says.1 (z, subst (λ (s : State). IsTrue (y.goal s)) at p.2)) refl in
       let some = tail_some listed ready.sides.tables g ready.stands (λ h. open_ h.0 h.1) in
-      goes_plain y fr bk (as_plain_entry u (After e)) others (plains v level) (plains v falling) g open_ (λ p. refl) some
+      goes_plain y fr bk (as_plain_entry u (After e)) others (plains v fr level) (plains v fr falling) g open_ (λ p. refl) some
 
   -- a prefix that doesn't begin yet
   pub prefix_turn : (e : Prefix Set) → ¬ IsWholePrefix u e → Ready y u front back f b listed (as_plain_entry u (Before e))
-      → Gathered y fr bk (as_plain_entry u (Before e)) (plains v level) (plains v falling)
-      → Goes y fr bk (others ++ as_plain_entry u (Before e) ∷ []) (others ++ (plains v level ++ plains v falling))
+      → Gathered y fr bk (as_plain_entry u (Before e)) (plains v fr level) (plains v fr falling)
+      → Goes y fr bk (others ++ as_plain_entry u (Before e) ∷ []) (others ++ (plains v fr level ++ plains v fr falling))
   prefix_turn e none ready g =
       let some = head_some listed ready.sides.tables g ready.stands none in
-      goes_plain y fr bk (as_plain_entry u (Before e)) others (plains v level) (plains v falling) g tt
+      goes_plain y fr bk (as_plain_entry u (Before e)) others (plains v fr level) (plains v fr falling) g tt
       (λ p. not_begun y (u.has e.set) e.cost e.ring e.operators.items e.after p
       (off e.cost (u.has e.set y.initial) none)) some
 
   -- a prefix that begins
   pub begun_turn : (w : View Set) (e : Prefix Set) (c : Suffix) → IsWholePrefix u e → Begun u back e c
       → Ready y u front back f b listed (as_plain_entry u (Before e))
-      → Gathered y fr bk (as_plain_entry u (Before e)) (plains v level) (plains v falling)
-      → Goes y fr bk (others ++ as_plain_entry u (Before e) ∷ []) (others ++ ((plains v level ++ plains v falling) ++ as_plain_entry w (After c) ∷ []))
+      → Gathered y fr bk (as_plain_entry u (Before e)) (plains v fr level) (plains v fr falling)
+      → Goes y fr bk (others ++ as_plain_entry u (Before e) ∷ []) (others ++ ((plains v fr level ++ plains v fr falling) ++ as_plain_entry w (After c) ∷ []))
   begun_turn w e c start begins ready g =
       let m = ready.stands.2 y.initial start.1 in
       let same : m.0 ≡ c.state = run_one y y.initial e.operators.items m.0 c.state m.1 begins.runs in
@@ -104,10 +104,13 @@ module _ {Set : Type 0} (u v : View Set) (front back : Layers Set) (f b listed :
       let hits : (p : List ℕ) → entry_hits y (as_plain_entry w (After c)) p ≡ begun_hits y (as_plain_entry u (Before e)) p =
       λ p. rw (ops, cost, start.0) (begins_same y (u.has e.set) e.ring e.operators.items e.after c.ring p
       start.1) in
-      goes_begun y fr bk (as_plain_entry u (Before e)) others (plains v level) (plains v falling) g (as_plain_entry w (After c)) tt begun hits low long
+      goes_begun y fr bk (as_plain_entry u (Before e)) others (plains v fr level) (plains v fr falling) g (as_plain_entry w (After c)) tt begun hits low long
 
 -- the children were made in v
 module _ {Set : Type 0} (u v : View Set) (front back : Layers Set) (hb : Held u back) where
+  abbrev pub fu : ℕ → State → Bool
+  fu = member_in u front
+
   -- a suffix has no set
   pub begun_made : (es : List (Entry Set)) (e : Prefix Set) (c : Suffix) → MakesEntries u v es → Begun u back e c → MakesEntries u v (es ++ After c ∷ [])
   begun_made es e c m b =
@@ -116,30 +119,31 @@ module _ {Set : Type 0} (u v : View Set) (front back : Layers Set) (hb : Held u 
       let fine : EntryOk v (After c) = subst (λ (y : System). RunsInSystem y y.initial c.operators.items c.state) (sym m.kept.system) run in
       makes_last u v v [] es (After c) m (kept_refl v) (new_after v c) fine
 
-  pub follow_law : (e : Entry Set) (es all : List (Entry Set)) (done : Bool) (o : Option Suffix) → EntryOk u e
+  pub follow_law : (e : Entry Set) (es all : List (Entry Set)) (done : Bool) (o : Option Suffix) → IsSingle e → EntryOk u e
       → (IsTrue done ↔ IsDone u e) → Expands u v front back e es → BeginsToo u back e o
       → all ≡ es ++ begun_entries o → MakesFollowers u v front back e all done
-  follow_law (After e) es all done (Some c) ok says ex too is = absurd too
-  follow_law (After e) es all done None ok says ex too is =
+  follow_law (Partial e) es all done o made ok says ex too is = absurd made
+  follow_law (After e) es all done (Some c) made ok says ex too is = absurd too
+  follow_law (After e) es all done None made ok says ex too is =
       let all_is : all ≡ es = is ∙ append-nil es in (
         subst (λ (xs : List (Entry Set)). MakesEntries u v xs) (sym all_is) ex.0,
         (λ f b listed others ready.
-            let parts : plains v all ≡ plains v ex.1.0 ++ plains v ex.1.1 = ap (plains v) (all_is ∙ ex.1.2) ∙ plains_append v ex.1.0 ex.1.1 in
+            let parts : plains v fu all ≡ plains v fu ex.1.0 ++ plains v fu ex.1.1 = ap (plains v fu) (all_is ∙ ex.1.2) ∙ plains_append v fu ex.1.0 ex.1.1 in
             rw parts (suffix_turn u v front back f b listed others ex.1.0 ex.1.1 hb e done ok says ready (ex.1.3 f b listed ready))),
       )
-  follow_law (Before e) es all true o ok says ex too is = absurd (says.0 refl)
-  follow_law (Before e) es all false None ok says ex too is =
+  follow_law (Before e) es all true o made ok says ex too is = absurd (says.0 refl)
+  follow_law (Before e) es all false None made ok says ex too is =
       let all_is : all ≡ es = is ∙ append-nil es in (
         subst (λ (xs : List (Entry Set)). MakesEntries u v xs) (sym all_is) ex.0,
         (λ f b listed others ready.
-            let parts : plains v all ≡ plains v ex.1.0 ++ plains v ex.1.1 = ap (plains v) (all_is ∙ ex.1.2) ∙ plains_append v ex.1.0 ex.1.1 in
+            let parts : plains v fu all ≡ plains v fu ex.1.0 ++ plains v fu ex.1.1 = ap (plains v fu) (all_is ∙ ex.1.2) ∙ plains_append v fu ex.1.0 ex.1.1 in
             rw parts (prefix_turn u v front back f b listed others ex.1.0 ex.1.1 hb e too ready (ex.1.3 f b listed ready))),
       )
-  follow_law (Before e) es all false (Some c) ok says ex too is = (
+  follow_law (Before e) es all false (Some c) made ok says ex too is = (
     subst (λ (xs : List (Entry Set)). MakesEntries u v xs) (sym is) (begun_made es e c ex.0 too.1),
     (λ f b listed others ready.
-        let made : plains v es ≡ plains v ex.1.0 ++ plains v ex.1.1 = ap (plains v) ex.1.2 ∙ plains_append v ex.1.0 ex.1.1 in
-        let parts : plains v all ≡ (plains v ex.1.0 ++ plains v ex.1.1) ++ as_plain_entry v (After c) ∷ [] = ap (plains v) is
-        ∙ plains_append v es (After c ∷ []) ∙ ap (λ (q : List PlainEntry). q ++ as_plain_entry v (After c) ∷ []) made in
+        let made : plains v fu es ≡ plains v fu ex.1.0 ++ plains v fu ex.1.1 = ap (plains v fu) ex.1.2 ∙ plains_append v fu ex.1.0 ex.1.1 in
+        let parts : plains v fu all ≡ (plains v fu ex.1.0 ++ plains v fu ex.1.1) ++ as_plain_entry v (After c) ∷ [] = ap (plains v fu) is
+        ∙ plains_append v fu es (After c ∷ []) ∙ ap (λ (q : List PlainEntry). q ++ as_plain_entry v (After c) ∷ []) made in
         rw parts (begun_turn u v front back f b listed others ex.1.0 ex.1.1 hb v e c too.0 too.1 ready (ex.1.3 f b listed ready))),
   )

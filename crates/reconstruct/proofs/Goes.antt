@@ -47,16 +47,16 @@ module _ {Set : Type 0} (v v1 w : View Set) (Uses : Set → Type 0) (front back 
     (old : Option Place) (cost : ℕ) (place : Place) (queue : List (Entry Set)) (sys : v1.system ≡ v.system)
     (w_sys : w.system ≡ v.system) (n : IsNextCost v.system (place_cost old) most front back cost)
     (l : IsListing w Uses front back place queue) (same : place.cost ≡ cost)
-    (start : Place) (f : IsFresh start cost) (owes : (p : List ℕ) → OwedAt w back place queue p ↔ OwedAt v1 back start [] p) where
-  first_owed : (p : List ℕ) → OwedAt v1 back start [] p ↔ Above v.system (place_cost old) p
+    (start : Place) (f : IsFresh start cost) (owes : (p : List ℕ) → OwedAt w front back place queue p ↔ OwedAt v1 front back start [] p) where
+  first_owed : (p : List ℕ) → OwedAt v1 front back start [] p ↔ Above v.system (place_cost old) p
   first_owed p =
       let base = next_owed v.system (known_of back) (known_of back) (place_cost old) cost n.least
       (λ q plan le. from_cost v.system (place_cost old) n.plan.0 q n.plan.1 plan (omega (arith, n.plan.2, le)))
       p in
-      at_place (λ c o x. IsOwed v1 back c [] (undrawn x o) p ↔ Above v.system (place_cost old) p) start cost None true f.cost_is f.after f.left
+      at_place (λ c o x. IsOwed v1 front back c [] (undrawn x o) p ↔ Above v.system (place_cost old) p) start cost None true f.cost_is f.after f.left
       (subst (λ (y : System). Owed y (known_of back) cost [] (undrawn true None) p ↔ Above v.system (place_cost old) p) (sym sys) base)
 
-  all_owed : (p : List ℕ) → OwedAt w back place queue p ↔ Above v.system (place_cost old) p
+  all_owed : (p : List ℕ) → OwedAt w front back place queue p ↔ Above v.system (place_cost old) p
   all_owed p = ((λ h. (first_owed p).0 ((owes p).0 h)), (λ h. (owes p).1 ((first_owed p).1 h)))
 
   -- the cost has a plan, so a cut was there
@@ -64,8 +64,8 @@ module _ {Set : Type 0} (v v1 w : View Set) (Uses : Set → Type 0) (front back 
   not_empty h =
       let p = n.plan in
       let o = (all_owed p.0).1 p.1 in
-      let o2 = subst (λ (q : List (Entry Set)). OwedAt w back place q p.0) h.0 o in
-      let o3 = subst (λ (b : Bool). IsOwed w back place.cost [] (undrawn b place.after) p.0) h.1 o2 in
+      let o2 = subst (λ (q : List (Entry Set)). OwedAt w front back place q p.0) h.0 o in
+      let o3 = subst (λ (b : Bool). IsOwed w front back place.cost [] (undrawn b place.after) p.0) h.1 o2 in
       let is : cost_in_system w.system p.0 ≡ cost_in_system v.system p.0 = ap (λ (y : System). cost_in_system y p.0) w_sys in
       elim o3.1 [ inl a ↦ omega (arith, a, is, p.2, same) | inr k ↦ omega (arith, k.1) ]
 

@@ -24,4 +24,7 @@ pub mod Turning
 pub mod RightLayers
 pub mod Staying
 pub mod Walks
+pub mod ChildrenBy
+pub mod Parting
+pub mod SingleOut
 pub mod Opens

@@ -32,19 +32,16 @@ module _ {Set : Type 0} {v v1 w : View Set} {op : ℕ} (number : op < v.system.o
   y = v.system
 
   -- a prefix
-  module _ {front : Layers Set} {within a : Set} {e c : Prefix Set} (ok : EntryOk v (Before e))
+  module _ (front : Layers Set) {within a : Set} {e : Prefix Set} (ok : EntryOk v (Before e))
       (le : y.cost op ≤ e.cost) (at : union_at front (e.cost - y.cost op) ≡ Some within) (held : Held v front)
-      (found : IsChildSet v v1 e op within a) (grown : GrownBefore v1 front e op (y.cost op) a c) where
-    leads_on : LeadOn w a (op ∷ e.operators.items)
+      (found : IsChildSet v v1 e op within a) where
+    pub leads_on : LeadOn w a (op ∷ e.operators.items)
     leads_on s h =
         let m = (found.means s).0 (sym (k2.same a found.new.valid s) ∙ h) in
         let r = ok.1 m.0 m.1.2 in
         (r.0, subst (λ (z : System). RunsInSystem z s (op ∷ e.operators.items) r.0) (sym (k2.system ∙ k1.system)) (m.0, m.1.0, r.1))
 
-    pub before_ok : EntryOk w (Before c)
-    before_ok = rw (grown.set_is, grown.operators_are) (k2.valid a found.new.valid, leads_on)
-
-    abbrev wanted : State → Bool
+    abbrev pub wanted : State → Bool
     wanted = into y (member_in v front) (v.has e.set) e.cost op
 
     wants : (s : State) → wanted s ≡ true → (t : State) × Leads y op s t × Has v within s × Has v e.set t
@@ -57,54 +54,58 @@ module _ {Set : Type 0} {v v1 w : View Set} {op : ℕ} (number : op < v.system.o
     wanted_by : (s t : State) → Leads y op s t → Has v within s → Has v e.set t → wanted s ≡ true
     wanted_by s t l i h = rw (leb_yes (y.cost op) e.cost le, in_whole v (union_at front (e.cost - y.cost op)) within s at ∙ i, l.step) h
 
-    has : (s : State) → v1.has a s ≡ wanted s
+    pub has : (s : State) → v1.has a s ≡ wanted s
     has s = same_test (v1.has a s) (wanted s)
         (λ h. let m = (found.means s).0 h in wanted_by s m.0 m.1.0 m.1.1 m.1.2)
         (λ h. (found.means s).1 (let m = wants s h in (m.0, (m.1, m.2, m.3))))
 
-    module _ (back : Layers Set) (f b listed : ℕ) (ready : Ready y v front back f b listed (as_plain_entry v (Before e))) where
-      below : e.cost - y.cost op < f
-      below = omega (arith, ready.stands.4)
+    module _ {c : Prefix Set} (grown : GrownBefore v1 front e op (y.cost op) a c) where
+      pub before_ok : EntryOk w (Before c)
+      before_ok = rw (grown.set_is, grown.operators_are) (k2.valid a found.new.valid, leads_on)
 
-      member : (s : State) → wanted s ≡ true → ReachedAt y (e.cost - y.cost op) s × Useful y s
-      member s h =
-          let p = both (leb (y.cost op) e.cost) (member_in v front (e.cost - y.cost op) s && at_some (y.step op s) (v.has e.set)) h in
-          let q = both (member_in v front (e.cost - y.cost op) s) (at_some (y.step op s) (v.has e.set)) p.1 in
-          let g = ready.sides.tables.front_sound (e.cost - y.cost op) s below q.0 in
-          let t = led y op s (v.has e.set) (y.step op s) number refl q.1 in
-          let m = ready.stands.2 t.0 t.1 in
-          let r = m.2 in
-          let rest = e.operators.items ++ r.0 in
-          let bwd : ToGoalAt y (cost_in_system y rest) t.0 = (rest, r.1, joined y e.operators.items r.0 t.0 m.0 r.1 m.1 r.2, r.3, refl) in
-          (g, record { before = (e.cost - y.cost op, g); after = (y.cost op + cost_in_system y rest, bwd_more y (cost_in_system y rest) op s t.0 t.2 bwd) })
+      module _ (back : Layers Set) (f b listed : ℕ) (ready : Ready y v front back f b listed (as_plain_entry v (Before e))) where
+        below : e.cost - y.cost op < f
+        below = omega (arith, ready.stands.4)
 
-      at_ring : (s : State) (n : ℕ) → wanted s ≡ true → FwdIn y (e.cost - y.cost op) n s → (c.ring ≤ n)
-          × ((t : State) × StandsIn v1 front (e.cost - y.cost op) c.ring t × Has v1 a t)
-      at_ring s n h g =
-          let m = member s h in
-          let there = ready.sides.front_rings.there (e.cost - y.cost op) n s below m.1 g in
-          let l = grown.least there.0 s ((stands_kept v v1 k1 front (e.cost - y.cost op) there.0 s held).1 there.2) (has s ∙ h) in
-          (omega (arith, l.0, there.1), l.1)
+        member : (s : State) → wanted s ≡ true → ReachedAt y (e.cost - y.cost op) s × Useful y s
+        member s h =
+            let p = both (leb (y.cost op) e.cost) (member_in v front (e.cost - y.cost op) s && at_some (y.step op s) (v.has e.set)) h in
+            let q = both (member_in v front (e.cost - y.cost op) s) (at_some (y.step op s) (v.has e.set)) p.1 in
+            let g = ready.sides.tables.front_sound (e.cost - y.cost op) s below q.0 in
+            let t = led y op s (v.has e.set) (y.step op s) number refl q.1 in
+            let m = ready.stands.2 t.0 t.1 in
+            let r = m.2 in
+            let rest = e.operators.items ++ r.0 in
+            let bwd : ToGoalAt y (cost_in_system y rest) t.0 = (rest, r.1, joined y e.operators.items r.0 t.0 m.0 r.1 m.1 r.2, r.3, refl) in
+            (g, record { before = (e.cost - y.cost op, g); after = (y.cost op + cost_in_system y rest, bwd_more y (cost_in_system y rest) op s t.0 t.2 bwd) })
 
-      pub before_child : IsChild y (member_in v front) (member_in v back) (as_plain_entry v (Before e)) op (as_plain_entry w (Before c))
-      before_child =
-          let same : (s : State) → w.has c.set s ≡ wanted s = λ s. rw grown.set_is (k2.same a found.new.valid s ∙ has s) in
-          let s0 = found.some.0 in
-          let j0 = found.some.2 in
-          let h0 : wanted s0 ≡ true = wanted_by s0 found.some.1 j0.0 j0.1 j0.2 in
-          let g0 = ends_of_fwd y (e.cost - y.cost op) s0 (member s0 h0).0 in
-          let r0 = (at_ring s0 (zeros y g0.0) h0 (g0.0, g0.1, g0.2, refl)).1 in
-          let h1 : wanted r0.0 ≡ true = sym (has r0.0) ∙ r0.2 in
-          let in_ring = ready.sides.front_rings.sound (e.cost - y.cost op) c.ring r0.0 below (member r0.0 h1).1
-          ((stands_kept v v1 k1 front (e.cost - y.cost op) c.ring r0.0 held).0 r0.1) in (
-            same,
-            grown.cost_is,
-            grown.operators_are,
-            grown.after_is,
-            (r0.0, same r0.0 ∙ h1, subst (λ (x : ℕ). FwdIn y x c.ring r0.0) (sym grown.cost_is) in_ring),
-            (λ s n h g. (at_ring s n (sym (same s) ∙ h) (subst (λ (x : ℕ). FwdIn y x n s) grown.cost_is g)).0),
-            number,
-          )
+        at_ring : (s : State) (n : ℕ) → wanted s ≡ true → FwdIn y (e.cost - y.cost op) n s → (c.ring ≤ n)
+            × ((t : State) × StandsIn v1 front (e.cost - y.cost op) c.ring t × Has v1 a t)
+        at_ring s n h g =
+            let m = member s h in
+            let there = ready.sides.front_rings.there (e.cost - y.cost op) n s below m.1 g in
+            let l = grown.least there.0 s ((stands_kept v v1 k1 front (e.cost - y.cost op) there.0 s held).1 there.2) (has s ∙ h) in
+            (omega (arith, l.0, there.1), l.1)
+
+        pub before_child : IsChild y (member_in v front) (member_in v back) (as_plain_entry v (Before e)) op (as_plain_entry w (Before c))
+        before_child =
+            let same : (s : State) → w.has c.set s ≡ wanted s = λ s. rw grown.set_is (k2.same a found.new.valid s ∙ has s) in
+            let s0 = found.some.0 in
+            let j0 = found.some.2 in
+            let h0 : wanted s0 ≡ true = wanted_by s0 found.some.1 j0.0 j0.1 j0.2 in
+            let g0 = ends_of_fwd y (e.cost - y.cost op) s0 (member s0 h0).0 in
+            let r0 = (at_ring s0 (zeros y g0.0) h0 (g0.0, g0.1, g0.2, refl)).1 in
+            let h1 : wanted r0.0 ≡ true = sym (has r0.0) ∙ r0.2 in
+            let in_ring = ready.sides.front_rings.sound (e.cost - y.cost op) c.ring r0.0 below (member r0.0 h1).1
+            ((stands_kept v v1 k1 front (e.cost - y.cost op) c.ring r0.0 held).0 r0.1) in (
+              same,
+              grown.cost_is,
+              grown.operators_are,
+              grown.after_is,
+              (r0.0, same r0.0 ∙ h1, subst (λ (x : ℕ). FwdIn y x c.ring r0.0) (sym grown.cost_is) in_ring),
+              (λ s n h g. (at_ring s n (sym (same s) ∙ h) (subst (λ (x : ℕ). FwdIn y x n s) grown.cost_is g)).0),
+              number,
+            )
 
 -- a suffix, in one view
 module _ {Set : Type 0} {v : View Set} {back : Layers Set} {op : ℕ} {within : Set} {to : State}

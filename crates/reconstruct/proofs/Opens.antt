@@ -71,6 +71,7 @@ module _ {Set : Type 0} (v : View Set) (front back : Layers Set) (cost : ℕ) (e
   whole_opened = record {
     kept = kept_refl v;
     new = new_after v e;
+    single = tt;
     fine = fine;
     stands = λ f b sides lt c. whole_stands f b sides c;
     hits = λ f b sides lt c. whole_hits f b sides c;
@@ -159,6 +160,7 @@ module _ {Set : Type 0} {v v1 w : View Set} {front : Layers Set} (back : Layers 
   cross_opened cost = record {
     kept = kept_trans k1 s1.kept;
     new = new_before v w e (subst (λ (q : Set). IsNewSet v w q) (sym o.set_is) new_cross);
+    single = tt;
     fine = cross_fine;
     stands = λ f b sides lt c. cross_stand cost f b sides lt c;
     hits = λ f b sides lt c p plan is. cross_hit cost f b sides lt c p plan;

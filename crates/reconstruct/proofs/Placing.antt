@@ -18,7 +18,7 @@ use Rattle.reconstruct.specs.Entries.{as_plain_entry, SetIn, member_in, RightSid
 use Rattle.reconstruct.specs.Turned.{IsQueue}
 use Rattle.reconstruct.specs.declared.entries.Entry.{Entry}
 use Rattle.reconstruct.proofs.Barren.{in_layer}
-use Rattle.reconstruct.proofs.Kept.{member_kept, sides_kept}
+use Rattle.reconstruct.proofs.Kept.{member_kept, plains_last, sides_kept}
 use Rattle.space_api.proofs.Keeping.{kept_trans}
 use Rattle.reconstruct.specs.Walked.{IsLawful, IsOwed}
 use Rattle.reconstruct.proofs.RightLayers.{serve}
@@ -96,15 +96,19 @@ module _ {Set : Type 0} (v w : View Set) (front back : Layers Set) (cost : ℕ) 
     hits_at = o.hits (known_of front) (known_of back) (sides_of v front back r) lt next.0
 
     pub one_lawful : IsLawful v front back cost [] (undrawn true after) → IsLawful w front back cost (e ∷ []) (undrawn true (Some cut))
-    one_lawful l = lawful_on v w front back o.kept r.front_held r.back_held cost (as_plain_entry w e ∷ []) (undrawn true (Some cut))
+    one_lawful l = subst (λ (es : List PlainEntry). Lawful w.system (member_in w front) (member_in w back) (known_of front)
+        (known_of back) cost es (undrawn true (Some cut))) (sym (plains_last w (member_in w front) [] e o.single))
+        (lawful_on v w front back o.kept r.front_held r.back_held cost (as_plain_entry w e ∷ []) (undrawn true (Some cut))
         (drawn_lawful v.system (known_of back) cost (member_in v front) (member_in v back) (known_of front) r.begun.1
-        after cut (as_plain_entry w e) next stands_at hits_at l)
+        after cut (as_plain_entry w e) next stands_at hits_at l))
 
-    pub one_owed : (p : List ℕ) → IsOwed w back cost (e ∷ []) (undrawn true (Some cut)) p ↔ IsOwed v back cost [] (undrawn true after) p
+    pub one_owed : (p : List ℕ) → IsOwed w front back cost (e ∷ []) (undrawn true (Some cut)) p ↔ IsOwed v front back cost [] (undrawn true after) p
     one_owed p =
         let a = owed_on v w front back o.kept r.front_held r.back_held (known_of back) cost (as_plain_entry w e ∷ []) (undrawn true (Some cut)) p in
         let d = drawn_owed v.system (known_of back) cost (member_in v front) (member_in v back) (known_of front)
         r.begun.1 after cut (as_plain_entry w e) next stands_at hits_at p in
+        subst (λ (es : List PlainEntry). Owed w.system (known_of back) cost es (undrawn true (Some cut)) p
+        ↔ IsOwed v front back cost [] (undrawn true after) p) (sym (plains_last w (member_in w front) [] e o.single))
         ((λ h. d.0 (a.0 h)), (λ h. a.1 (d.1 h)))
 
     pub one_queue : IsQueue w (e ∷ [])
@@ -131,7 +135,7 @@ module _ {Set : Type 0} (v w : View Set) (front back : Layers Set) (cost : ℕ) 
         (none_lawful v.system (known_of back) cost (member_in v front) (member_in v back) (known_of front)
         r.begun.1 after none l.tables)
 
-    pub none_owes : (p : List ℕ) → IsOwed w back cost [] (undrawn false after) p ↔ IsOwed v back cost [] (undrawn true after) p
+    pub none_owes : (p : List ℕ) → IsOwed w front back cost [] (undrawn false after) p ↔ IsOwed v front back cost [] (undrawn true after) p
     none_owes p =
         let a = owed_on v w front back s.kept r.front_held r.back_held (known_of back) cost [] (undrawn false after) p in
         let d = none_owed v.system (known_of back) cost (member_in v front) (member_in v back) (known_of front) r.begun.1 after none p in
@@ -155,11 +159,11 @@ module _ {Set : Type 0} (v : View Set) (Uses : Set → Type 0) (front back : Lay
       (subst (λ (q : List (Entry Set)). IsLawful v front back place.cost q (undrawn place.left place.after)) empty
       l.lawful)
 
-  owed_at : (p : List ℕ) → IsOwed v back place.cost [] (undrawn true place.after) p ↔ OwedAt v back place queue p
+  owed_at : (p : List ℕ) → IsOwed v front back place.cost [] (undrawn true place.after) p ↔ OwedAt v front back place queue p
   owed_at p = (
-    (λ h. subst (λ (q : List (Entry Set)). OwedAt v back place q p) (sym empty)
-        (subst (λ (x : Bool). IsOwed v back place.cost [] (undrawn x place.after) p) (sym left) h)),
-    (λ h. subst (λ (x : Bool). IsOwed v back place.cost [] (undrawn x place.after) p) left (subst (λ (q : List (Entry Set)). OwedAt v back place q p) empty h)),
+    (λ h. subst (λ (q : List (Entry Set)). OwedAt v front back place q p) (sym empty)
+        (subst (λ (x : Bool). IsOwed v front back place.cost [] (undrawn x place.after) p) (sym left) h)),
+    (λ h. subst (λ (x : Bool). IsOwed v front back place.cost [] (undrawn x place.after) p) left (subst (λ (q : List (Entry Set)). OwedAt v front back place q p) empty h)),
   )
 
   -- what was done, by what is known of it without the place
@@ -167,8 +171,8 @@ module _ {Set : Type 0} (v : View Set) (Uses : Set → Type 0) (front back : Lay
       → place2.cost ≡ place.cost → place2.after ≡ after2 → place2.left ≡ left2 → Kept v w → IsQueue w queue2
       → ((a : Set) → SetIn queue2 a → ¬ Uses a) → Trades v w (SetIn {Set = Set} []) (SetIn queue2) → AreReadyAt v.system (known_of back) place2
       → IsLawful w front back place.cost queue2 (undrawn left2 after2)
-      → ((p : List ℕ) → IsOwed w back place.cost queue2 (undrawn left2 after2) p
-      ↔ IsOwed v back place.cost [] (undrawn true place.after) p)
+      → ((p : List ℕ) → IsOwed w front back place.cost queue2 (undrawn left2 after2) p
+      ↔ IsOwed v front back place.cost [] (undrawn true place.after) p)
       → Drew v w Uses front back place place2 queue queue2
   drew_of {w = w} place2 {queue2 = queue2} {after2 = after2} {left2 = left2} cost after mark k fine apart t ready lawful owes = record {
     kept = k;
@@ -184,7 +188,7 @@ module _ {Set : Type 0} (v : View Set) (Uses : Set → Type 0) (front back : Lay
     owes = λ p.
         let o = owes p in
         let a = owed_at p in
-        at_place (λ c x y. IsOwed w back c queue2 (undrawn y x) p ↔ OwedAt v back place queue p) place2 place.cost
+        at_place (λ c x y. IsOwed w front back c queue2 (undrawn y x) p ↔ OwedAt v front back place queue p) place2 place.cost
         after2 left2 cost after mark ((λ h. a.0 (o.0 h)), (λ h. o.1 (a.1 h)));
   }
 
@@ -262,6 +266,7 @@ opened_from {v = v} {v1 = v1} {w = w} {front = front} {back = back} {cost = cost
     only = λ a h. elim (o.new.only a h) [ inl k ↦ inl (s.only a k) | inr q ↦ inr q ];
   };
   fine = o.fine;
+  single = o.single;
   stands = λ f b sides lt c.
       subst (λ (y : System). StandsOnLayers y f b cost (as_plain_entry w e)) s.kept.system
       (o.stands f b (subst (λ (y : System). RightSides y v1 front back f b) (sym s.kept.system)

@@ -13,8 +13,9 @@ use Rattle.reconstruct.specs.Ways.{IsNewSet}
 use Rattle.reconstruct.specs.Turned.{GivesBack}
 use Rattle.reconstruct.specs.declared.entries.Prefix.{Prefix}
 use Rattle.reconstruct.specs.declared.entries.Suffix.{Suffix}
+use Rattle.reconstruct.specs.declared.entries.Partial.{Partial as PartialPrefix}
 use Rattle.reconstruct.specs.declared.entries.Entry.{Entry}
-use Rattle.reconstruct.specs.declared.entries.Entry.TheVariants.{Before, After}
+use Rattle.reconstruct.specs.declared.entries.Entry.TheVariants.{Before, After, Partial}
 
 module _ {Set : Type 0} where
   pub in_append : (xs ys : List (Entry Set)) (a : Set) → SetIn (xs ++ ys) a ↔ (SetIn xs a ⊎ SetIn ys a)
@@ -49,13 +50,16 @@ module _ {Set : Type 0} where
   all_join P (x ∷ xs) ys a b = (a.0, all_join P xs ys a.1 b)
 
   -- entries whose sets stay valid and have the same states
-  lead_same : (v w : View Set) (a : Set) (ops : List ℕ) → w.system ≡ v.system → ((s : State) → w.has a s ≡ v.has a s) → LeadOn v a ops → LeadOn w a ops
+  pub lead_same : (v w : View Set) (a : Set) (ops : List ℕ) → w.system ≡ v.system → ((s : State) → w.has a s ≡ v.has a s) → LeadOn v a ops → LeadOn w a ops
   lead_same v w a ops sys same lead s h = let r = lead s (sym (same s) ∙ h) in (r.0, rw sys r.1)
 
   pub ok_same : (v w : View Set) (e : Entry Set) → w.system ≡ v.system
       → ((a : Set) → HasSet e a → Valid w a × ((s : State) → w.has a s ≡ v.has a s)) → EntryOk v e → EntryOk w e
   ok_same v w (Before e) sys f ok = let r = f e.set refl in (r.0, lead_same v w e.set e.operators.items sys r.1 ok.1)
   ok_same v w (After e) sys f ok = rw sys ok
+  ok_same v w (Partial e) sys f ok =
+      let r = f e.prefix.set refl in
+      (r.0, lead_same v w e.prefix.set e.prefix.operators.items sys r.1 ok.1, rw sys ok.2)
 
   pub all_same : (v w : View Set) (es : List (Entry Set)) → w.system ≡ v.system
       → ((a : Set) → SetIn es a → Valid w a × ((s : State) → w.has a s ≡ v.has a s)) → AllByRecursion (EntryOk v) es
@@ -66,6 +70,7 @@ module _ {Set : Type 0} where
   pub ok_valid : (v : View Set) (e : Entry Set) → EntryOk v e → (a : Set) → HasSet e a → Valid v a
   ok_valid v (Before e) ok a h = subst (λ (x : Set). Valid v x) (sym h) ok.0
   ok_valid v (After e) ok a h = absurd h
+  ok_valid v (Partial e) ok a h = subst (λ (x : Set). Valid v x) (sym h) ok.0
 
   pub in_valid : (v : View Set) (es : List (Entry Set)) (a : Set) → AllByRecursion (EntryOk v) es → SetIn es a → Valid v a
   in_valid v [] a ok h = absurd h
@@ -298,6 +303,9 @@ module _ {Set : Type 0} where
 
   pub new_after : (v : View Set) (e : Suffix) → IsNewEntry v v (After e)
   new_after v e = record { fresh = λ a h. absurd h; only = λ a h. inl h }
+
+  pub new_partial : (v w : View Set) (e : PartialPrefix Set) → IsNewSet v w e.prefix.set → IsNewEntry v w (Partial e)
+  new_partial v w e n = record { fresh = λ a h. subst (λ (x : Set). IsFalse (v.valid x)) (sym h) n.fresh; only = n.only }
 
   -- the one entry that was made is given back
   pub entry_back : (u v w : View Set) (e : Entry Set) → Kept u v → IsNewEntry u v e → EntryOk v e → GivesBack v w e → Stays u w

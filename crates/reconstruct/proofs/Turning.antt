@@ -1,16 +1,17 @@
 -- One turn.
-use Rattle.std.proofs.Common.{◌≡◌, ℕ, zero, suc, ◌+◌, ◌<◌, inl, inr, Bool, true, false, IsTrue, IsFalse, List, [], ◌∷◌, ◌++◌, length, length-append, get_or, remove, Option, Some, None, Result, Ok, Err, IfOk, OnErr, MatchOption, refl, sym, ◌∙◌, ap, subst, arith}
+use Rattle.std.proofs.Common.{append-nil, ◌≡◌, ℕ, zero, suc, ◌+◌, ◌<◌, inl, inr, Bool, true, false, IsTrue, IsFalse, List, [], ◌∷◌, ◌++◌, length, length-append, get_or, remove, Option, Some, None, Result, Ok, Err, IfOk, OnErr, MatchOption, refl, sym, ◌∙◌, ap, subst, arith}
 use Rattle.std.specs.List.{AllByRecursion}
+use Rattle.task_system.specs.System.{State}
 use Rattle.space_api.specs.View.{View, Valid}
 use Rattle.space_api.specs.Frames.{Stays}
 use Rattle.space_api.specs.Owned.{Trades}
 use Rattle.space_api.proofs.Trading.{trades_stays}
 use Rattle.cost_layers.specs.declared.layers.Layers.{Layers}
 use Rattle.plan_cuts.specs.Entries.{PlainEntry, StandsOnLayers}
-use Rattle.reconstruct.specs.Entries.{operators_in, as_plain_entry, plains, EntryOk, HasSet, SetIn, AreDistinct, MakesEntries, member_in}
+use Rattle.reconstruct.specs.Entries.{operators_in, as_plain_entry, plains_of, plains, IsSingle, EntryOk, HasSet, SetIn, AreDistinct, MakesEntries, member_in}
 use Rattle.reconstruct.specs.Turned.{GoesOrGives, given_plan, MakesFollowers, IsQueue, TurnsEntries, IsLast, TakesEntry, GivesBack, Replaces}
 use Rattle.reconstruct.specs.declared.entries.Entry.{Entry}
-use Rattle.reconstruct.proofs.Kept.{plains_append, plains_same}
+use Rattle.reconstruct.proofs.Kept.{plains_append, plains_last, plains_same}
 use Rattle.reconstruct.proofs.Sets.{all_kept, in_valid, in_append, put_trades, put_distinct, put_ok, distinct_split}
 
 plain_split : (P : PlainEntry → Type 0) (xs : List PlainEntry) (x : PlainEntry) → AllByRecursion P (xs ++ x ∷ []) → P x
@@ -67,7 +68,7 @@ takes_last old es now entry i some at is out =
     (s.0, s.2 ∙ ap (λ (x : Entry _). s.0 ++ x ∷ []) (sym same), out ∙ ap (λ (xs : List _). remove (xs ++ es) i) s.2 ∙ middle_out s.0 s.1 es i here)
 
 -- a list has one last entry
-same_last : {Set : Type 0} (old others : List (Entry Set)) (x e : Entry Set) → IsLast old x → old ≡ others ++ e ∷ [] → x ≡ e
+pub same_last : {Set : Type 0} (old others : List (Entry Set)) (x e : Entry Set) → IsLast old x → old ≡ others ++ e ∷ [] → x ≡ e
 same_last old others x e l is =
     let lt : length l.0 + 1 ≡ length (l.0 ++ x ∷ []) = omega (arith, length-append l.0 (x ∷ [])) in
     sym (last_at l.0 x x (length l.0) lt) ∙ ap (λ (xs : List _). get_or xs (length l.0) x) (sym l.1 ∙ is)
@@ -103,37 +104,47 @@ module _ {Set : Type 0} (u v w : View Set) (old new es : List (Entry Set)) (done
   clash : (x : Bool) → x ≡ true → x ≡ false → ⊥
   clash x a b = cc
 
-  others_same : plains w others ≡ plains u others
-  others_same = plains_same u w others (λ a h s.
-      let ok : Valid u a = in_valid u (others ++ e ∷ []) a each ((in_append others (e ∷ []) a).1 (inl h)) in
-      let other : ¬ HasSet e a = λ has. (distinct_split others (e ∷ []) distinct).2 a h (inl has) in
-      r.4.same a (m.kept.valid a ok) other s ∙ m.kept.same a ok s)
+  -- by whatever layers
+  module _ (fr : ℕ → State → Bool) where
+    others_same : plains w fr others ≡ plains u fr others
+    others_same = plains_same u w (r.4.system ∙ m.kept.system) fr others (λ a h s.
+        let ok : Valid u a = in_valid u (others ++ e ∷ []) a each ((in_append others (e ∷ []) a).1 (inl h)) in
+        let other : ¬ HasSet e a = λ has. (distinct_split others (e ∷ []) distinct).2 a h (inl has) in
+        r.4.same a (m.kept.valid a ok) other s ∙ m.kept.same a ok s)
 
-  made_same : plains w es ≡ plains v es
-  made_same = plains_same v w es (λ a h s.
-      let ok : Valid v a = in_valid v es a m.each h in
-      let other : ¬ HasSet e a = λ has. clash (u.valid a) (in_valid u (others ++ e ∷ []) a each
-      ((in_append others (e ∷ []) a).1 (inr (inl has)))) (m.fresh a h) in
-      r.4.same a ok other s)
+    made_same : plains w fr es ≡ plains v fr es
+    made_same = plains_same v w r.4.system fr es (λ a h s.
+        let ok : Valid v a = in_valid v es a m.each h in
+        let other : ¬ HasSet e a = λ has. clash (u.valid a) (in_valid u (others ++ e ∷ []) a each
+        ((in_append others (e ∷ []) a).1 (inr (inl has)))) (m.fresh a h) in
+        r.4.same a ok other s)
+
+    pub now_stands : plains w fr new ≡ plains u fr others ++ plains v fr es
+    now_stands = ap (plains w fr) r.3 ∙ plains_append w fr others es
+        ∙ ap (λ (z : List PlainEntry). z ++ plains w fr es) others_same
+        ∙ ap (λ (z : List PlainEntry). plains u fr others ++ z) made_same
+
+    -- what took the entry's place stands for the same
+    pub stands_same : plains v fr es ≡ plains_of u fr e → plains w fr new ≡ plains u fr old
+    stands_same same = now_stands ∙ ap (λ (z : List PlainEntry). plains u fr others ++ z) (same ∙ sym (append-nil (plains_of u fr e)))
+        ∙ sym (plains_append u fr others (e ∷ [])) ∙ sym (ap (plains u fr) r.2)
 
   -- the turn, where what follows was made of the last entry
-  pub replaced_turns : (front back : Layers Set) (x : Entry Set) → x ≡ e → MakesFollowers u v front back x es done → TurnsEntries u w front back old new o
-  replaced_turns front back x same follows f b listed sides stands =
-      let was : plains u old ≡ plains u others ++ as_plain_entry u e ∷ [] = ap (plains u) r.2 ∙ plains_append u others (e ∷ []) in
-      let is : plains w new ≡ plains u others ++ plains v es = ap (plains w) r.3 ∙ plains_append w others es
-      ∙ ap (λ (z : List PlainEntry). z ++ plains w es) others_same
-      ∙ ap (λ (z : List PlainEntry). plains u others ++ z) made_same in
-      let one = plain_split (StandsOnLayers u.system f b listed) (plains u others) (as_plain_entry u e)
+  pub replaced_turns : (front back : Layers Set) (x : Entry Set) → IsSingle x → x ≡ e → MakesFollowers u v front back x es done → TurnsEntries u w front back old new o
+  replaced_turns front back x made same follows f b listed sides stands =
+      let fr = member_in u front in
+      let bk = member_in u back in
+      let was : plains u fr old ≡ plains u fr others ++ as_plain_entry u e ∷ [] = ap (plains u fr) r.2 ∙ plains_last u fr others e
+      (subst (λ (z : Entry Set). IsSingle z) same made) in
+      let one = plain_split (StandsOnLayers u.system f b listed) (plains u fr others) (as_plain_entry u e)
       (subst (λ (z : List PlainEntry). AllByRecursion (StandsOnLayers u.system f b listed) z) was stands) in
       let fol = subst (λ (z : Entry Set). MakesFollowers u v front back z es done) same follows in
       let y = u.system in
-      let fr = member_in u front in
-      let bk = member_in u back in
-      let h0 = fol.1 f b listed (plains u others) (record { sides = sides; stands = one }) in
-      let h1 = subst (λ (z : Option (List ℕ)). GoesOrGives y fr bk (plains u others ++ as_plain_entry u e ∷ [])
-      (plains u others ++ plains v es) z) (sym r.5) h0 in
-      let h2 = subst (λ (z : List PlainEntry). GoesOrGives y fr bk z (plains u others ++ plains v es) o) (sym was) h1 in
-      subst (λ (z : List PlainEntry). GoesOrGives y fr bk (plains u old) z o) (sym is) h2
+      let h0 = fol.1 f b listed (plains u fr others) (record { sides = sides; stands = one }) in
+      let h1 = subst (λ (z : Option (List ℕ)). GoesOrGives y fr bk (plains u fr others ++ as_plain_entry u e ∷ [])
+      (plains u fr others ++ plains v fr es) z) (sym r.5) h0 in
+      let h2 = subst (λ (z : List PlainEntry). GoesOrGives y fr bk z (plains u fr others ++ plains v fr es) o) (sym was) h1 in
+      subst (λ (z : List PlainEntry). GoesOrGives y fr bk (plains u fr old) z o) (sym (now_stands fr)) h2
 
 -- by what the call answers
 module _ {Set : Type 0} {X : Type 0} {E : Type 0} (items : X → List ℕ) (u v w : View Set)
@@ -151,13 +162,13 @@ module _ {Set : Type 0} {X : Type 0} {E : Type 0} (items : X → List ℕ) (u v 
   )
   turn_owns (Err x) h back same = rw same (queue_stays u w old (back u m) q, trades_none u w old (back u m) q)
 
-  pub turn_tells : (front back : Layers Set) (x : Entry Set) (r : Result (Option X) E) → IsLast old x
+  pub turn_tells : (front back : Layers Set) (x : Entry Set) (r : Result (Option X) E) → IsSingle x → IsLast old x
       → MakesFollowers u v front back x es done → Told r → IfOk r
       (λ o. MatchOption o (TurnsEntries u w front back old new None) (λ p. TurnsEntries u w front back old new (Some (items p))))
-  turn_tells front back x (Ok None) last fol h = replaced_turns u v w old new es done None q m h front back x (same_last old h.0 x h.1 last h.2) fol
-  turn_tells front back x (Ok (Some p)) last fol h = replaced_turns u v w old new es done (Some (items p)) q m h front
-      back x (same_last old h.0 x h.1 last h.2) fol
-  turn_tells front back x (Err y) last fol h = tt
+  turn_tells front back x (Ok None) made last fol h = replaced_turns u v w old new es done None q m h front back x made (same_last old h.0 x h.1 last h.2) fol
+  turn_tells front back x (Ok (Some p)) made last fol h = replaced_turns u v w old new es done (Some (items p)) q m h front
+      back x made (same_last old h.0 x h.1 last h.2) fol
+  turn_tells front back x (Err y) made last fol h = tt
 
   pub turn_stays : (r : Result (Option X) E) → OnErr r ((x : View Set) → MakesEntries x v es → Stays x w) → OnErr r (Stays u w)
   turn_stays (Ok o) back = tt

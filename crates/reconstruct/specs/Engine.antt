@@ -6,7 +6,7 @@ use Rattle.space_api.specs.View.{View, Valid, Has}
 use Rattle.lazy_plans.specs.Law.{Last}
 use Rattle.lazy_plans.specs.Shell.{OwesHeld, tells_held, shell_most, shell_held, shell_ended}
 use Rattle.lazy_plans.specs.declared.stop.Stop.{Stop}
-use Rattle.bidirectional.specs.Both.{back_layers}
+use Rattle.bidirectional.specs.Both.{front_layers, back_layers}
 use Rattle.reconstruct.specs.declared.engine.TopPlans.{TopPlans}
 use Rattle.reconstruct.specs.Working.{OwedBy}
 use Rattle.reconstruct.specs.Pending.{cut_tells_owed, IsTidyCutSpace, IsKeptByCuts, IsSound, AnsweredByCuts}
@@ -27,7 +27,7 @@ abbrev pub Pends : {S P Set : Type 0} → (S → View Set) → TopPlans S P Set 
 Pends view x = OwesHeld (OwedBy (view x.space) x.both x.agenda) (shell_held x.shell)
 
 abbrev pub tells : {S P Set : Type 0} → (S → View Set) → TopPlans S P Set → List ℕ → Bool
-tells view x p = cut_tells_owed (view x.space) (back_layers x.both) x.agenda.listed x.agenda.queue p
+tells view x p = cut_tells_owed (view x.space) (front_layers x.both) (back_layers x.both) x.agenda.listed x.agenda.queue p
     || tells_held (shell_held x.shell) p
 
 -- what it meets between two calls

@@ -1,5 +1,5 @@
 -- Entries over sets of a space and over states, as as_plain_entry ones; which sets they have.
-use Rattle.std.specs.Prelude.{◌≡◌, ℕ, ◌<◌, ◌≤◌, ◌⊎◌, IsFalse, Bool, false, List, [], ◌∷◌, Option, Some, None}
+use Rattle.std.specs.Prelude.{◌≡◌, ℕ, ◌-◌, ◌<◌, ◌≤◌, ◌⊎◌, IsFalse, Bool, ◌||◌, false, List, [], ◌∷◌, ◌++◌, All, Option, Some, None, if◌then◌else◌}
 use Rattle.std.specs.List.{AllByRecursion}
 use Rattle.task_system.specs.System.{State, System, RunsInSystem}
 use Rattle.space_api.specs.View.{View, Valid, Has}
@@ -7,30 +7,55 @@ use Rattle.space_api.specs.Frames.{Kept}
 use Rattle.run_graph.specs.Reached.{Useful}
 use Rattle.cost_layers.specs.Layers.{union_at, Stands as StandsIn}
 use Rattle.cost_layers.specs.declared.layers.Layers.{Layers}
-use Rattle.plan_cuts.specs.Entries.{PlainEntry, Head, Tail, FwdIn, BwdIn, Tables, StandsOnLayers}
+use Rattle.plan_cuts.specs.Entries.{PlainEntry, Head, Tail, FwdIn, BwdIn, Tables, StandsOnLayers, into}
 use Rattle.reconstruct.specs.declared.entries.Entry.{Entry}
-use Rattle.reconstruct.specs.declared.entries.Entry.TheVariants.{Before, After}
+use Rattle.reconstruct.specs.declared.entries.Entry.TheVariants.{Before, After, Partial}
 
 abbrev pub entry_cost : {Set : Type 0} → Entry Set → ℕ
 entry_cost (Before e) = e.cost
 entry_cost (After e) = e.cost
+entry_cost (Partial e) = e.prefix.cost
 
 abbrev pub ring_in : {Set : Type 0} → Entry Set → ℕ
 ring_in (Before e) = e.ring
 ring_in (After e) = e.ring
+ring_in (Partial e) = e.prefix.ring
 
 abbrev pub operators_in : {Set : Type 0} → Entry Set → List ℕ
 operators_in (Before e) = e.operators.items
 operators_in (After e) = e.operators.items
+operators_in (Partial e) = e.prefix.operators.items
 
--- the entry as a as_plain_entry one: of a prefix its set's states
+-- the entry as a plain one: of a prefix its set's states, also where its children are still to be found
 abbrev pub as_plain_entry : {Set : Type 0} → View Set → Entry Set → PlainEntry
 as_plain_entry v (Before e) = Head (v.has e.set) e.cost e.ring e.operators.items e.after
 as_plain_entry v (After e) = Tail e.cost e.ring e.operators.items
+as_plain_entry v (Partial e) = Head (v.has e.prefix.set) e.prefix.cost e.prefix.ring e.prefix.operators.items e.prefix.after
 
-abbrev pub plains : {Set : Type 0} → View Set → List (Entry Set) → List PlainEntry
-plains v [] = []
-plains v (e ∷ es) = as_plain_entry v e ∷ plains v es
+-- whether the test holds of a state of the list
+abbrev pub holds_of_some : List State → (State → Bool) → Bool
+holds_of_some [] test = false
+holds_of_some (s ∷ states) test = test s || holds_of_some states test
+
+-- the child of a prefix by operator k, in the layer of the cost that is left, in ring 0; none where no state leads on
+abbrev pub child_by : System → (ℕ → State → Bool) → (State → Bool) → ℕ → List ℕ → ℕ → ℕ → List PlainEntry
+child_by y front has cost ops after k = if holds_of_some y.states (into y front has cost k)
+    then Head (into y front has cost k) (cost - y.cost k) 0 (k ∷ ops) after ∷ [] else []
+
+-- the children by these operators
+abbrev pub children_by : System → (ℕ → State → Bool) → (State → Bool) → ℕ → List ℕ → ℕ → List ℕ → List PlainEntry
+children_by y front has cost ops after [] = []
+children_by y front has cost ops after (k ∷ ks) = child_by y front has cost ops after k ++ children_by y front has cost ops after ks
+
+-- the plain entries that an entry stands for: itself, or the children that are still to be found
+abbrev pub plains_of : {Set : Type 0} → View Set → (ℕ → State → Bool) → Entry Set → List PlainEntry
+plains_of v front (Before e) = as_plain_entry v (Before e) ∷ []
+plains_of v front (After e) = as_plain_entry v (After e) ∷ []
+plains_of v front (Partial e) = children_by v.system front (v.has e.prefix.set) e.prefix.cost e.prefix.operators.items e.prefix.after e.left.items
+
+abbrev pub plains : {Set : Type 0} → View Set → (ℕ → State → Bool) → List (Entry Set) → List PlainEntry
+plains v front [] = []
+plains v front (e ∷ es) = plains_of v front e ++ plains v front es
 
 -- the operators lead on from each state of the set
 abbrev pub LeadOn : {Set : Type 0} → View Set → Set → List ℕ → Type 0
@@ -40,11 +65,19 @@ LeadOn v a ops = (s : State) → Has v a s → (t : State) × RunsInSystem v.sys
 abbrev pub EntryOk : {Set : Type 0} → View Set → Entry Set → Type 0
 EntryOk v (Before e) = Valid v e.set × LeadOn v e.set e.operators.items
 EntryOk v (After e) = RunsInSystem v.system v.system.initial e.operators.items e.state
+EntryOk v (Partial e) = Valid v e.prefix.set × LeadOn v e.prefix.set e.prefix.operators.items × All (λ k. k < v.system.operators) e.left.items
 
--- a is the set of the entry: a prefix has one, and a suffix none
+-- the entry stands for itself alone, and not for the children of a prefix that are still to be found
+abbrev pub IsSingle : {Set : Type 0} → Entry Set → Type 0
+IsSingle (Before e) = Unit {0}
+IsSingle (After e) = Unit {0}
+IsSingle (Partial e) = ⊥
+
+-- a is the set of the entry: a prefix has one, also where its children are still to be found, and a suffix none
 abbrev pub HasSet : {Set : Type 0} → Entry Set → Set → Type 0
 HasSet (Before e) a = a ≡ e.set
 HasSet (After e) a = ⊥
+HasSet (Partial e) a = a ≡ e.prefix.set
 
 -- a is the set of an entry of the list
 abbrev pub SetIn : {Set : Type 0} → List (Entry Set) → Set → Type 0

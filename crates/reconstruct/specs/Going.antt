@@ -1,10 +1,11 @@
 -- On to the next cost.
-use Rattle.std.specs.Prelude.{◌≡◌, ℕ, ◌<◌, ◌≤◌, ◌↔◌, ◌⊎◌, false, List, [], length, Option, Some, None}
+use Rattle.std.specs.Prelude.{◌≡◌, ℕ, ◌≤◌, ◌↔◌, ◌⊎◌, false, List, [], Option, Some, None}
 use Rattle.space_api.specs.View.{View}
 use Rattle.cost_layers.specs.declared.layers.Layers.{Layers}
 use Rattle.lazy_plans.specs.Law.{top, NoneLeft, MayStop}
 use Rattle.lazy_plans.specs.declared.stop.Stop.TheVariants.{CostRange}
 use Rattle.plan_cuts.specs.Drawing.{Above}
+use Rattle.reconstruct.specs.Turned.{HasSingle}
 use Rattle.reconstruct.specs.declared.entries.Entry.{Entry}
 use Rattle.bidirectional.specs.Both.{IsBeneath, front_layers, back_layers}
 use Rattle.bidirectional.specs.declared.search.Both.{Both}
@@ -24,14 +25,14 @@ Rests (Some place) = place.left ≡ false
 
 -- an entry stands in the queue, or there is none and no cut is left
 abbrev pub HasMore : {Set : Type 0} → List (Entry Set) → Option Place → Type 0
-HasMore queue listed = (0 < length queue) ⊎ ((queue ≡ []) × Rests listed)
+HasMore queue listed = HasSingle queue ⊎ ((queue ≡ []) × Rests listed)
 
 -- the next cost is listed, an entry stands in the queue, and what is owed is each plan above the cost that was listed
 pub record IsFilled {Set : Type 0} (v w : View Set) (Uses : Set → Type 0) (front back : Layers Set) (most : Option ℕ) (old : Option Place) (place : Place) (queue : List (Entry Set)) : Type 0 where
   pub listing : IsListing w Uses front back place queue
-  pub some : 0 < length queue
+  pub some : HasSingle queue
   pub wanted : place.cost ≤ top most
-  pub owes : (p : List ℕ) → OwedAt w back place queue p ↔ Above v.system (place_cost old) p
+  pub owes : (p : List ℕ) → OwedAt w front back place queue p ↔ Above v.system (place_cost old) p
 
 abbrev pub IsCostListed : {Set : Type 0} → View Set → View Set → (Set → Type 0) → Layers Set → Layers Set → Option ℕ
     → Option Place → Option Place → List (Entry Set) → Type 0

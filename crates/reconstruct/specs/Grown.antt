@@ -64,7 +64,8 @@ MakesOn {Set} v w old new = (u : View Set) → MakesEntries u v old → MakesEnt
 abbrev pub AddsChild : {Set : Type 0} → View Set → View Set → Layers Set → Layers Set → Entry Set → ℕ → List (Entry Set) → List (Entry Set) → List (Entry Set) → List (Entry Set) → Type 0
 AddsChild v w front back e op level falling level2 falling2 = (f b listed : ℕ) → AllByRecursion (EntryOk v) level → AllByRecursion (EntryOk v) falling
     → Ready v.system v front back f b listed (as_plain_entry v e)
-    → Added v.system (member_in v front) (member_in v back) (as_plain_entry v e) op (plains v level) (plains v falling) (plains w level2) (plains w falling2)
+    → Added v.system (member_in v front) (member_in v back) (as_plain_entry v e) op (plains v (member_in v front) level) (plains v (member_in v front) falling)
+    (plains w (member_in v front) level2) (plains w (member_in v front) falling2)
 
 -- by a prefix, whatever layers stand behind it
 abbrev pub AddsBefore : {Set : Type 0} → View Set → View Set → Layers Set → Prefix Set → ℕ → List (Entry Set) → List (Entry Set) → List (Entry Set) → List (Entry Set) → Type 0
@@ -74,8 +75,8 @@ AddsBefore {Set} v w front e op level falling level2 falling2 = (back : Layers S
 abbrev pub Gathers : {Set : Type 0} → View Set → View Set → Layers Set → Layers Set → Entry Set → List (Entry Set) → List (Entry Set) → Type 0
 Gathers v w front back e level falling = (f b listed : ℕ)
     → Ready v.system v front back f b listed (as_plain_entry v e)
-    → Gathered v.system (member_in v front) (member_in v back) (as_plain_entry v e) (plains w level)
-    (plains w falling)
+    → Gathered v.system (member_in v front) (member_in v back) (as_plain_entry v e) (plains w (member_in v front) level)
+    (plains w (member_in v front) falling)
 
 -- of a prefix, whatever layers stand behind it
 abbrev pub GathersBefore : {Set : Type 0} → View Set → View Set → Layers Set → Prefix Set → List (Entry Set) → List (Entry Set) → Type 0

@@ -7,6 +7,7 @@ pub mod Engine
 pub mod Laws
 pub mod Entries
 pub mod Ways
+pub mod Parts
 pub mod Moves
 pub mod Expansions
 pub mod Grown

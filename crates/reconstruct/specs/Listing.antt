@@ -46,8 +46,8 @@ abbrev pub Lists : {Set P : Type 0} → View Set → Both Set P → Place → Li
 Lists v both place queue = IsListing v (IsBeneath both) (front_layers both) (back_layers both) place queue
 
 -- what is owed of this cost and of dearer ones
-abbrev pub OwedAt : {Set : Type 0} → View Set → Layers Set → Place → List (Entry Set) → List ℕ → Type 0
-OwedAt v back place queue p = IsOwed v back place.cost queue (undrawn place.left place.after) p
+abbrev pub OwedAt : {Set : Type 0} → View Set → Layers Set → Layers Set → Place → List (Entry Set) → List ℕ → Type 0
+OwedAt v front back place queue p = IsOwed v front back place.cost queue (undrawn place.left place.after) p
 
 -- the cut is the first that is ready, and the entry its first; or no cut follows
 abbrev pub DrawsNext : {Set : Type 0} → View Set → View Set → Layers Set → Layers Set → Place → Option (Drawn Set) → Type 0
@@ -73,7 +73,7 @@ pub record Drew {Set : Type 0} (v w : View Set) (Uses : Set → Type 0) (front b
   pub listing : IsListing w Uses front back place2 queue2
   pub cost : place2.cost ≡ place.cost
   pub trades : Trades v w (SetIn queue) (SetIn queue2)
-  pub owes : (p : List ℕ) → OwedAt w back place2 queue2 p ↔ OwedAt v back place queue p
+  pub owes : (p : List ℕ) → OwedAt w front back place2 queue2 p ↔ OwedAt v front back place queue p
 
 -- the same, by the search from both ends, which stands on
 abbrev pub Draws : {Set P : Type 0} → View Set → View Set → Both Set P → Place → Place → List (Entry Set) → List (Entry Set) → Type 0

@@ -11,7 +11,7 @@ use Rattle.plan_cuts.specs.Cuts.{IsCutAt}
 use Rattle.plan_cuts.specs.EntryCuts.{cut_of, same_cut}
 use Rattle.plan_cuts.specs.Counts.{one_if}
 use Rattle.plan_cuts.specs.Entries.{StandsOnLayers, entry_hits}
-use Rattle.reconstruct.specs.Entries.{as_plain_entry, EntryOk, IsNewEntry, RightSides}
+use Rattle.reconstruct.specs.Entries.{as_plain_entry, EntryOk, IsSingle, IsNewEntry, RightSides}
 use Rattle.reconstruct.specs.Ways.{IsLeastRing}
 use Rattle.reconstruct.specs.declared.entries.Prefix.{Prefix}
 use Rattle.reconstruct.specs.declared.entries.Entry.{Entry}
@@ -34,6 +34,7 @@ pub record OpenedEntry {Set : Type 0} (v w : View Set) (front back : Layers Set)
   pub kept : Kept v w
   pub new : IsNewEntry v w e
   pub fine : EntryOk w e
+  pub single : IsSingle e
   pub stands : (f b : ℕ) → RightSides v.system v front back f b → cost < f + b → IsCutAt v.system b cost cut
       → StandsOnLayers v.system f b cost (as_plain_entry w e)
   pub hits : (f b : ℕ) → RightSides v.system v front back f b → cost < f + b → IsCutAt v.system b cost cut

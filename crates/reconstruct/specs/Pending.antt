@@ -11,7 +11,7 @@ use Rattle.lazy_plans.specs.declared.shell.Shell.{Shell}
 use Rattle.lazy_plans.specs.declared.stop.Stop.{Stop}
 use Rattle.plan_cuts.specs.Entries.{places}
 use Rattle.plan_cuts.specs.Drawing.{undrawn}
-use Rattle.reconstruct.specs.Entries.{plains}
+use Rattle.reconstruct.specs.Entries.{plains, member_in}
 use Rattle.reconstruct.specs.declared.entries.Entry.{Entry}
 use Rattle.bidirectional.specs.Both.{IsOwnOf}
 use Rattle.bidirectional.specs.declared.search.Both.{Both}
@@ -20,11 +20,11 @@ use Rattle.reconstruct.specs.declared.next_plan.Agenda.{Agenda}
 use Rattle.reconstruct.specs.Working.{IsWorking, InWantedRange, OwedBy, Keeping}
 
 -- what is owed, computed
-abbrev pub cut_tells_owed : {Set : Type 0} → View Set → Layers Set → Option Place → List (Entry Set) → List ℕ → Bool
-cut_tells_owed v back None queue p = is_plan_in v.system TopK p
-cut_tells_owed v back (Some place) queue p = is_plan_in v.system TopK p &&
+abbrev pub cut_tells_owed : {Set : Type 0} → View Set → Layers Set → Layers Set → Option Place → List (Entry Set) → List ℕ → Bool
+cut_tells_owed v front back None queue p = is_plan_in v.system TopK p
+cut_tells_owed v front back (Some place) queue p = is_plan_in v.system TopK p &&
     (ltb place.cost (cost_in_system v.system p) || (eqb (cost_in_system v.system p) place.cost && eqb
-    (places v.system (known_of back) (plains v queue) (undrawn place.left place.after) p) 1))
+    (places v.system (known_of back) (plains v (member_in v front) queue) (undrawn place.left place.after) p) 1))
 
 -- no more is held than twice what was needed last, and 1,000
 abbrev pub IsTidyCutSpace : {Set : Type 0} → View Set → Type 0

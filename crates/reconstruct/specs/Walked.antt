@@ -16,18 +16,18 @@ AreEntriesApart {Set} es l = (a : Set) → SetIn es a → ¬ KeepsSet l a
 
 -- the entries and the cuts not yet drawn are lawful, by these layers
 abbrev pub IsLawful : {Set : Type 0} → View Set → Layers Set → Layers Set → ℕ → List (Entry Set) → (Cut → Bool) → Type 0
-IsLawful v front back listed es undrawn = Lawful v.system (member_in v front) (member_in v back) (known_of front) (known_of back) listed (plains v es) undrawn
+IsLawful v front back listed es undrawn = Lawful v.system (member_in v front) (member_in v back) (known_of front) (known_of back) listed (plains v (member_in v front) es) undrawn
 
-abbrev pub IsOwed : {Set : Type 0} → View Set → Layers Set → ℕ → List (Entry Set) → (Cut → Bool) → List ℕ → Type 0
-IsOwed v back listed es undrawn p = Owed v.system (known_of back) listed (plains v es) undrawn p
+abbrev pub IsOwed : {Set : Type 0} → View Set → Layers Set → Layers Set → ℕ → List (Entry Set) → (Cut → Bool) → List ℕ → Type 0
+IsOwed v front back listed es undrawn p = Owed v.system (known_of back) listed (plains v (member_in v front) es) undrawn p
 
 -- whatever cost is listed, and whatever isn't drawn: the queue stays lawful, and owes what it owed
 abbrev pub OwesOn : {Set : Type 0} → View Set → View Set → Layers Set → Layers Set → List (Entry Set) → List (Entry Set) → Type 0
 OwesOn v w front back old new = (listed : ℕ) (undrawn : Cut → Bool) → IsLawful v front back listed old undrawn
-    → IsLawful w front back listed new undrawn × OwesAsBefore (IsOwed v back listed old undrawn) (IsOwed w back listed new undrawn)
+    → IsLawful w front back listed new undrawn × OwesAsBefore (IsOwed v front back listed old undrawn) (IsOwed w front back listed new undrawn)
 
 -- whatever cost is listed, whatever isn't drawn, and whatever greatest cost has room for the listed one: the queue stays
 -- lawful, and gave the plan
 abbrev pub GaveFrom : {Set : Type 0} → View Set → View Set → Layers Set → Layers Set → List (Entry Set) → List (Entry Set) → List ℕ → Type 0
 GaveFrom v w front back old new p = (listed : ℕ) (most : Option ℕ) → listed ≤ top most → (undrawn : Cut → Bool) → IsLawful v front back listed old undrawn
-    → IsLawful w front back listed new undrawn × Gave v.system TopK most (IsOwed v back listed old undrawn) (IsOwed w back listed new undrawn) p
+    → IsLawful w front back listed new undrawn × Gave v.system TopK most (IsOwed v front back listed old undrawn) (IsOwed w front back listed new undrawn) p

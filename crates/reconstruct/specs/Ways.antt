@@ -8,7 +8,7 @@ use Rattle.cost_layers.specs.Layers.{union_at, Stands as StandsIn}
 use Rattle.cost_layers.specs.declared.layers.Layers.{Layers}
 use Rattle.reconstruct.specs.declared.entries.Prefix.{Prefix}
 use Rattle.reconstruct.specs.declared.entries.Entry.{Entry}
-use Rattle.reconstruct.specs.declared.entries.Entry.TheVariants.{Before, After}
+use Rattle.reconstruct.specs.declared.entries.Entry.TheVariants.{Before, After, Partial}
 use Rattle.reconstruct.specs.declared.ways.Way.{Way}
 
 -- n is the least ring that meets the set, if one does
@@ -23,11 +23,13 @@ IsFirstRing v l c s n = (m : ℕ) → StandsIn v l c m s → (n ≤ m) × Stands
 abbrev pub JoinsEntry : {Set : Type 0} → View Set → Entry Set → ℕ → Set → State → State → Type 0
 JoinsEntry v (Before e) op within s t = Leads v.system op s t × Has v within s × Has v e.set t
 JoinsEntry v (After e) op within s t = Leads v.system op s t × (s ≡ e.state) × Has v within t
+JoinsEntry v (Partial e) op within s t = Leads v.system op s t × Has v within s × Has v e.prefix.set t
 
 -- the layers into which the entry grows
 abbrev pub side_for : {Set : Type 0} → Layers Set → Layers Set → Entry Set → Layers Set
 side_for front back (Before e) = front
 side_for front back (After e) = back
+side_for front back (Partial e) = front
 
 -- the layer of what is left of the cost after w, None where there is none
 abbrev pub IsLayerTo : {Set : Type 0} → Layers Set → ℕ → ℕ → Option Set → Type 0

@@ -9,6 +9,7 @@ use Rattle.lazy_plans.specs.declared.stop.Stop.{Stop}
 use Rattle.lazy_plans.specs.declared.stop.Stop.TheVariants.{CostRange}
 use Rattle.reconstruct.specs.Entries.{SetIn}
 use Rattle.reconstruct.specs.Expansions.{AreRightExpansions}
+use Rattle.reconstruct.specs.Turned.{HasSingle}
 use Rattle.reconstruct.specs.declared.entries.Entry.{Entry}
 use Rattle.bidirectional.specs.Both.{IsBeneath, IsBoth, IsOwnOf, front_layers, back_layers}
 use Rattle.bidirectional.specs.declared.search.Both.{Both}
@@ -29,13 +30,13 @@ InWantedRange most None = Unit {0}
 InWantedRange most (Some place) = place.cost ≤ top most
 
 -- what is owed: every plan before the first cost is listed, then by the queue and the cuts that are left
-abbrev pub OwesByCuts : {Set : Type 0} → View Set → Layers Set → Option Place → List (Entry Set) → List ℕ → Type 0
-OwesByCuts v back None queue p = IsSystemPlan v.system p
-OwesByCuts v back (Some place) queue p = OwedAt v back place queue p
+abbrev pub OwesByCuts : {Set : Type 0} → View Set → Layers Set → Layers Set → Option Place → List (Entry Set) → List ℕ → Type 0
+OwesByCuts v front back None queue p = IsSystemPlan v.system p
+OwesByCuts v front back (Some place) queue p = OwedAt v front back place queue p
 
 -- the same, by the search from both ends
 abbrev pub OwedBy : {Set P : Type 0} → View Set → Both Set P → Agenda Set → List ℕ → Type 0
-OwedBy v both agenda p = OwesByCuts v (back_layers both) agenda.listed agenda.queue p
+OwedBy v both agenda p = OwesByCuts v (front_layers both) (back_layers both) agenda.listed agenda.queue p
 
 -- the search stands, the queue and the cuts that are left are lawful, and what is remembered is right
 pub record IsWorking {Set P : Type 0} (v : View Set) (both : Both Set P) (agenda : Agenda Set) : Type 0 where
@@ -48,14 +49,14 @@ abbrev pub Keeping : {Set : Type 0} → (Set → Type 0) → List (Entry Set) �
 Keeping Owns queue a = Owns a ⊎ SetIn queue a
 
 -- what is owed stays, and no set is lost
-pub record Moved {Set : Type 0} (v w : View Set) (Owns Owns2 Uses2 : Set → Type 0) (back front2 back2 : Layers Set) (listed listed2 : Option Place) (queue queue2 : List (Entry Set)) : Type 0 where
+pub record Moved {Set : Type 0} (v w : View Set) (Owns Owns2 Uses2 : Set → Type 0) (front back front2 back2 : Layers Set) (listed listed2 : Option Place) (queue queue2 : List (Entry Set)) : Type 0 where
   pub at : IsAt w Uses2 front2 back2 listed2 queue2
   pub trades : Trades v w (Keeping Owns queue) (Keeping Owns2 queue2)
-  pub owes : (p : List ℕ) → OwesByCuts w back2 listed2 queue2 p ↔ OwesByCuts v back listed queue p
+  pub owes : (p : List ℕ) → OwesByCuts w front2 back2 listed2 queue2 p ↔ OwesByCuts v front back listed queue p
 
 -- the same, by the search from both ends
 abbrev pub MovesAgenda : {Set P : Type 0} → View Set → View Set → Both Set P → Both Set P → Agenda Set → Agenda Set → Type 0
-MovesAgenda v w both both2 old new = Moved v w (IsOwnOf both) (IsOwnOf both2) (IsBeneath both2) (back_layers both)
+MovesAgenda v w both both2 old new = Moved v w (IsOwnOf both) (IsOwnOf both2) (IsBeneath both2) (front_layers both) (back_layers both)
     (front_layers both2) (back_layers both2) old.listed new.listed old.queue new.queue
 
 -- the sets of both change hands, and those of the queue
@@ -64,7 +65,7 @@ TradesAll v w both both2 old new = Trades v w (Keeping (IsOwnOf both) old.queue)
 
 -- an entry stands in the queue, or nothing that is owed is wanted, or all that is owed costs more than 64 bits hold
 abbrev pub FillsQueue : {Set : Type 0} → System → Option ℕ → (List ℕ → Type 0) → List (Entry Set) → Filled → Type 0
-FillsQueue y most Owing queue Ready = 0 < length queue
+FillsQueue y most Owing queue Ready = HasSingle queue
 FillsQueue y most Owing queue Never = NoneLeft y most Owing
 FillsQueue y most Owing queue Beyond = MayStop y most Owing CostRange
 

@@ -8,9 +8,10 @@ struct StepBack<T: Copy> {
     set: T,
 }
 
-ghost use Rattle.std.specs.Prelude.{◌≡◌, ◌<◌, ◌≤◌, ◌++◌, [], IfOk, OnOk, OnErr};
-ghost use Rattle.space_api.specs.View.{View, Valid};
+ghost use Rattle.std.specs.Prelude.{IfSome, ◌≡◌, ◌<◌, ◌≤◌, ◌++◌, [], IfOk, OnOk, OnErr};
+ghost use Rattle.space_api.specs.View.{View, Valid, HasMember};
 ghost use Rattle.space_api.specs.Frames.{Kept, Stays};
+ghost use Rattle.space_api.specs.Operators.{LeadInto};
 ghost use Rattle.cost_layers.specs.Layers.{Held};
 ghost use Rattle.reconstruct.specs.Entries.{EntryOk, MakesEntries};
 ghost use Rattle.reconstruct.specs.Ways.{IsWay, FoundBefore};
@@ -18,6 +19,7 @@ ghost use Rattle.reconstruct.specs.Grown.{GrownBefore, PutsBefore, MakesOn, Adds
 
 use crate::children::Children;
 use crate::entries::{Entry, Prefix, prepend};
+use crate::partial::{all_listed, is_partial, put_partial};
 use crate::ways::{Way, least_ring, way_after, way_for};
 use cost_layers::Layers;
 use space_api::{Space, SpaceFault};
@@ -72,7 +74,7 @@ fn put_grown<S: Space>(
 }
 
 /// The states of the layer from which the operator leads into the set. None where there is none.
-fn set_before<S: Space>(
+pub(crate) fn set_before<S: Space>(
     space: &mut S,
     prefix: &Prefix<S::Set>,
     op: u32,
@@ -83,6 +85,7 @@ fn set_before<S: Space>(
     requires op { op < (S.view space.old).system.operators }
     ensures kept { Kept (S.view space.old) (S.view space.new) }
     ensures ok { IfOk result (FoundBefore (S.view space.old) (S.view space.new) prefix.now op within) }
+    ensures member { IfOk result (λ found. IfSome found (HasMember (S.view space.new))) }
     ensures err { OnErr result (Stays (S.view space.old) (S.view space.new)) }
 {
     let found = space.pre_op(op, prefix.set, within)?;
@@ -136,8 +139,36 @@ fn add_before<S: Space>(
     }
 }
 
-/// Adds the children by all operators: only what may lead on by the values of the prefix's set is tried. After a
-/// refusal the children so far are there.
+/// Adds the children by these operators, one after the other. After a refusal the children so far are there.
+fn gather_each<S: Space>(
+    alloc: Global,
+    space: &mut S,
+    front: &Layers<S::Set>,
+    prefix: &Prefix<S::Set>,
+    ops: &[u32],
+    children: &mut Children<S::Set>,
+) -> Result<(), SpaceFault>
+    requires front { Held (S.view space.old) front.now }
+    requires entry { EntryOk (S.view space.old) (Entry.Before prefix.now) }
+    requires into { LeadInto (S.view space.old) prefix.now.set ops.now }
+    requires level { children.old.level.items ≡ [] }
+    requires falling { children.old.falling.items ≡ [] }
+    ensures makes { MakesEntries (S.view space.old) (S.view space.new)
+        (children.new.level.items ++ children.new.falling.items) }
+    ensures ok { OnOk result (GathersBefore (S.view space.old) (S.view space.new) front.now prefix.now
+        children.new.level.items children.new.falling.items) }
+{
+    let mut way = way_for(front, prefix.cost, 0);
+    'operators: for op in ops {
+        way = way_after(front, prefix.cost, way, space.cost_of(*op));
+        add_before(alloc, space, front, prefix, way, *op, children)?;
+    }
+    Ok(())
+}
+
+/// Adds the children by all operators: only what may lead on by the values of the prefix's set is tried. Where they
+/// are more than a few and each operator costs something, they are found as they are asked for, and the prefix stands for
+/// them until then. After a refusal the children so far are there.
 pub(crate) fn gather_before<S: Space>(
     alloc: Global,
     space: &mut S,
@@ -155,10 +186,10 @@ pub(crate) fn gather_before<S: Space>(
         children.new.level.items children.new.falling.items) }
 {
     let ops = space.operators_into(alloc, prefix.set)?;
-    let mut way = way_for(front, prefix.cost, 0);
-    'operators: for op in &ops {
-        way = way_after(front, prefix.cost, way, space.cost_of(*op));
-        add_before(alloc, space, front, prefix, way, *op, children)?;
+    if is_partial(space, &ops) {
+        all_listed(space)?;
+        put_partial(alloc, space, prefix, &ops, &mut children.falling)
+    } else {
+        gather_each(alloc, space, front, prefix, &ops, children)
     }
-    Ok(())
 }

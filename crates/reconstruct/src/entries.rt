@@ -22,11 +22,19 @@ pub(crate) struct Suffix {
     pub operators: Vec<u32>,
 }
 
-/// A prefix keeps a set of a space; a suffix keeps none.
+/// A prefix whose children by these operators are still to be found. The prefix's set is one of its own.
+#[derive(Drop)]
+pub(crate) struct Partial<T> {
+    pub prefix: Prefix<T>,
+    pub left: Vec<u32>,
+}
+
+/// A prefix keeps a set of a space, also where its children are still to be found; a suffix keeps none.
 #[derive(Drop)]
 pub(crate) enum Entry<T> {
     Before(Prefix<T>),
     After(Suffix),
+    Partial(Partial<T>),
 }
 
 ghost use Rattle.std.specs.Prelude.{◌≡◌, ◌<◌, ◌≤◌, ◌⊎◌, ◌++◌, ◌∷◌, [], IsTrue, IsFalse, IfOk, OnOk, OnErr};
@@ -46,6 +54,7 @@ pub(crate) fn into_operators<T: Copy + Drop>(entry: Entry<T>) -> Vec<u32>
     match entry {
         Entry::Before(prefix) => prefix.operators,
         Entry::After(suffix) => suffix.operators,
+        Entry::Partial(partial) => partial.prefix.operators,
     }
 }
 
@@ -77,6 +86,7 @@ pub(crate) fn give_back<S: Space>(space: &mut S, entry: &Entry<S::Set>)
     match entry {
         Entry::Before(prefix) => space.forget(prefix.set),
         Entry::After(_) => {}
+        Entry::Partial(partial) => space.forget(partial.prefix.set),
     }
 }
 

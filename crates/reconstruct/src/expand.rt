@@ -4,7 +4,7 @@ ghost use Rattle.std.specs.Prelude.{◌≡◌, ◌<◌, length, ◌++◌, ◌∷
 ghost use Rattle.space_api.specs.View.{View, Valid};
 ghost use Rattle.space_api.specs.Frames.{Stays};
 ghost use Rattle.cost_layers.specs.Layers.{Held};
-ghost use Rattle.reconstruct.specs.Entries.{EntryOk, MakesEntries};
+ghost use Rattle.reconstruct.specs.Entries.{IsSingle, EntryOk, MakesEntries};
 ghost use Rattle.reconstruct.specs.Expansions.{AreRightExpansions};
 ghost use Rattle.reconstruct.specs.Grown.{Gathers, Expands};
 
@@ -30,6 +30,7 @@ fn gather<S: Space>(
     requires front { Held (S.view space.old) front.now }
     requires back { Held (S.view space.old) back.now }
     requires entry { EntryOk (S.view space.old) entry.now }
+    requires single { IsSingle entry.now }
     requires memo { AreRightExpansions (S.view space.old) back.now memo.old }
     requires level { children.old.level.items ≡ [] }
     requires falling { children.old.falling.items ≡ [] }
@@ -42,6 +43,7 @@ fn gather<S: Space>(
     match entry {
         Entry::Before(prefix) => gather_before(alloc, space, front, prefix, children),
         Entry::After(suffix) => gather_after(alloc, space, back, suffix, memo, children),
+        Entry::Partial(_) => Ok(()),
     }
 }
 
@@ -78,6 +80,7 @@ pub(crate) fn expand<S: Space>(
     requires front { Held (S.view space.old) front.now }
     requires back { Held (S.view space.old) back.now }
     requires entry { EntryOk (S.view space.old) entry.now }
+    requires single { IsSingle entry.now }
     requires memo { AreRightExpansions (S.view space.old) back.now memo.old }
     ensures memo { AreRightExpansions (S.view space.old) back.now memo.new }
     ensures ok { IfOk result (λ es. Expands (S.view space.old) (S.view space.new) front.now back.now entry.now

@@ -7,13 +7,16 @@
 //! before each answer.
 //!
 //! `open_cut` gives the first entry of a cut, and `walk` takes entries from a `Queue`, last in first out, until one is
-//! a plan. One call of the queue takes an entry and counts the turn, and nothing else takes one, so the bound on
-//! `Steps` is one on turns. A prefix grows backwards out of a set, then a suffix forwards from one state. The suffix
-//! keeps that state's values and no set: its operators are tried on the values, and a layer is asked whether it has the
-//! state to which one leads. What leads on from a state, and whether a plan ends there, is remembered for the suffixes
-//! that come to it later (`Expansions`). Every operator that leads on into a right layer makes a child, so no entry is
-//! a dead end; a child of less cost or a lower ring is taken first, so a plan comes within two turns more than it has
-//! operators. Out of memory, it leaves what the queue owes, and no set is lost.
+//! a plan. One call of the queue takes an entry and counts the turn, and nothing else takes one that stands for itself
+//! alone, so the bound on `Steps` is one on turns. A prefix grows backwards out of a set, then a suffix forwards from
+//! one state. Where each operator costs something and more than a few may lead on, the prefixes that a prefix grows
+//! into are found one by one, the last one first, and it stands for those that are still to be found (`partial`): a
+//! plan that isn't asked for costs no preimage. The suffix keeps that state's values and no set: its operators are
+//! tried on the values, and a layer is asked whether it has the state to which one leads. What leads on from a state,
+//! and whether a plan ends there, is remembered for the suffixes that come to it later (`Expansions`). Every operator
+//! that leads on into a right layer makes a child, so no entry is a dead end; a child of less cost or a lower ring is
+//! taken first, so a plan comes within two turns more than it has operators. Out of memory, it leaves what the queue
+//! owes, and no set is lost.
 //!
 //! It stands on `bidirectional` for the search from both ends, on `cost_layers` for layers, on `plan_cuts` for the laws
 //! of cuts and entries, on `lazy_plans` for the law that it keeps, and on `space_api` for sets and single states.
@@ -32,6 +35,7 @@ mod going;
 mod moves;
 mod next_plan;
 mod opening;
+mod partial;
 mod queue;
 mod states;
 mod turns;

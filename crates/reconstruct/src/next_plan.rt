@@ -18,10 +18,12 @@ ghost use Rattle.space_api.specs.View.{View};
 ghost use Rattle.symk_task.specs.declared.parts.Mode.TheVariants.{TopK};
 ghost use Rattle.lazy_plans.specs.Law.{Turned};
 ghost use Rattle.reconstruct.specs.Going.{place_cost, HasMore};
+ghost use Rattle.reconstruct.specs.Turned.{EndsSingle, HasSingle};
 ghost use Rattle.reconstruct.specs.Working.{IsWorking, InWantedRange, OwedBy, MovesAgenda, TradesAll, FillsQueue, FewTurns};
 
 use crate::drawing::draw;
 use crate::going::{Filled, go_on};
+use crate::partial::single_out;
 use crate::walking::walk;
 use bidirectional::{Both, Choose};
 use lazy_plans::{Steps, Stop};
@@ -29,6 +31,25 @@ use space_api::{Space, SpaceFault};
 use std::alloc::Global;
 use std::sync::ledger::Ledger;
 use symk_task::Plan;
+
+/// Sees to it that no prefix stands last whose children are still to be found. Out of memory, it leaves what is owed.
+fn single_out_next<S: Space, P: Choose>(
+    alloc: Global,
+    space: &mut S,
+    both: &Both<S::Set, P>,
+    agenda: &mut Agenda<S::Set>,
+) -> Result<(), SpaceFault>
+    requires { IsWorking (S.view space.old) both.now agenda.old }
+    ensures working { IsWorking (S.view space.new) both.now agenda.new }
+    ensures moves { MovesAgenda (S.view space.old) (S.view space.new) both.now both.now agenda.old agenda.new }
+    ensures listed { agenda.new.listed ≡ agenda.old.listed }
+    ensures ok { OnOk result (EndsSingle agenda.new.queue) }
+{
+    if agenda.queue.is_empty() {
+        return Ok(());
+    }
+    single_out(alloc, space, both.forward_layers(), &mut agenda.queue)
+}
 
 /// Draws the next cut of the cost that is listed into the empty queue, if one is left.
 fn draw_next<S: Space, P: Choose>(
@@ -73,6 +94,7 @@ fn fill<S: Space, P: Choose>(
     ensures ok { IfOk result (FillsQueue (S.view space.old).system most
         (OwedBy (S.view space.old) both.old agenda.old) agenda.new.queue) }
 {
+    single_out_next(alloc, space, both, agenda)?;
     if !agenda.queue.is_empty() {
         return Ok(Filled::Ready);
     }
@@ -100,7 +122,7 @@ fn walk_on<S: Space, P: Choose, L: Ledger>(
     steps: &mut Steps<L>,
 ) -> Result<Option<Plan>, Stop>
     requires working { IsWorking (S.view space.old) both.now agenda.old }
-    requires some { 0 < length agenda.old.queue }
+    requires some { HasSingle agenda.old.queue }
     ensures working { IsWorking (S.view space.new) both.now agenda.new }
     ensures listed { agenda.new.listed ≡ agenda.old.listed }
     ensures trades { TradesAll (S.view space.old) (S.view space.new) both.now both.now agenda.old agenda.new }

@@ -1,9 +1,10 @@
 //! A queue of entries, last in first out.
 
-use crate::entries::Entry;
+use crate::entries::{Entry, Partial};
 use std::marker::Model;
 
-/// The entries that wait for their turn. `take` alone takes one, and counts it.
+/// The entries that wait for their turn. `take` takes one, and counts it; `part` takes only a prefix whose children
+/// are still to be found.
 #[derive(Drop)]
 pub(crate) struct Queue<T> {
     entries: Vec<Entry<T>>,
@@ -15,8 +16,8 @@ impl<T> Model for Queue<T> {
     ghost view = { λ q. q.entries.items };
 }
 
-ghost use Rattle.std.specs.Prelude.{◌≡◌, ◌==◌, ◌+◌, ◌<◌, List, [], ◌∷◌, ◌++◌, length, IfOk, OnOk, OnErr, IfErr};
-ghost use Rattle.reconstruct.specs.Turned.{IsLast, TakesEntry};
+ghost use Rattle.std.specs.Prelude.{MatchOption, ◌≡◌, ◌==◌, ◌+◌, ◌<◌, List, [], ◌∷◌, ◌++◌, length, IfOk, OnOk, OnErr, IfErr};
+ghost use Rattle.reconstruct.specs.Turned.{IsLast, EndsSingle, EndsPartial, TakesEntry};
 ghost use Rattle.reconstruct.specs.declared.entries.Entry.{Entry};
 
 use lazy_plans::Steps;
@@ -56,6 +57,34 @@ impl<T> Queue<T> {
         ensures { IsLast self.now result.now }
     {
         &self.entries[self.entries.len() - 1]
+    }
+
+    /// The entry that is taken next, where it is a prefix whose children are still to be found.
+    pub(crate) fn partial(&self) -> Option<&Partial<T>>
+        ensures { MatchOption result (EndsSingle self.now) (λ p. IsLast self.now (Entry.Partial p.now)) }
+    {
+        if self.entries.is_empty() {
+            return None;
+        }
+        match self.last() {
+            Entry::Partial(partial) => Some(partial),
+            _ => None,
+        }
+    }
+
+    /// Partial expansion: takes the last entry, a prefix whose children are still to be found, and puts what was found
+    /// of them in its place. That is no turn: it isn't counted.
+    ///
+    /// Out of memory, it takes nothing.
+    pub(crate) fn part(&mut self, found: &mut Vec<Entry<T>>) -> Result<Entry<T>, Memory>
+        requires { EndsPartial self.old }
+        ensures ok { IfOk result (TakesEntry self.old self.new found.old.items) }
+        ensures err { OnErr result (self.new ≡ self.old) }
+        ensures found { OnErr result (found.new.items ≡ found.old.items) }
+    {
+        let last = self.entries.len() - 1;
+        self.entries.append(found)?;
+        Ok(self.entries.remove(last))
     }
 
     /// One turn: takes the last entry, and puts what follows it in its place. It is counted: `steps` has one more.

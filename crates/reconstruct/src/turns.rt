@@ -16,10 +16,10 @@ ghost use Rattle.space_api.specs.View.{View, Valid, Has};
 ghost use Rattle.space_api.specs.Frames.{Stays};
 ghost use Rattle.space_api.specs.Owned.{Trades};
 ghost use Rattle.cost_layers.specs.Layers.{Held};
-ghost use Rattle.reconstruct.specs.Entries.{EntryOk, MakesEntries, SetIn, AreDistinct};
+ghost use Rattle.reconstruct.specs.Entries.{IsSingle, EntryOk, MakesEntries, SetIn, AreDistinct};
 ghost use Rattle.reconstruct.specs.Expansions.{AreRightExpansions, TellEnds};
 ghost use Rattle.reconstruct.specs.Grown.{Expands};
-ghost use Rattle.reconstruct.specs.Turned.{IsDone, IsWholePrefix, Begun, BeginsToo, begun_entries, MakesFollowers, IsQueue, TurnsEntries, Replaces};
+ghost use Rattle.reconstruct.specs.Turned.{EndsSingle, IsDone, IsWholePrefix, Begun, BeginsToo, begun_entries, MakesFollowers, IsQueue, TurnsEntries, Replaces};
 
 use crate::expand::expand;
 use crate::expansions::Expansions;
@@ -64,7 +64,7 @@ fn is_done<S: Space>(
     ensures { IfOk result (λ b. IsTrue b ↔ IsDone (S.view space.now) entry.now) }
 {
     match entry {
-        Entry::Before(_) => Ok(false),
+        Entry::Before(_) | Entry::Partial(_) => Ok(false),
         Entry::After(suffix) => ends(alloc, space, suffix, memo),
     }
 }
@@ -112,7 +112,7 @@ fn begin_if_whole<S: Space>(
     ensures { IfOk result (BeginsToo (S.view space.now) back.now entry.now) }
 {
     match entry {
-        Entry::After(_) => Ok(None),
+        Entry::After(_) | Entry::Partial(_) => Ok(None),
         Entry::Before(prefix) => {
             if starts(space, prefix) {
                 Ok(Some(begin(alloc, space, back, prefix)?))
@@ -161,6 +161,7 @@ fn follow<S: Space>(
     requires front { Held (S.view space.old) front.now }
     requires back { Held (S.view space.old) back.now }
     requires entry { EntryOk (S.view space.old) entry.now }
+    requires single { IsSingle entry.now }
     requires memo { AreRightExpansions (S.view space.old) back.now memo.old }
     ensures memo { AreRightExpansions (S.view space.old) back.now memo.new }
     ensures ok { IfOk result (λ next. MakesFollowers (S.view space.old) (S.view space.new) front.now back.now
@@ -214,7 +215,8 @@ fn replace_last<S: Space, L: Ledger>(
     }
 }
 
-/// One turn: takes the last entry, and puts what follows it in its place. Gives its operators where they are a plan.
+/// One turn: takes the last entry, which stands for itself alone, and puts what follows it in its place. Gives its
+/// operators where they are a plan.
 ///
 /// The set of the entry is given back, and `steps` has one more. Out of memory, it leaves the queue, all sets and the
 /// count as they were.
@@ -231,6 +233,7 @@ pub(crate) fn turn<S: Space, L: Ledger>(
     requires back { Held (S.view space.old) back.now }
     requires queue { IsQueue (S.view space.old) queue.old }
     requires some { 0 < length queue.old }
+    requires single { EndsSingle queue.old }
     requires memo { AreRightExpansions (S.view space.old) back.now memo.old }
     ensures queue { IsQueue (S.view space.new) queue.new }
     ensures trades { Trades (S.view space.old) (S.view space.new) (SetIn queue.old) (SetIn queue.new) }

@@ -7,10 +7,11 @@ ghost use Rattle.cost_layers.specs.Layers.{Held, known_of};
 ghost use Rattle.plan_cuts.specs.declared.Cut.{Cut};
 ghost use Rattle.reconstruct.specs.Entries.{SetIn, RightSides};
 ghost use Rattle.reconstruct.specs.Expansions.{AreRightExpansions};
-ghost use Rattle.reconstruct.specs.Turned.{IsQueue};
+ghost use Rattle.reconstruct.specs.Turned.{IsQueue, EndsSingle};
 ghost use Rattle.reconstruct.specs.Walked.{AreEntriesApart, IsLawful, OwesOn, GaveFrom};
 
 use crate::expansions::Expansions;
+use crate::partial::single_out;
 use crate::queue::Queue;
 use crate::turns::turn;
 use cost_layers::Layers;
@@ -37,6 +38,7 @@ pub(crate) fn walk<S: Space, L: Ledger>(
         (known_of front.now) (known_of back.now) }
     requires queue { IsQueue (S.view space.old) queue.old }
     requires some { 0 < length queue.old }
+    requires single { EndsSingle queue.old }
     requires front_apart { AreEntriesApart queue.old front.now }
     requires back_apart { AreEntriesApart queue.old back.now }
     requires memo { AreRightExpansions (S.view space.old) back.now memo.old }
@@ -54,7 +56,7 @@ pub(crate) fn walk<S: Space, L: Ledger>(
     'turns: loop {
         match turn(alloc, space, front, back, queue, memo, steps)? {
             Some(plan) => return Ok(plan),
-            None => {}
+            None => single_out(alloc, space, front, queue)?,
         }
     }
 }

@@ -1,5 +1,5 @@
 use Rattle.std.proofs.Common.{refl, None}
-use Rattle.bidirectional.specs.Both.{back_layers}
+use Rattle.bidirectional.specs.Both.{front_layers, back_layers}
 use Rattle.reconstruct.specs.declared.next_plan.Agenda.{Agenda}
 use Rattle.lazy_plans.specs.Shell.{shell_held}
 use Rattle.reconstruct.proofs.Asks.{engine_begins, pends_all}
@@ -17,6 +17,6 @@ returns g c =
       lawful = engine_begins {u = u} {v = v} agenda c.requires t c.in_ok-both.ensures.both refl c.new.ensures c.new-2.ensures c.new-3.ensures;
       system = t.system;
       most_is = c.new-3.ensures.wanted;
-      all = pends_all u v (back_layers both) agenda.queue (shell_held c.new-3.result) c.new-3.ensures.free t.system;
+      all = pends_all u v (front_layers both) (back_layers both) agenda.queue (shell_held c.new-3.result) c.new-3.ensures.free t.system;
       goes_on = c.new-3.ensures.goes_on;
     }

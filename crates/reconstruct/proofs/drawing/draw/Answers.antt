@@ -3,6 +3,7 @@ use Rattle.bidirectional.specs.Both.{IsBeneath, front_layers, back_layers}
 use Rattle.bidirectional.proofs.Ends.{valid_ends}
 use Rattle.reconstruct.proofs.Ends.{right_ends}
 use Rattle.reconstruct.proofs.Placing.{stays_drew, none_drew, put_drew, drew_draws}
+use Rattle.reconstruct.proofs.Parting.{put_more}
 use Rattle.reconstruct.proofs.drawing.draw.Goals as goal
 
 pub returns-in_err-next_entry-clause-draws : goal.returns-in_err-next_entry-clause-draws
@@ -43,3 +44,10 @@ returns-in-Some-clause-draws g c =
     (right_ends v x c.requires.both) (valid_ends v x c.requires.both) c.requires.left c.requires.empty
     c.requires.listing c.in-Some.drawn c.put.new.place c.put.new.queue c.put.result c.next_entry.ensures.same
     c.next_entry.ensures.ready n.0 n.1 c.put.ensures.ok c.put.ensures.err)
+
+pub returns-in-Some-clause-ok : goal.returns-in-Some-clause-ok
+returns-in-Some-clause-ok g c =
+    let view = g.S.Space.view in
+    let n = rw c.in-Some.is at c.in_ok-next_entry.ensures.ok in
+    put_more (view c.next_entry.new.space) (view c.put.new.space) c.next_entry.new.place c.put.new.place c.put.new.queue
+    c.in-Some.drawn c.put.result c.put.ensures.ok n.1.single

@@ -24,7 +24,7 @@ walk-requires-clause-lawful g c =
     let x = c.args.both.now in
     let place = c.in-Some.field-0 in
     let l = listing_some v (IsBeneath x) (front_layers x) (back_layers x) place c.args.agenda.now.queue
-    c.requires.some (rw c.in-Some.is at c.requires.working.at) in
+    c.requires.some.0 (rw c.in-Some.is at c.requires.working.at) in
     rw (c.forward_layers.ensures.value, c.backward_layers.ensures.value) (place.cost, undrawn place.left place.after, l.lawful)
 
 pub walk-requires-clause-front_apart : goal.walk-requires-clause-front_apart
@@ -32,7 +32,7 @@ walk-requires-clause-front_apart g c =
     let v = g.S.Space.view c.args.space.now in
     let x = c.args.both.now in
     let l = listing_some v (IsBeneath x) (front_layers x) (back_layers x) c.in-Some.field-0 c.args.agenda.now.queue
-    c.requires.some (rw c.in-Some.is at c.requires.working.at) in
+    c.requires.some.0 (rw c.in-Some.is at c.requires.working.at) in
     rw c.forward_layers.ensures.value (λ a s k. l.apart a s (keeps_ends x a (inl k)))
 
 pub walk-requires-clause-back_apart : goal.walk-requires-clause-back_apart
@@ -40,7 +40,7 @@ walk-requires-clause-back_apart g c =
     let v = g.S.Space.view c.args.space.now in
     let x = c.args.both.now in
     let l = listing_some v (IsBeneath x) (front_layers x) (back_layers x) c.in-Some.field-0 c.args.agenda.now.queue
-    c.requires.some (rw c.in-Some.is at c.requires.working.at) in
+    c.requires.some.0 (rw c.in-Some.is at c.requires.working.at) in
     rw c.backward_layers.ensures.value (λ a s k. l.apart a s (keeps_ends x a (inr k)))
 
 pub walk-requires-clause-memo : goal.walk-requires-clause-memo
@@ -54,7 +54,7 @@ returns-in-Ok-clause-working g c =
     let z = c.requires.working in
     let place = c.in-Some.field-0 in
     let queue = c.args.agenda.now.queue in
-    let l = listing_some v (IsBeneath x) (front_layers x) (back_layers x) place queue c.requires.some (rw c.in-Some.is at z.at) in
+    let l = listing_some v (IsBeneath x) (front_layers x) (back_layers x) place queue c.requires.some.0 (rw c.in-Some.is at z.at) in
     let e = c.walk.ensures in
     let gave = rw (c.forward_layers.ensures.value, c.backward_layers.ensures.value) at c.in-Ok.ensures.gave in
     let right = rw c.backward_layers.ensures.value at e.memo in
@@ -67,7 +67,7 @@ returns-in-Ok-clause-turned g c most range =
     let x = c.args.both.now in
     let place = c.in-Some.field-0 in
     let l = listing_some v (IsBeneath x) (front_layers x) (back_layers x) place c.args.agenda.now.queue
-    c.requires.some (rw c.in-Some.is at c.requires.working.at) in
+    c.requires.some.0 (rw c.in-Some.is at c.requires.working.at) in
     let wanted = rw c.in-Some.is at range in
     let gave = rw (c.forward_layers.ensures.value, c.backward_layers.ensures.value) at c.in-Ok.ensures.gave in
     rw (c.in-Some.is, c.of.ensures) ((gave place.cost most wanted (undrawn place.left place.after) l.lawful).1)
@@ -80,7 +80,7 @@ returns-in-Err-clause-working g c =
     let z = c.requires.working in
     let place = c.in-Some.field-0 in
     let queue = c.args.agenda.now.queue in
-    let l = listing_some v (IsBeneath x) (front_layers x) (back_layers x) place queue c.requires.some (rw c.in-Some.is at z.at) in
+    let l = listing_some v (IsBeneath x) (front_layers x) (back_layers x) place queue c.requires.some.0 (rw c.in-Some.is at z.at) in
     let e = c.walk.ensures in
     let owes = rw (c.forward_layers.ensures.value, c.backward_layers.ensures.value) at c.in-Err.ensures.owes in
     let right = rw c.backward_layers.ensures.value at e.memo in
@@ -93,10 +93,10 @@ returns-in-Err-clause-turned g c most range =
     let x = c.args.both.now in
     let place = c.in-Some.field-0 in
     let queue = c.args.agenda.now.queue in
-    let l = listing_some v (IsBeneath x) (front_layers x) (back_layers x) place queue c.requires.some (rw c.in-Some.is at c.requires.working.at) in
+    let l = listing_some v (IsBeneath x) (front_layers x) (back_layers x) place queue c.requires.some.0 (rw c.in-Some.is at c.requires.working.at) in
     let owes = rw (c.forward_layers.ensures.value, c.backward_layers.ensures.value) at c.in-Err.ensures.owes in
     rw c.in-Some.is (
-      memory_stops v.system most (OwesByCuts v (back_layers x) (Some place) queue),
+      memory_stops v.system most (OwesByCuts v (front_layers x) (back_layers x) (Some place) queue),
       (owes place.cost (undrawn place.left place.after) l.lawful).1,
     )
 
@@ -105,7 +105,7 @@ returns-in-Ok-clause-trades g c =
     let v = g.S.Space.view c.args.space.now in
     let x = c.args.both.now in
     let z = c.requires.working in
-    let l = listing_some v (IsBeneath x) (front_layers x) (back_layers x) c.in-Some.field-0 c.args.agenda.now.queue c.requires.some (rw c.in-Some.is at z.at) in
+    let l = listing_some v (IsBeneath x) (front_layers x) (back_layers x) c.in-Some.field-0 c.args.agenda.now.queue c.requires.some.0 (rw c.in-Some.is at z.at) in
     trades_beside (IsOwnOf x) c.walk.ensures.trades (λ a o. let u = owned_ends x a o in (valid_ends v x z.stands a u, λ s. l.apart a s u))
 
 pub returns-in-Err-clause-trades : goal.returns-in-Err-clause-trades
@@ -113,5 +113,5 @@ returns-in-Err-clause-trades g c =
     let v = g.S.Space.view c.args.space.now in
     let x = c.args.both.now in
     let z = c.requires.working in
-    let l = listing_some v (IsBeneath x) (front_layers x) (back_layers x) c.in-Some.field-0 c.args.agenda.now.queue c.requires.some (rw c.in-Some.is at z.at) in
+    let l = listing_some v (IsBeneath x) (front_layers x) (back_layers x) c.in-Some.field-0 c.args.agenda.now.queue c.requires.some.0 (rw c.in-Some.is at z.at) in
     trades_beside (IsOwnOf x) c.walk.ensures.trades (λ a o. let u = owned_ends x a o in (valid_ends v x z.stands a u, λ s. l.apart a s u))

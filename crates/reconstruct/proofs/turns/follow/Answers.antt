@@ -16,5 +16,5 @@ returns-clause-ok g c =
     let view = g.S.Space.view in
     rw c.in_ok-entries.ensures.stays (follow_law (view c.args.space.now) (view c.expand.new.space) c.args.front.now
     c.args.back.now c.requires.back c.args.entry.now c.in_ok-made.made.items c.in_ok-entries.entries.items
-    c.in_ok-done.done c.in_ok-begun.begun c.requires.entry c.in_ok-done.ensures c.in_ok-made.ensures.ok
+    c.in_ok-done.done c.in_ok-begun.begun c.requires.single c.requires.entry c.in_ok-done.ensures c.in_ok-made.ensures.ok
     c.in_ok-begun.ensures c.in_ok-entries.ensures.ok)

@@ -5,7 +5,7 @@ use Rattle.reconstruct.specs.Entries.{MakesEntries}
 use Rattle.reconstruct.specs.Ways.{IsWay}
 use Rattle.reconstruct.specs.declared.entries.Entry.TheVariants.{Before}
 use Rattle.reconstruct.proofs.Gathering.{SofarFrom}
-use Rattle.reconstruct.proofs.before.gather_before.Given as goal
+use Rattle.reconstruct.proofs.before.gather_each.Given as goal
 
 abbrev pub invariant-operators : goal.invariant-operators
 invariant-operators g l =
@@ -16,5 +16,5 @@ invariant-operators g l =
       way : IsWay l.front l.prefix.cost l.way;
       makes : MakesEntries u v (l.children.level.items ++ l.children.falling.items);
       sofar : (back : Layers _) → Held u back → SofarFrom u v l.front back (Before l.prefix)
-          (take l.op-index l.op-items) l.children.level.items l.children.falling.items;
+          (take l.op-index l.ops) l.children.level.items l.children.falling.items;
     }

@@ -1,11 +1,12 @@
 -- A node is added to a reduced list.
-use Rattle.std.proofs.Common.{◌≡◌, ◌≢◌, ℕ, zero, suc, ◌+◌, ◌<◌, ◌≤◌, ◌||◌, Bool, true, false, cond, ◌⊎◌, inl, inr, List, [], ◌∷◌, ◌++◌, length, slice_get, Some, Result, Ok, Err, IfOk, OnErr, refl, sym, ◌∙◌, ap, subst, arith, get_or-append-add, length-append, true≢false, eq-eqb, if◌then◌else◌}
-use Rattle.std.proofs.lemmas.List.{get_or_append_left}
+use Rattle.std.proofs.Common.{◌≡◌, ◌≢◌, ℕ, zero, suc, ◌+◌, ◌<◌, ◌≤◌, ◌||◌, Bool, true, false, cond, ◌⊎◌, inl, inr, List, [], ◌∷◌, ◌++◌, length, slice_get, Some, Result, Ok, Err, IfOk, OnErr, refl, sym, ◌∙◌, ap, subst, arith, get_or-append-add, length-append, true≢false, eq-eqb, if◌then◌else◌, take}
+use Rattle.std.proofs.lemmas.List.{get_or_append_left, get_or_default, get_or-take, length-take, take_more}
 use Rattle.std.specs.List.{list_any}
 use Rattle.indexmap.specs.IndexSet.{insert_key}
+use Rattle.indexmap.proofs.CallerLemmas.{Contains-list_any}
 use Rattle.bdd_table.specs.declared.node.Node.{Node}
 use Rattle.bdd_table.specs.Diagram.{Bits, node_of, at, level_of, means, IsInner, IsReduced, GrowsTable, Keeps, AddsNode}
-use Rattle.bdd_table.specs.NodeHash.{node_eq}
+use Rattle.bdd_table.specs.NodeHash.{node_eq, node_eq_same}
 use Rattle.bdd_table.proofs.Canonical.{order}
 use Rattle.bdd_table.proofs.Meaning.{means_chosen, chosen_known, keeps_grown}
 
@@ -166,3 +167,25 @@ meaning_after xs ys level lo hi (Err x) r a = tt
 
 pub node_eq_itself : (x : Node) → node_eq x x ≡ true
 node_eq_itself x = rw (eq-eqb x.level x.level refl, eq-eqb x.lo x.lo refl, eq-eqb x.hi x.hi refl) refl
+
+-- of nodes that differ none is among those before it
+pub refilled : (kept keys new : List Node) (i : ℕ) → IsReduced kept → i < length kept → keys ≡ take i kept
+    → new ≡ insert_key node_eq keys (at kept i) → new ≡ take (i + 1) kept
+refilled kept keys new i r h e ins = ins
+    ∙ ap (λ (ks : List Node). insert_key node_eq ks (at kept i)) e
+    ∙ ap (λ (b : Bool). if b then take i kept else take i kept ++ at kept i ∷ []) none
+    ∙ sym (take_more kept i (node_of 4294967295 0 0) h)
+  where
+    seen : list_any (node_eq (at kept i)) (take i kept) ≡ true → ⊥
+    seen t = let m = Contains-list_any node_eq node_eq_same (take i kept) (at kept i) t in
+        let short = length-take i kept in
+        let before : m.0 < i = omega (arith, m.1, short) in
+        let same = r.unique m.0 i (omega (arith, before, h)) h
+        (sym (get_or-take i kept m.0 (node_of 4294967295 0 0) before) ∙ get_or_default (take i kept) m.0 (node_of 4294967295 0 0) (at kept i) m.1 ∙ m.2) in
+        omega (arith, same, before)
+
+    none : list_any (node_eq (at kept i)) (take i kept) ≡ false
+    none = (elim (list_any (node_eq (at kept i)) (take i kept)) as (λ t. list_any (node_eq (at kept i)) (take i kept) ≡ t → t ≡ false) [
+      | true ↦ λ t. absurd (seen t)
+      | false ↦ λ t. refl
+    ]) refl

@@ -1,67 +1,12 @@
 -- Nodes that are moved to another list.
-use Rattle.std.proofs.Common.{◌≡◌, ◌≢◌, ℕ, ◌+◌, ◌<◌, ◌≤◌, ◌||◌, Bool, true, false, cond, inl, inr, List, [], ◌∷◌, ◌++◌, length, Result, Ok, Err, IfOk, refl, sym, ◌∙◌, ap, subst, arith, get_or-append-add, length-append, nat_lt, slice_index, ltb-true}
+use Rattle.std.proofs.Common.{◌≡◌, ℕ, ◌+◌, ◌<◌, ◌≤◌, ◌||◌, Bool, true, false, cond, inl, inr, List, [], ◌∷◌, ◌++◌, length, refl, sym, ◌∙◌, ap, subst, arith, get_or-append-add, length-append, nat_lt, slice_index, ltb-true, true≢false}
 use Rattle.std.proofs.lemmas.List.{get_or_append_left}
 use Rattle.bdd_table.specs.declared.node.Node.{Node}
-use Rattle.bdd_table.specs.Diagram.{Bits, node_of, at, level_of, means, IsReduced, GrowsTable, AddsNode}
+use Rattle.bdd_table.specs.Diagram.{Bits, node_of, at, level_of, means, IsInner, IsReduced, GrowsTable}
 use Rattle.bdd_table.specs.Collected.{IsMoved, IsPlaced, AreMoved, IsClosed, is_marked_id, is_kept}
 use Rattle.bdd_table.proofs.Meaning.{split, means_chosen, means_grown, means_false, means_true}
-use Rattle.bdd_table.proofs.Canonical.{canonical, constant_level, order}
-use Rattle.bdd_table.proofs.Adding.{grows_adds, node_meaning, length_pushed}
-
--- The node's children have their places, which are lo and hi.
-pub record HasPlaces (old before : List Node) (places : List ℕ) (id lo hi level : ℕ) : Type 0 where
-  pub level_is : level ≡ level_of old id
-  pub lo_is : lo ≡ slice_index places (at old id).lo
-  pub hi_is : hi ≡ slice_index places (at old id).hi
-  pub lo_moved : IsMoved old before (at old id).lo (slice_index places (at old id).lo)
-  pub hi_moved : IsMoved old before (at old id).hi (slice_index places (at old id).hi)
-
--- where children have their places, a node that is added for an Id has the place of the Id
-pub placed_node : {E : Type 0} {old before new : List Node} (places : List ℕ) (id : ℕ) {lo hi level : ℕ}
-    (r : Result ℕ E)
-    → IsReduced old → IsReduced before → IsReduced new → 2 ≤ id → id < length old
-    → HasPlaces old before places id lo hi level
-    → IfOk r (λ place. lo ≢ hi → AddsNode before (node_of level lo hi) new place) → IfOk r (IsPlaced old before new places id)
-placed_node places id (Err e) ro rb rn two known has added = tt
-placed_node {E} {old} {before} {new} places id {lo} {hi} {level} (Ok place) ro rb rn two known has added = record {
-  moved = record { known = a.known; level = ap (λ (m : Node). m.level) a.is ∙ has.level_is; meaning = meaning };
-  is = a.is ∙ (λ k. node_of (has.level_is k) (has.lo_is k) (has.hi_is k));
-  only = λ p from to. elim a.how [
-    | inl same ↦ absurd (omega (arith, from, to, ap (λ (l : List Node). length l) same))
-    | inr n ↦ omega (arith, from, to, ap (λ (l : List Node). length l) n.0, length_pushed before (node_of level lo hi), n.1)
-  ];
-}
-  where
-    differ : lo ≢ hi
-    differ e = let i = ro.inner id two known in
-        i.differ (canonical old ro (at old id).lo (at old id).hi (omega (arith, i.lo_before)) (omega (arith, i.hi_before))
-        (λ b. sym (has.lo_moved.meaning b) ∙ ap (λ k. means before k b) (sym has.lo_is ∙ e ∙ has.hi_is)
-        ∙ has.hi_moved.meaning b))
-
-    a : AddsNode before (node_of level lo hi) new place
-    a = added differ
-
-    grows : GrowsTable before new
-    grows = grows_adds before new (node_of level lo hi) place a
-
-    lo_meaning : (b : Bits) → means new lo b ≡ means old (at old id).lo b
-    lo_meaning b = ap (λ k. means new k b) has.lo_is
-        ∙ means_grown before rb new grows b (slice_index places (at old id).lo) has.lo_moved.known
-        ∙ has.lo_moved.meaning b
-
-    hi_meaning : (b : Bits) → means new hi b ≡ means old (at old id).hi b
-    hi_meaning b = ap (λ k. means new k b) has.hi_is
-        ∙ means_grown before rb new grows b (slice_index places (at old id).hi) has.hi_moved.known
-        ∙ has.hi_moved.meaning b
-
-    out : (b : Bits) (v : Bool) → cond v (means old (at old id).hi b) (means old (at old id).lo b) ≡ means old (cond v (at old id).hi (at old id).lo) b
-    out b true = refl
-    out b false = refl
-
-    meaning : (b : Bits) → means new place b ≡ means old id b
-    meaning b = node_meaning new rn level lo hi place a.known a.is b
-        ∙ (λ k. cond (b (has.level_is k)) (hi_meaning b k) (lo_meaning b k))
-        ∙ out b (b (level_of old id)) ∙ sym (means_chosen old ro b id known)
+use Rattle.bdd_table.proofs.Canonical.{canonical, constant_level, level_bound, order}
+use Rattle.bdd_table.proofs.Adding.{at_old, at_last, length_pushed, reduced_push, node_meaning}
 
 pub moved_grown : (old before new : List Node) → IsReduced before → GrowsTable before new → (id place : ℕ)
     → IsMoved old before id place → IsMoved old new id place
@@ -71,11 +16,35 @@ moved_grown old before new r g id place m = record {
   meaning = λ b. means_grown before r new g b place m.known ∙ m.meaning b;
 }
 
+constants_reduced : IsReduced (node_of 4294967295 0 0 ∷ node_of 4294967295 1 1 ∷ [])
+constants_reduced = record {
+  constants = omega arith;
+  of_false = refl;
+  of_true = refl;
+  inner = λ id two known. absurd (omega (arith, two, known));
+  unique = λ i j hi hj e. elim (split i) [
+    | inl x ↦ elim (split j) [
+      | inl y ↦ x ∙ sym y
+      | inr (inl y) ↦ absurd (omega (arith, sym (ap lo_at x) ∙ ap (λ (n : Node). n.lo) e ∙ ap lo_at y))
+      | inr (inr y) ↦ absurd (omega (arith, y, hj))
+    ]
+    | inr (inl x) ↦ elim (split j) [
+      | inl y ↦ absurd (omega (arith, sym (ap lo_at x) ∙ ap (λ (n : Node). n.lo) e ∙ ap lo_at y))
+      | inr (inl y) ↦ x ∙ sym y
+      | inr (inr y) ↦ absurd (omega (arith, y, hj))
+    ]
+    | inr (inr x) ↦ absurd (omega (arith, x, hi))
+  ];
+}
+  where
+    lo_at : ℕ → ℕ
+    lo_at i = (at (node_of 4294967295 0 0 ∷ node_of 4294967295 1 1 ∷ []) i).lo
+
 -- the constants have their own places
-pub start_moved : (old new : List Node) (marks : List Bool) (places : List ℕ) → IsReduced old → IsReduced new
+pub start_moved : (old new : List Node) (marks : List Bool) (places : List ℕ) → IsReduced old
     → new ≡ node_of 4294967295 0 0 ∷ node_of 4294967295 1 1 ∷ [] → places ≡ 0 ∷ 1 ∷ []
     → AreMoved old marks new places 2
-start_moved old new marks places ro rn en e = record {
+start_moved old new marks places ro en e = record {
   reduced = rn;
   count = ap (λ (l : List ℕ). length l) e;
   moved = λ id h kept. elim (split id) [
@@ -100,6 +69,9 @@ start_moved old new marks places ro rn en e = record {
   only = λ place two h. absurd (omega (arith, two, h, ap (λ (l : List Node). length l) en));
 }
   where
+    rn : IsReduced new
+    rn = subst IsReduced (sym en) constants_reduced
+
     first : slice_index places 0 ≡ 0
     first = ap (λ l. slice_index l 0) e
 
@@ -215,23 +187,114 @@ module _ (old before new : List Node) (marks : List Bool) (places after : List �
     only = new_only;
   }
 
+kept_by : {marked : Bool} (low : Bool) → marked ≡ true → (low || marked) ≡ true
+kept_by true e = refl
+kept_by false e = e
+
 -- the children of a marked node have their places
 pub lo_placed : (old before : List Node) (marks : List Bool) (places : List ℕ) (n : ℕ) → IsReduced old
     → IsClosed old marks → 2 ≤ n → n < length old → AreMoved old marks before places n → is_marked_id marks n ≡ true
     → IsMoved old before (at old n).lo (slice_index places (at old n).lo)
 lo_placed old before marks places n ro closed two known was m = let i = ro.inner n two known in
-    was.moved (at old n).lo i.lo_before (closed.lo_kept n two known (kept_marked (nat_lt n 2) m))
-  where
-    kept_marked : (a : Bool) → is_marked_id marks n ≡ true → (a || is_marked_id marks n) ≡ true
-    kept_marked true e = refl
-    kept_marked false e = e
+    was.moved (at old n).lo i.lo_before (closed.lo_kept n two known (kept_by (nat_lt n 2) m))
 
 pub hi_placed : (old before : List Node) (marks : List Bool) (places : List ℕ) (n : ℕ) → IsReduced old
     → IsClosed old marks → 2 ≤ n → n < length old → AreMoved old marks before places n → is_marked_id marks n ≡ true
     → IsMoved old before (at old n).hi (slice_index places (at old n).hi)
 hi_placed old before marks places n ro closed two known was m = let i = ro.inner n two known in
-    was.moved (at old n).hi i.hi_before (closed.hi_kept n two known (kept_marked (nat_lt n 2) m))
-  where
-    kept_marked : (a : Bool) → is_marked_id marks n ≡ true → (a || is_marked_id marks n) ≡ true
-    kept_marked true e = refl
-    kept_marked false e = e
+    was.moved (at old n).hi i.hi_before (closed.hi_kept n two known (kept_by (nat_lt n 2) m))
+
+-- A marked node goes last, with the places of its children.
+module _ (old before : List Node) (marks : List Bool) (places : List ℕ) (n : ℕ) (ro : IsReduced old) (closed : IsClosed old marks)
+    (two : 2 ≤ n) (known : n < length old) (was : AreMoved old marks before places n) (m : is_marked_id marks n ≡ true) where
+  abbrev lo : ℕ
+  lo = slice_index places (at old n).lo
+
+  abbrev hi : ℕ
+  hi = slice_index places (at old n).hi
+
+  abbrev pub moved_node : Node
+  moved_node = node_of (level_of old n) lo hi
+
+  i : IsInner old n
+  i = ro.inner n two known
+
+  lo_moved : IsMoved old before (at old n).lo lo
+  lo_moved = lo_placed old before marks places n ro closed two known was m
+
+  hi_moved : IsMoved old before (at old n).hi hi
+  hi_moved = hi_placed old before marks places n ro closed two known was m
+
+  differ : lo ≡ hi → ⊥
+  differ e = i.differ (canonical old ro (at old n).lo (at old n).hi (omega (arith, i.lo_before)) (omega (arith, i.hi_before))
+      (λ b. sym (lo_moved.meaning b) ∙ ap (λ k. means before k b) e ∙ hi_moved.meaning b))
+
+  lo_below : level_of old n < level_of before lo
+  lo_below = rw lo_moved.level i.lo_below
+
+  hi_below : level_of old n < level_of before hi
+  hi_below = rw hi_moved.level i.hi_below
+
+  out : (b : Bits) (v : Bool) → cond v (means before hi b) (means before lo b) ≡ means old (cond v (at old n).hi (at old n).lo) b
+  out b true = hi_moved.meaning b
+  out b false = lo_moved.meaning b
+
+  means_same : (nodes : List Node) → IsReduced nodes → GrowsTable before nodes → (p : ℕ) → p < length nodes → at nodes p ≡ moved_node
+      → (b : Bits) → means nodes p b ≡ means old n b
+  means_same nodes r g p there is b = node_meaning nodes r (level_of old n) lo hi p there is b
+      ∙ (λ k. cond (b (level_of old n)) (means_grown before was.reduced nodes g b hi hi_moved.known k) (means_grown before was.reduced nodes g b lo lo_moved.known k))
+      ∙ out b (b (level_of old n)) ∙ sym (means_chosen old ro b n known)
+
+  as_it_was : GrowsTable before before
+  as_it_was = record { longer = omega arith; same = λ p h. refl }
+
+  absent : (p : ℕ) → p < length before → at before p ≡ moved_node → ⊥
+  absent p h is = elim (split p) [
+    | inl z ↦ constant (omega (arith, z))
+    | inr (inl z) ↦ constant (omega (arith, z))
+    | inr (inr inner) ↦
+        let w = was.only p inner h in
+        let same = canonical old ro w.0 n (omega (arith, w.2, known)) known (λ b. sym ((was.moved w.0 w.2 (kept_of w.0 w.3)).meaning b)
+        ∙ ap (λ k. means before k b) w.4 ∙ means_same before was.reduced as_it_was p h is b) in
+        absurd (omega (arith, same, w.2))
+  ]
+    where
+      constant : p < 2 → ⊥
+      constant low = absurd (omega (
+        arith,
+        ap (λ (k : Node). k.level) is,
+        constant_level before was.reduced p low,
+        i.lo_below,
+        level_bound old ro (at old n).lo (omega (arith, i.lo_before, known)),
+      ))
+
+      kept_of : (id : ℕ) → is_marked_id marks id ≡ true → is_kept marks id ≡ true
+      kept_of id e = kept_by (nat_lt id 2) e
+
+  grows : GrowsTable before (before ++ moved_node ∷ [])
+  grows = record { longer = omega (arith, length_pushed before moved_node); same = λ p h. at_old before moved_node p h }
+
+  reduced : IsReduced (before ++ moved_node ∷ [])
+  reduced = reduced_push before moved_node was.reduced lo_moved.known hi_moved.known differ lo_below hi_below absent
+
+  placed : IsPlaced old before (before ++ moved_node ∷ []) places n (length before)
+  placed = record {
+    moved = record {
+      known = omega (arith, length_pushed before moved_node);
+      level = ap (λ (k : Node). k.level) (at_last before moved_node);
+      meaning = means_same (before ++ moved_node ∷ []) reduced grows (length before) (omega (arith, length_pushed before moved_node)) (at_last before moved_node);
+    };
+    is = at_last before moved_node;
+    only = λ p from to. omega (arith, from, to, length_pushed before moved_node);
+  }
+
+  pub node_moved : AreMoved old marks (before ++ moved_node ∷ []) (places ++ length before ∷ []) (n + 1)
+  node_moved = step_moved old before (before ++ moved_node ∷ []) marks places (places ++ length before ∷ []) n (length before) ro known was
+      grows reduced refl two (λ _. placed) (λ e. absurd (true≢false (sym m ∙ e)))
+
+-- An Id that isn't marked goes nowhere.
+pub skipped : (old before : List Node) (marks : List Bool) (places : List ℕ) (n place : ℕ) → IsReduced old → 2 ≤ n → n < length old
+    → AreMoved old marks before places n → is_marked_id marks n ≡ false → AreMoved old marks before (places ++ place ∷ []) (n + 1)
+skipped old before marks places n place ro two known was m =
+    step_moved old before before marks places (places ++ place ∷ []) n place ro known was (record { longer = omega arith; same = λ p h. refl })
+    was.reduced refl two (λ e. absurd (true≢false (sym e ∙ m))) (λ _. refl)

@@ -1,73 +1,68 @@
-//! A table with the kept nodes of another.
+//! The nodes that a collection keeps, renumbered.
 
-ghost use Rattle.std.specs.Prelude.{◌≡◌, ℕ, ◌+◌, ◌<◌, ◌≤◌, true, false, length, IfOk, slice_index};
-ghost use Rattle.bdd_table.specs.Diagram.{at, IsReduced, GrowsTable};
-ghost use Rattle.bdd_table.specs.Collected.{IsMoved, IsPlaced, AreMoved, IsClosed};
+ghost use Rattle.std.specs.Prelude.{◌≡◌, ℕ, ◌+◌, ◌<◌, ◌≤◌, ◌∷◌, ◌++◌, [], length, IfOk};
+ghost use Rattle.bdd_table.specs.Diagram.{IsReduced};
+ghost use Rattle.bdd_table.specs.Collected.{AreMoved, IsClosed};
 
-use crate::table::{Id, Table, TableFault};
-use std::alloc::Global;
+use crate::node::Node;
+use crate::table::{Id, Table, TableFault, constant};
+use std::alloc::{AllocError, Global};
 
-/// Adds the node of an Id whose children have their places.
-fn add_moved(old: &Table, new: &mut Table, places: &[Id], id: Id) -> Result<Id, TableFault>
-    requires inner { 2 ≤ id }
-    requires known { id < length old.now }
-    requires before { length places.now ≡ id }
-    requires lo { IsMoved old.now new.old (at old.now id).lo (slice_index places.now (at old.now id).lo) }
-    requires hi { IsMoved old.now new.old (at old.now id).hi (slice_index places.now (at old.now id).hi) }
-    requires reduced { IsReduced new.old }
-    ensures placed { IfOk result (IsPlaced old.now new.old new.new places.now id) }
-    ensures grows { GrowsTable new.old new.new }
-    ensures reduced { IsReduced new.new }
-{
-    let node = old.get(id);
-    let lo = places[node.lo as usize];
-    let hi = places[node.hi as usize];
-    new.node(node.level, lo, hi)
-}
-
-/// The place of an Id: that of its node where it is marked, and else 0, which nothing asks for.
-fn place_of(
+/// Moves an Id: keeps its node, with the places of its children, where it is marked. The place of an Id that isn't is 0,
+/// which nothing asks for.
+fn move_node(
     old: &Table,
-    new: &mut Table,
-    places: &[Id],
-    is_marked: bool,
+    marks: &[bool],
+    kept: &mut Vec<Node>,
+    places: &[u32],
     id: Id,
-) -> Result<Id, TableFault>
+) -> Result<u32, TableFault>
+    requires reduced { IsReduced old.now }
+    requires closed { IsClosed old.now marks.now }
     requires inner { 2 ≤ id }
     requires known { id < length old.now }
-    requires before { length places.now ≡ id }
-    requires lo { is_marked ≡ true → IsMoved old.now new.old (at old.now id).lo
-        (slice_index places.now (at old.now id).lo) }
-    requires hi { is_marked ≡ true → IsMoved old.now new.old (at old.now id).hi
-        (slice_index places.now (at old.now id).hi) }
-    requires reduced { IsReduced new.old }
-    ensures placed { IfOk result (λ place. is_marked ≡ true → IsPlaced old.now new.old new.new places.now id place) }
-    ensures none { IfOk result (λ _. is_marked ≡ false → new.new ≡ new.old) }
-    ensures grows { GrowsTable new.old new.new }
-    ensures reduced { IsReduced new.new }
+    requires moved { AreMoved old.now marks.now kept.old.items places.now id }
+    ensures moved { IfOk result (λ place. AreMoved old.now marks.now kept.new.items (places.now ++ place ∷ []) (id + 1)) }
+    ensures fits { length kept.new.items ≤ length kept.old.items + 1 }
 {
-    if is_marked {
-        add_moved(old, new, places, id)
-    } else {
-        Ok(0)
+    if !marks[id] {
+        return Ok(0);
     }
+    let place = kept.len();
+    if place > u32::MAX as usize {
+        return Err(AllocError);
+    }
+    let node = old.get(id);
+    kept.push(Node {
+        level: node.level,
+        lo: places[node.lo as usize],
+        hi: places[node.hi as usize],
+    })?;
+    Ok(place as u32)
 }
 
-/// Sweep of a collection: a table with the marked nodes, and the place of each Id in it. Children come first, so one
-/// rising pass is enough. The new table has room for the nodes that are kept, so that it doesn't grow as they come.
-pub fn rebuild(alloc: Global, old: &Table, marks: &[bool]) -> Result<(Table, Vec<Id>), TableFault>
+/// Compaction of a collection: the marked nodes after the constants, and the place of each Id among them. Children come
+/// first, so one rising pass is enough.
+pub fn renumber(
+    alloc: Global,
+    old: &Table,
+    marks: &[bool],
+) -> Result<(Vec<Node>, Vec<u32>), TableFault>
     requires { IsClosed old.now marks.now }
-    ensures { IfOk result (λ r. AreMoved old.now marks.now (r.0) (r.1.items) (length old.now)) }
+    ensures moved { IfOk result (λ r. AreMoved old.now marks.now (r.0.items) (r.1.items) (length old.now)) }
+    ensures fits { IfOk result (λ r. length r.0.items ≤ length old.now) }
 {
-    let kept = marks.iter().filter(|mark| **mark).count();
-    let mut new = Table::with_room(alloc, kept)?;
-    let mut places: Vec<Id> = Vec::new(alloc);
+    let count = marks.iter().filter(|mark| **mark).count();
+    let mut kept = Vec::with_capacity(alloc, count.saturating_add(2))?;
+    kept.push(constant(0))?;
+    kept.push(constant(1))?;
+    let held = old.held();
+    let mut places = Vec::with_capacity(alloc, held + 2)?;
     places.push(0)?;
     places.push(1)?;
-    let held = old.held();
     for id in 2..held + 2 {
-        let place = place_of(old, &mut new, &places, marks[id], id)?;
+        let place = move_node(old, marks, &mut kept, &places, id)?;
         places.push(place)?;
     }
-    Ok((new, places))
+    Ok((kept, places))
 }

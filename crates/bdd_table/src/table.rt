@@ -7,7 +7,7 @@ ghost use Rattle.bdd_table.specs.Collected.{IsMoved, Reaches, AreReached};
 use crate::hashing::WordHasher;
 use crate::marks::mark;
 use crate::node::Node;
-use crate::rebuild::rebuild;
+use crate::rebuild::renumber;
 use indexmap::IndexSet;
 use std::alloc::{AllocError, Global};
 use std::hash::BuildHasherDefault;
@@ -56,19 +56,7 @@ impl Table {
         ensures empty { IfOk result (λ t. t ≡ node_of bottom 0 0 ∷ node_of bottom 1 1 ∷ []) }
         ensures reduced { IfOk result IsReduced }
     {
-        Table::with_room(alloc, 0)
-    }
-
-    /// The same, with room for this number of nodes, the constants among them.
-    pub(crate) fn with_room(alloc: Global, count: usize) -> Result<Table, TableFault>
-        ensures empty { IfOk result (λ t. t ≡ node_of bottom 0 0 ∷ node_of bottom 1 1 ∷ []) }
-        ensures reduced { IfOk result IsReduced }
-    {
-        let mut nodes = IndexSet::with_capacity_and_hasher(
-            alloc,
-            count,
-            BuildHasherDefault::new(),
-        )?;
+        let mut nodes = IndexSet::with_hasher(alloc, BuildHasherDefault::new());
         nodes.insert_full(constant(0))?;
         nodes.insert_full(constant(1))?;
         Ok(Table { nodes })
@@ -207,26 +195,26 @@ impl Table {
     {
         let alloc = self.allocator();
         let marks = mark(alloc, self, roots)?;
-        let (new, places) = rebuild(alloc, self, &marks)?;
+        let (kept, places) = renumber(alloc, self, &marks)?;
         move_roots(roots, &places);
-        *self = new;
+        refill(&mut self.nodes, &kept);
         Ok(())
     }
 }
 
 /// Puts the place of each root in its stead.
-fn move_roots(roots: &mut [Id], places: &[Id])
+fn move_roots(roots: &mut [Id], places: &[u32])
     requires { EachIndex roots.old (λ i. slice_index roots.old i < length places.now) }
     ensures { EachIndex roots.old
         (λ i. slice_index roots.new i ≡ slice_index places.now (slice_index roots.old i)) }
 {
     'roots: for i in 0..roots.len() {
-        roots[i] = places[roots[i]];
+        roots[i] = places[roots[i]] as usize;
     }
 }
 
 /// The node of a constant.
-fn constant(id: u32) -> Node
+pub(crate) fn constant(id: u32) -> Node
     ensures { result ≡ node_of bottom id id }
 {
     Node {
@@ -243,4 +231,18 @@ fn add(nodes: &mut Nodes, node: Node) -> Result<Id, TableFault>
 {
     let (id, _) = nodes.insert_full(node)?;
     Ok(id)
+}
+
+/// Puts these nodes in the stead of at least as many. The room that they leave is kept for nodes to come, up to as many
+/// again: where they are few, a small table is the quicker one.
+fn refill(nodes: &mut Nodes, kept: &[Node])
+    requires each_once { IsReduced kept.now }
+    requires fits { length kept.now ≤ length nodes.old.keys }
+    ensures { nodes.new.keys ≡ kept.now }
+{
+    nodes.clear();
+    nodes.shrink_to(kept.len().saturating_mul(2));
+    for i in 0..kept.len() {
+        nodes.insert_full(kept[i]).unwrap();
+    }
 }

@@ -16,4 +16,5 @@ pub mod Rest
 pub mod Opening
 pub mod Giving
 pub mod Ends
+pub mod Again
 pub mod Landed

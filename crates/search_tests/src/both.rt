@@ -6,7 +6,8 @@ ghost use Rattle.std.specs.Prelude.{◌≤◌};
 
 use crate::plans::{PlanCut, plan_cuts_of};
 use crate::telling::{
-    Costs, Cutting, Settled, cuts_once_settled, list_answers, list_costs, list_cuts,
+    Costs, Cutting, Settled, cuts_once_settled, list_answers, list_costs, list_costs_again,
+    list_cuts,
 };
 use bdd_space::BddSpace;
 use bidirectional::{Choice, Cut, Lighter, Next};
@@ -83,6 +84,34 @@ fn costs_in(
         costs_over(alloc, BddSpace::of(alloc, task)?, choose, most)
     } else {
         costs_over(alloc, ExplicitSpace::of(alloc, task)?, choose, most)
+    }
+}
+
+/// Lists the costs of plans over the space, by sides that begin again after so much work.
+fn again_over<S: Space + Drop>(
+    alloc: Global,
+    space: S,
+    choose: Choice,
+    most: u64,
+    work: u64,
+) -> Result<Vec<u64>, SpaceFault> {
+    let mut space = space;
+    list_costs_again(alloc, &mut space, choose, most, work)
+}
+
+/// The same over either space.
+fn again_in(
+    alloc: Global,
+    diagrams: bool,
+    task: &Task,
+    choose: Choice,
+    most: u64,
+    work: u64,
+) -> Result<Vec<u64>, SpaceFault> {
+    if diagrams {
+        again_over(alloc, BddSpace::of(alloc, task)?, choose, most, work)
+    } else {
+        again_over(alloc, ExplicitSpace::of(alloc, task)?, choose, most, work)
     }
 }
 
@@ -317,7 +346,8 @@ struct CostRow {
     next: Next,
 }
 
-/// Whether the row is met over the space with the choice, and no layer is above the greatest cost.
+/// Whether the row is met over the space with the choice, and no layer is above the greatest cost; and whether sides
+/// that begin again at once, or never, name the same costs.
 fn costs_are_met(
     alloc: Global,
     diagrams: bool,
@@ -326,8 +356,12 @@ fn costs_are_met(
 ) -> Result<bool, Memory> {
     let task = task_of(alloc, row.task)?;
     let found = costs_in(alloc, diagrams, &task, choose, row.most)?;
+    let at_once = again_in(alloc, diagrams, &task, choose, row.most, 0)?;
+    let never = again_in(alloc, diagrams, &task, choose, row.most, u64::MAX)?;
     Ok(
-        found.within.first().copied() == row.first
+        at_once == found.within
+            && never == found.within
+            && found.within.first().copied() == row.first
             && found.within.last().copied() == row.last
             && found.within.len() == row.count
             && found.above.is_none()

@@ -130,6 +130,48 @@ pub fn list_costs<S: Space, P: Choose + Drop>(
     })
 }
 
+/// The costs of plans up to the greatest one, rising, at most 99; before each the search may begin again.
+fn costs_again<S: Space, P: Choose>(
+    alloc: Global,
+    space: &mut S,
+    both: &mut Both<S::Set, P>,
+    most: u64,
+    work: u64,
+) -> Result<Vec<u64>, SpaceFault>
+    requires { IsBoth (S.view space.old) both.old }
+    ensures { IsBoth (S.view space.new) both.new }
+{
+    let mut found = Vec::new(alloc);
+    let mut above = None;
+    'costs: for _ in 0..99 {
+        both.restart_if_long(alloc, space, above, most, work)?;
+        match both.advance_within(alloc, space, above, most)? {
+            Within::Plans { cost } => {
+                found.push(cost)?;
+                above = Some(cost);
+            }
+            Within::Past => return Ok(found),
+        }
+    }
+    Ok(found)
+}
+
+/// Begins over the space, with all states for later, and lists the costs of plans up to the greatest one, at most 99:
+/// it begins again where a cost takes more than so much of the space's work. The set of all states stays in the space.
+pub fn list_costs_again<S: Space, P: Choose + Drop>(
+    alloc: Global,
+    space: &mut S,
+    choose: P,
+    most: u64,
+    work: u64,
+) -> Result<Vec<u64>, SpaceFault> {
+    let all = space.all()?;
+    let mut both = Both::new_later(alloc, space, choose, all)?;
+    let found = costs_again(alloc, space, &mut both, most, work)?;
+    both.give_back(space);
+    Ok(found)
+}
+
 /// What comes after each cost of a plan, the first included, at most so many answers.
 fn answers_of<S: Space, P: Choose>(
     alloc: Global,

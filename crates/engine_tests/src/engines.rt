@@ -27,6 +27,8 @@ use symk_task::{Memory, Mode, Task};
 pub(crate) enum Engine {
     /// All plans, from the middle outwards.
     Top(Choice),
+    /// The same, kept to a set of all states once a cost takes long.
+    TopLater(Choice),
     /// Of those the first of each class of rearrangements.
     Unordered(Choice),
     /// All plans, by their prefixes.
@@ -43,7 +45,7 @@ impl Engine {
     /// Which plans it gives.
     pub fn mode(self) -> Mode {
         match self {
-            Engine::Top(_) | Engine::Prefixes => Mode::TopK,
+            Engine::Top(_) | Engine::TopLater(_) | Engine::Prefixes => Mode::TopK,
             Engine::Unordered(_) | Engine::PrefixClasses | Engine::Classes => Mode::Unordered,
             Engine::Loopless => Mode::Loopless,
         }
@@ -102,6 +104,21 @@ fn all_plans<S: Space + Drop>(
         None => TopPlans::new_within(alloc, space, choice, all),
         Some(most) => TopPlans::within_most(alloc, space, choice, most, all),
     }
+}
+
+/// The engine of all plans, kept to all states once a cost takes long.
+fn later_plans<S: Space + Drop>(
+    alloc: Global,
+    space: S,
+    choice: Choice,
+    most: Option<u64>,
+) -> Result<TopPlans<S, Choice>, Memory>
+    requires { IsReadyFor (S.view space) None }
+    ensures { IfOk result (IsCutEngine S.view) }
+{
+    let mut space = space;
+    let all = space.all()?;
+    TopPlans::within_later(alloc, space, choice, most, all)
 }
 
 /// The engine of all plans by their prefixes.
@@ -189,6 +206,10 @@ fn listed_over<S: Space + Drop>(
     match request.engine {
         Engine::Top(choice) => {
             let plans = all_plans(alloc, space, choice, request)?;
+            list_of(alloc, plans, request.count)
+        }
+        Engine::TopLater(choice) => {
+            let plans = later_plans(alloc, space, choice, request.most)?;
             list_of(alloc, plans, request.count)
         }
         Engine::Unordered(choice) => {

@@ -20,10 +20,10 @@ const SETS: [Sets; 2] = [Sets::States { calls: u64::MAX }, Sets::Diagrams];
 /// The costs of a switch that is turned on, and off and on again.
 const ODD: [u64; 10] = [1, 3, 5, 7, 9, 11, 13, 15, 17, 19];
 
-/// Ten plans over the sets, by the choice.
-fn ten(choice: Choice, sets: Sets, most: Option<u64>, handed: bool) -> Request {
+/// Ten plans over the sets, by the engine.
+fn ten(engine: Engine, sets: Sets, most: Option<u64>, handed: bool) -> Request {
     Request {
-        engine: Engine::Top(choice),
+        engine,
         sets,
         most,
         handed,
@@ -42,7 +42,11 @@ fn all_list(
     ending: Ending,
 ) -> Result<bool, Memory> {
     for choice in CHOICES {
-        if !lists(alloc, task, ten(choice, sets, most, handed), costs, ending)? {
+        let request = ten(Engine::Top(choice), sets, most, handed);
+        let later = ten(Engine::TopLater(choice), sets, most, true);
+        if !lists(alloc, task, request, costs, ending)?
+            || !lists(alloc, task, later, costs, ending)?
+        {
             return Ok(false);
         }
     }

@@ -16,12 +16,21 @@ use space_api::Space;
 use std::alloc::Global;
 use symk_task::Memory;
 
+/// When the backward side is kept to the set that is handed over: from the first step on, or once the search for a cost
+/// takes long.
+#[derive(Clone, Copy)]
+enum When {
+    AtFirst,
+    OnceLong,
+}
+
 /// The search from both ends, the backward side kept to the set that is handed over, if one is.
 fn both_of<S: Space, P: Choose + Drop>(
     alloc: Global,
     space: &mut S,
     choose: P,
     within: Option<S::Set>,
+    when: When,
 ) -> Result<Both<S::Set, P>, Memory>
     requires { IsReadyFor (S.view space.old) within }
     ensures both { IfOk result (IsBoth (S.view space.new)) }
@@ -29,7 +38,10 @@ fn both_of<S: Space, P: Choose + Drop>(
 {
     match within {
         None => Both::new(alloc, space, choose),
-        Some(set) => Both::new_within(alloc, space, choose, set),
+        Some(set) => match when {
+            When::AtFirst => Both::new_within(alloc, space, choose, set),
+            When::OnceLong => Both::new_later(alloc, space, choose, set),
+        },
     }
 }
 
@@ -40,12 +52,13 @@ fn begin<S: Space + Drop, P: Choose + Drop>(
     choose: P,
     most: Option<u64>,
     within: Option<S::Set>,
+    when: When,
 ) -> Result<TopPlans<S, P>, Memory>
     requires { IsReadyFor (S.view space) within }
     ensures { IfOk result (IsNewCutEngine S.view (S.view space) most) }
 {
     let mut space = space;
-    let both = both_of(alloc, &mut space, choose, within)?;
+    let both = both_of(alloc, &mut space, choose, within, when)?;
     Ok(TopPlans {
         space,
         both,
@@ -67,7 +80,7 @@ impl<S: Space + Drop, P: Choose + Drop> TopPlans<S, P> {
         requires { IsReadyFor (S.view space) None }
         ensures { IfOk result (IsNewCutEngine S.view (S.view space) None) }
     {
-        begin(alloc, space, choose, None, None)
+        begin(alloc, space, choose, None, None, When::AtFirst)
     }
 
     /// The same, where no plan that costs more than `most` is wanted. Such plans pend for ever, and it ends without
@@ -76,7 +89,7 @@ impl<S: Space + Drop, P: Choose + Drop> TopPlans<S, P> {
         requires { IsReadyFor (S.view space) None }
         ensures { IfOk result (IsNewCutEngine S.view (S.view space) (Some most)) }
     {
-        begin(alloc, space, choose, Some(most), None)
+        begin(alloc, space, choose, Some(most), None, When::AtFirst)
     }
 
     /// As `new`, with a set that has every useful state, to which the backward side is kept.
@@ -91,7 +104,7 @@ impl<S: Space + Drop, P: Choose + Drop> TopPlans<S, P> {
         requires { IsReadyFor (S.view space) (Some within) }
         ensures { IfOk result (IsNewCutEngine S.view (S.view space) None) }
     {
-        begin(alloc, space, choose, None, Some(within))
+        begin(alloc, space, choose, None, Some(within), When::AtFirst)
     }
 
     /// As `within`, with a set that has every useful state, to which the backward side is kept.
@@ -107,6 +120,30 @@ impl<S: Space + Drop, P: Choose + Drop> TopPlans<S, P> {
         requires { IsReadyFor (S.view space) (Some within) }
         ensures { IfOk result (IsNewCutEngine S.view (S.view space) (Some most)) }
     {
-        begin(alloc, space, choose, Some(most), Some(within))
+        begin(
+            alloc,
+            space,
+            choose,
+            Some(most),
+            Some(within),
+            When::AtFirst,
+        )
+    }
+
+    /// As `new` or `within`, with a set that has every useful state, to which the backward side is kept once the search
+    /// for a cost takes long: both sides begin again then.
+    ///
+    /// The caller knows that no other set of the space is valid. It is the engine's from then on.
+    pub fn within_later(
+        alloc: Global,
+        space: S,
+        choose: P,
+        most: Option<u64>,
+        within: S::Set,
+    ) -> Result<TopPlans<S, P>, Memory>
+        requires { IsReadyFor (S.view space) (Some within) }
+        ensures { IfOk result (IsNewCutEngine S.view (S.view space) most) }
+    {
+        begin(alloc, space, choose, most, Some(within), When::OnceLong)
     }
 }

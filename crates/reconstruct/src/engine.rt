@@ -10,7 +10,7 @@ use space_api::Space;
 pub struct TopPlans<S: Space, P: Choose> {
     pub(crate) space: S,
     pub(crate) both: Both<S::Set, P>,
-    /// The set to which the backward side was kept at first, where one was handed over.
+    /// The set to which the backward side is kept, or will be, where one was handed over.
     pub(crate) within: Option<S::Set>,
     pub(crate) agenda: Agenda<S::Set>,
     /// What hands out the plans that were found.

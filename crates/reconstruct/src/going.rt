@@ -24,6 +24,10 @@ use space_api::{Space, SpaceFault};
 use std::alloc::Global;
 use std::collections::VecDeque;
 
+/// How much of the space's work the search for a cost may take before the backward side is kept to the set for later.
+/// A short search ends without it, and a long one loses some hundredths of a second.
+const TRIED: u64 = 1 << 15;
+
 /// The cost that is listed.
 fn cost_of(listed: &Option<Place>) -> Option<u64>
     ensures { result ≡ place_cost listed.now }
@@ -34,8 +38,8 @@ fn cost_of(listed: &Option<Place>) -> Option<u64>
     }
 }
 
-/// The next cost at which a plan exists that is wanted.
-fn next_cost<S: Space, P: Choose>(
+/// The next cost at which a plan exists that is wanted, by sides that go on.
+fn advance_up_to<S: Space, P: Choose>(
     alloc: Global,
     space: &mut S,
     both: &mut Both<S::Set, P>,
@@ -55,6 +59,26 @@ fn next_cost<S: Space, P: Choose>(
             Within::Past => Ok(Next::Never),
         },
     }
+}
+
+/// The next cost at which a plan exists that is wanted. Where it takes long and a set was kept for that, both sides
+/// begin again first.
+fn next_cost<S: Space, P: Choose>(
+    alloc: Global,
+    space: &mut S,
+    both: &mut Both<S::Set, P>,
+    above: Option<u64>,
+    most: Option<u64>,
+) -> Result<Next, SpaceFault>
+    requires { IsBoth (S.view space.old) both.old }
+    ensures both { IsBoth (S.view space.new) both.new }
+    ensures trades { Trades (S.view space.old) (S.view space.new) (IsOwnOf both.old) (IsOwnOf both.new) }
+    ensures ok { IfOk result (AdvancesCost (S.view space.old).system above most (front_layers both.new)
+        (back_layers both.new)) }
+{
+    let end = most.unwrap_or(u64::MAX);
+    both.restart_if_long(alloc, space, above, end, TRIED)?;
+    advance_up_to(alloc, space, both, above, most)
 }
 
 /// Goes on to the next cost at which a plan exists, and draws its first cut into the queue.

@@ -70,6 +70,9 @@ pub(crate) fn top_plans<S: Space + Drop>(
             None => TopPlans::new(alloc, space, choose),
             Some(most) => TopPlans::within(alloc, space, choose, most),
         },
+        Some(kept) if search.direction == Direction::Bidirectional => {
+            TopPlans::within_later(alloc, space, choose, limit, kept)
+        }
         Some(kept) => match limit {
             None => TopPlans::new_within(alloc, space, choose, kept),
             Some(most) => TopPlans::within_most(alloc, space, choose, most, kept),

@@ -2,8 +2,8 @@
 # How fast the operations on decision diagrams are beside BuDDy: the works of crates/bdd_bench and of bench/diagrams.cpp, which
 # do the same on the same levels. Both are built first (BuDDy is Debian's libbdd-dev, installed where it isn't there), then run in
 # turn, fifteen times each (`bash bench/diagrams.sh TIMES CACHE` for other numbers of turns and of results in the cache than 15 and
-# 16,384, which gives each sort of calls up to 65,536 places, as many as a cache of BuDDy's has here); a run whose counts differ from
-# the other side's ends the script. The time is that of the processor, so that other work on
+# 65,536, the planner's own, which gives each sort of calls up to 65,536 places, as many as a cache of BuDDy's has here); a run whose
+# counts differ from the other side's ends the script. The time is that of the processor, so that other work on
 # the machine is not counted, less that of a work of one step. BuDDy collects its table when it is full; the works of the other side
 # that go in rounds collect theirs after a round that left it as large. Each line has the medians in milliseconds, the least and the
 # greatest ratio of a turn, and how often each side collected. The last line is `diagrams queens Q switches S sliding L gripper G`,
@@ -15,12 +15,12 @@ g++ -O3 -o "$work/buddy" "$top/bench/diagrams.cpp" -lbdd
 (cd "$top/crates/bdd_bench" && rt run -- queens 5 8192) >"$work/build.log" 2>&1 || { tail -n 20 "$work/build.log" >&2; exit 70; }
 cp "$top/crates/bdd_bench/out/bdd_bench" "$work/rattle"
 cd "$work"
-python3 - "$work" "${1:-15}" "${2:-16384}" <<'PYTHON'
+python3 - "$work" "${1:-15}" "${2:-65536}" <<'PYTHON'
 import os, resource, statistics, subprocess, sys
 
 work, times = sys.argv[1], int(sys.argv[2])
 WORKS = (("queens", 9), ("switches", 20), ("sliding", 3), ("gripper", 20))
-CACHE = sys.argv[3]  # dear results that the one side may hold, and it has four times as many places; each cache of the other has 65,536
+CACHE = sys.argv[3]  # dear results that the one side may hold, and places of a sort that it has at most; each cache of the other has 65,536
 
 
 def used():

@@ -15,7 +15,7 @@ import os, resource, statistics, subprocess, sys
 
 work, times = sys.argv[1], int(sys.argv[2])
 WORKS = (("queens", (6, 7, 8, 9, 10)), ("switches", (12, 16, 20, 24, 28)), ("gripper", (5, 10, 15, 20, 25)))
-SIDES = {"rattle": ["16384"], "buddy": []}  # dear results of the one side, beside 65,536 places at most; each cache of the other has 65,536
+SIDES = {"rattle": ["65536"], "buddy": []}  # dear results of the one side, and places of a sort at most; each cache of the other has 65,536
 
 
 def run(side, kind, size):
